@@ -1,0 +1,26 @@
+//! What every layer of `vhost` shares: the outside as two traits, and plain types.
+//!
+//! The one contract used above: [`Files`] and [`Sink`] say what a read and a write
+//! do to what the source holds, to what the sink was told, and to their counts of
+//! faults. [`MemoryFiles`] and [`MemorySink`] are the two kept in memory, exact, with
+//! failing calls by number; the adapters over the real file system and standard
+//! output stand with the program. Stands on std alone.
+#![tactic(auto)]
+
+mod faults;
+mod first;
+mod memory_files;
+mod memory_sink;
+mod outside;
+mod place;
+mod sequence;
+mod short;
+
+pub use faults::{AppFault, Cause, DesignFault, Fault, NoMemory};
+pub use first::{First, FirstBit, FirstBlocks, FirstCode, FirstNames};
+pub use memory_files::MemoryFiles;
+pub use memory_sink::MemorySink;
+pub use outside::{FetchFault, Files, Sink, SinkFault};
+pub use place::Place;
+pub use sequence::{Bytes, Sequence};
+pub use short::Short;
