@@ -1,3 +1,4 @@
+pub mod First
 pub mod Outside
 pub mod Memory
 pub mod Held

@@ -1,0 +1,6 @@
+pub mod Entry
+pub mod Events
+pub mod State
+pub mod Step
+pub mod Line
+pub mod Shown

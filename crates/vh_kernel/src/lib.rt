@@ -1,0 +1,19 @@
+//! The machine: processes, the event queue and control, one label at a time
+//! (IEEE 1364-2005, clause 11).
+//!
+//! The one contract used above: [`Kernel::step`] makes one step of the machine from the
+//! state that the kernel shows to the next, by the k-th of [`Kernel::choices`], and
+//! [`line_of`] is the label's line in the transcript. Stands on vh_base alone.
+#![tactic(auto)]
+
+mod control;
+mod events;
+mod kernel;
+mod label;
+mod line;
+mod phase;
+mod thread;
+
+pub use kernel::Kernel;
+pub use label::{Ending, Label, Region};
+pub use line::line_of;
