@@ -42,14 +42,14 @@ size-token : {T A : Type 0} (meaning : T → Option A) (ts : List T) → Sized 1
 size-token meaning [] = omega arith
 size-token meaning (t ∷ ts) = size-taken (meaning t) t ts
 
-size-many : {T A : Type 0} (item : List T → Out T A) (class : T → Bool) (n : ℕ) (ts : List T) → ((m : List T) → Sized 0 m (item m)) → Sized 0 ts (many item class n ts)
+pub size-many : {T A : Type 0} (item : List T → Out T A) (class : T → Bool) (n : ℕ) (ts : List T) → ((m : List T) → Sized 0 m (item m)) → Sized 0 ts (many item class n ts)
 size-many item class zero ts h = omega arith
 size-many {T} {A} item class (suc n) ts h =
     size-cond 0 ts (next_is class ts) (then_ (item ts) (λ a mid. then_ (many item class n mid) (λ more rest. got (a ∷ more) rest))) (got [] ts)
     (size-then 0 0 0 ts (item ts) _ (h ts) (λ a mid. size-then 0 0 0 mid (many item class n mid) _ (size-many item class n mid h) (λ more rest. omega arith) (omega arith)) (omega arith))
     (omega arith)
 
-size-turns : {T S : Type 0} (turn : S → List T → Out T S) (class : S → T → Bool) (n : ℕ) (s : S) (ts : List T) → ((u : S) (m : List T) → Sized 0 m (turn u m)) → Sized 0 ts (turns turn class n s ts)
+pub size-turns : {T S : Type 0} (turn : S → List T → Out T S) (class : S → T → Bool) (n : ℕ) (s : S) (ts : List T) → ((u : S) (m : List T) → Sized 0 m (turn u m)) → Sized 0 ts (turns turn class n s ts)
 size-turns turn class zero s ts h = omega arith
 size-turns turn class (suc n) s ts h =
     size-cond 0 ts (next_is (class s) ts) (then_ (turn s ts) (turns turn class n)) (got s ts)
