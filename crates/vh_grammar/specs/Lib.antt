@@ -1,0 +1,4 @@
+pub mod Part
+pub mod Reading
+pub mod Sentences
+pub mod Conditions

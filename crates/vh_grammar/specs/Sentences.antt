@@ -1,0 +1,98 @@
+-- What reading means, with no word of how it is done: which tokens a part spells, with which tokens it
+-- begins, and where it meets a fault. Each is by cases on parts.
+use Rattle.std.specs.Prelude.{◌≡◌, ℕ, zero, suc, Bool, true, false, Option, Some, None, List, [], ◌∷◌, length, ◌⊎◌}
+use Rattle.vh_grammar.specs.Part.{Part, done, tok, seq, bind, act, alt, rep, iter, nested, unless, barred}
+use Rattle.vh_grammar.specs.Reading.{Fault, lost, deep, left_out, next_is}
+
+-- the tokens from `ts` up to `rest` are items, one for each tree of the list, each begun by a token of
+-- the class, and no such token is next after the last (own)
+abbrev pub Repeats : {T A : Type 0} → (A → List T → List T → Type 0) → (T → Bool) → List A → List T → List T → Type 0
+Repeats Item class [] ts rest = (rest ≡ ts) × (next_is class ts ≡ false)
+Repeats {T} Item class (a ∷ more) ts rest =
+    (next_is class ts ≡ true) × ((mid : List T) × Item a ts mid × Repeats Item class more mid rest)
+
+-- after `n` turns, each begun by a token of the class, this holds of the state and of the tokens left (own)
+abbrev pub AfterTurns : {T S : Type 0} → (S → S → List T → List T → Type 0) → (S → T → Bool) → (S → List T → Type 0) → ℕ → S → List T → Type 0
+AfterTurns Turn class End zero s ts = End s ts
+AfterTurns {T} {S} Turn class End (suc n) s ts =
+    (next_is (class s) ts ≡ true) × ((u : S) × (mid : List T) × Turn s u ts mid × AfterTurns Turn class End n u mid)
+
+-- the first token is none of the class (own)
+abbrev pub NoToken : {T A : Type 0} → (T → Option A) → List T → Type 0
+NoToken meaning [] = Unit {0}
+NoToken meaning (t ∷ ts) = meaning t ≡ None
+
+module _ {T P : Type 0} {V : P → Type 0} (Nested : (p : P) → V p → List T → List T → Type 0) where
+  -- the tokens from `ts` up to `rest` are spelled by the part with this tree. What may be absent is so
+  -- only where no token of its class is next: the longest reading (own)
+  abbrev pub Reads : {A : Type 0} → Part T V A → A → List T → List T → Type 0
+  Reads (done b) a ts rest = (a ≡ b) × (rest ≡ ts)
+  Reads (tok meaning) a ts rest = (t : T) × (ts ≡ t ∷ rest) × (meaning t ≡ Some a)
+  Reads (seq p q) a ts rest = (mid : List T) × Reads p a.0 ts mid × Reads q a.1 mid rest
+  Reads (bind {A} p q) b ts rest = (a : A) × (mid : List T) × Reads p a ts mid × Reads (q a) b mid rest
+  Reads (act {A} f p) b ts rest = (a : A) × (b ≡ f a) × Reads p a ts rest
+  Reads (alt class p q) a ts rest = ((next_is class ts ≡ true) × Reads p a ts rest) ⊎ ((next_is class ts ≡ false) × Reads q a ts rest)
+  Reads (rep class p) list ts rest = Repeats (Reads p) class list ts rest
+  Reads (iter class part s) a ts rest =
+      (n : ℕ) × AfterTurns (λ u v m r. Reads (part u) v m r) class (λ u m. (a ≡ u) × (rest ≡ m) × (next_is (class u) m ≡ false)) n s ts
+  Reads (nested p) a ts rest = Nested p a ts rest
+  Reads (unless class p) a ts rest = (next_is class ts ≡ false) × Reads p a ts rest
+  Reads (barred class p) a ts rest = Reads p a ts rest × (next_is (class a) rest ≡ false)
+
+  module _ (NestedBegins : (p : P) → List T → Type 0) where
+    -- the tokens begin the part: none at all; or a token alone; of a sequence what begins its first
+    -- part, or a whole first part and what begins the rest; of a choice what begins the branch; of a
+    -- repetition whole turns and what begins one more (own)
+    abbrev pub Begins : {A : Type 0} → Part T V A → List T → Type 0
+    Begins (done a) ts = ts ≡ []
+    Begins (tok {A} meaning) ts = (ts ≡ []) ⊎ ((t : T) × (a : A) × (ts ≡ t ∷ []) × (meaning t ≡ Some a))
+    Begins (seq {A} p q) ts = Begins p ts ⊎ ((a : A) × (mid : List T) × Reads p a ts mid × Begins q mid)
+    Begins (bind {A} p q) ts = Begins p ts ⊎ ((a : A) × (mid : List T) × Reads p a ts mid × Begins (q a) mid)
+    Begins (act f p) ts = Begins p ts
+    Begins (alt class p q) ts = ((next_is class ts ≡ true) × Begins p ts) ⊎ ((next_is class ts ≡ false) × Begins q ts)
+    Begins (rep {A} class p) ts =
+        (n : ℕ) × AfterTurns (λ _ _ m r. (a : A) × Reads p a m r) (λ _. class) (λ _ m. (m ≡ []) ⊎ ((next_is class m ≡ true) × Begins p m)) n (tt {0}) ts
+    Begins (iter class part s) ts =
+        (n : ℕ) × AfterTurns (λ u v m r. Reads (part u) v m r) class (λ u m. (m ≡ []) ⊎ ((next_is (class u) m ≡ true) × Begins (part u) m)) n s ts
+    Begins (nested p) ts = NestedBegins p ts
+    Begins (unless class p) ts = (next_is class ts ≡ false) × Begins p ts
+    Begins (barred class p) ts = Begins p ts
+
+  module _ (NestedMeets : (p : P) → Fault → List T → ℕ → Type 0) where
+    -- going on from `ts` as the part does meets this fault, with so many tokens left at its place (own)
+    abbrev pub Meets : {A : Type 0} → Part T V A → Fault → List T → ℕ → Type 0
+    Meets (done a) fault ts left = ⊥
+    Meets (tok meaning) fault ts left = (fault ≡ lost) × (left ≡ length ts) × NoToken meaning ts
+    Meets (seq {A} p q) fault ts left = Meets p fault ts left ⊎ ((a : A) × (mid : List T) × Reads p a ts mid × Meets q fault mid left)
+    Meets (bind {A} p q) fault ts left = Meets p fault ts left ⊎ ((a : A) × (mid : List T) × Reads p a ts mid × Meets (q a) fault mid left)
+    Meets (act f p) fault ts left = Meets p fault ts left
+    Meets (alt class p q) fault ts left =
+        ((next_is class ts ≡ true) × Meets p fault ts left) ⊎ ((next_is class ts ≡ false) × Meets q fault ts left)
+    Meets (rep {A} class p) fault ts left =
+        (n : ℕ) × AfterTurns (λ _ _ m r. (a : A) × Reads p a m r) (λ _. class) (λ _ m. (next_is class m ≡ true) × Meets p fault m left) n (tt {0}) ts
+    Meets (iter class part s) fault ts left =
+        (n : ℕ) × AfterTurns (λ u v m r. Reads (part u) v m r) class (λ u m. (next_is (class u) m ≡ true) × Meets (part u) fault m left) n s ts
+    Meets (nested p) fault ts left = NestedMeets p fault ts left
+    Meets (unless class p) fault ts left =
+        ((next_is class ts ≡ true) × (fault ≡ left_out) × (left ≡ length ts)) ⊎ ((next_is class ts ≡ false) × Meets p fault ts left)
+    Meets (barred {A} class p) fault ts left =
+        Meets p fault ts left ⊎ ((a : A) × (rest : List T) × Reads p a ts rest × (next_is (class a) rest ≡ true) × (fault ≡ left_out) × (left ≡ length ts))
+
+-- where no level is left, the end of the tokens is a missing token, and each token is too deep (own)
+abbrev pub MeetsPast : {T : Type 0} → Fault → List T → ℕ → Type 0
+MeetsPast fault [] left = (fault ≡ lost) × (left ≡ 0)
+MeetsPast fault (t ∷ ts) left = (fault ≡ deep) × (left ≡ suc (length ts))
+
+module _ {T P : Type 0} {V : P → Type 0} (grammar : (p : P) → Part T V (V p)) where
+  -- the same of a production, with so many levels left (own)
+  abbrev pub ReadsAt : ℕ → (p : P) → V p → List T → List T → Type 0
+  ReadsAt zero p a ts rest = ⊥
+  ReadsAt (suc levels) p a ts rest = Reads (ReadsAt levels) (grammar p) a ts rest
+
+  abbrev pub BeginsAt : ℕ → (p : P) → List T → Type 0
+  BeginsAt zero p ts = ts ≡ []
+  BeginsAt (suc levels) p ts = Begins (ReadsAt levels) (BeginsAt levels) (grammar p) ts
+
+  abbrev pub MeetsAt : ℕ → (p : P) → Fault → List T → ℕ → Type 0
+  MeetsAt zero p fault ts left = MeetsPast fault ts left
+  MeetsAt (suc levels) p fault ts left = Meets (ReadsAt levels) (MeetsAt levels) (grammar p) fault ts left

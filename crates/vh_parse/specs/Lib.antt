@@ -1,0 +1,5 @@
+pub mod Token
+pub mod Spelling
+pub mod Tree
+pub mod Grammar
+pub mod Meaning

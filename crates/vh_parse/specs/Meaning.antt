@@ -1,0 +1,59 @@
+-- What the first texts mean: the registers by number, and the code of each initial construct.
+use Rattle.std.specs.Prelude.{ℕ, Bool, true, not, ◌&&◌, cond, List, [], ◌∷◌, Option, Some, None, bytes_eq, position, flat_map}
+use Rattle.std.specs.List.{list_any}
+use Rattle.std.specs.Option.{option_map, option_and_then}
+use Rattle.vh_base.specs.declared.first.First.{First}
+use Rattle.vh_base.specs.declared.first.FirstCode.{FirstCode}
+use Rattle.vh_base.specs.declared.first.FirstCode.TheVariants.{Wait, Assign, Show, Finish}
+use Rattle.vh_grammar.specs.Reading.{Out, got, stop}
+use Rattle.vh_parse.specs.Token.{Token}
+use Rattle.vh_parse.specs.Spelling.{tokens_of}
+use Rattle.vh_parse.specs.Tree.{Step, wait, assign, show, finish, Item, registers, initial, Module}
+use Rattle.vh_parse.specs.Grammar.{module_of}
+
+-- the names that an item declares (IEEE 1364-2005, 4.2.2)
+abbrev pub names_in : Item → List (List ℕ)
+names_in (registers names) = names
+names_in (initial steps) = []
+
+-- what an initial construct does (IEEE 1364-2005, 9.9.1)
+abbrev pub blocks_in : Item → List (List Step)
+blocks_in (registers names) = []
+blocks_in (initial steps) = steps ∷ []
+
+-- no name is declared twice in one scope (IEEE 1364-2005, 12.8)
+abbrev pub all_differ : List (List ℕ) → Bool
+all_differ [] = true
+all_differ (name ∷ names) = not (list_any (bytes_eq name) names) && all_differ names
+
+-- what the function makes of each, if it makes something of each
+abbrev pub each : {A B : Type 0} → (A → Option B) → List A → Option (List B)
+each f [] = Some []
+each f (x ∷ xs) = option_and_then (λ y. option_map (λ ys. y ∷ ys) (each f xs)) (f x)
+
+-- a step, its register by the place of its name from 0 on; a name that is not declared has none, and
+-- it may be declared later in the text (own)
+abbrev pub code_of : List (List ℕ) → Step → Option FirstCode
+code_of names (wait delay) = Some (Wait delay)
+code_of names (assign target bit) = option_map (λ reg. Assign reg bit) (position (bytes_eq target) names)
+code_of names (show bytes) = Some (Show bytes)
+code_of names finish = Some Finish
+
+-- the design with these names, if the module's name is none of them, no two are the same, and each
+-- assigned name is one of them (own)
+abbrev pub design_with : List ℕ → List (List ℕ) → List (List Step) → Option First
+design_with name names blocks =
+    cond (all_differ (name ∷ names)) (option_map (λ code. record { name = name; regs = names; blocks = code }) (each (each (code_of names)) blocks)) None
+
+-- the design that a module means
+abbrev pub design_of : Module → Option First
+design_of m = design_with m.name (flat_map names_in m.items) (flat_map blocks_in m.items)
+
+-- the tree, if there is one
+abbrev pub tree_of : Out Token Module → Option Module
+tree_of (got m rest) = Some m
+tree_of (stop fault left) = None
+
+-- The design that the bytes mean, if they are a text of the first subset (own; IEEE 1364-2005, Annex A).
+abbrev pub first_of : List ℕ → Option First
+first_of bytes = option_and_then (λ tokens. option_and_then design_of (tree_of (module_of tokens))) (tokens_of bytes)

@@ -1,0 +1,15 @@
+ghost use Rattle.std.specs.Prelude.{◌≡◌, Some, None, IfOk};
+ghost use Rattle.vh_parse.specs.Meaning.{first_of};
+
+use crate::fault::FirstFault;
+use std::alloc::Global;
+use vh_base::First;
+
+/// The design that the bytes spell, in time that grows with their number. Want of memory
+/// may be answered for any bytes.
+pub fn parse_first(alloc: Global, bytes: &[u8]) -> Result<First, FirstFault>
+    ensures built { IfOk result (λ design. first_of bytes.now ≡ Some design) }
+    ensures not_built { result ≡ Err FirstFault.NotBuilt → first_of bytes.now ≡ None }
+{
+    Err(FirstFault::NoMemory)
+}

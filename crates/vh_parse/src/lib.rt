@@ -1,0 +1,13 @@
+//! The first texts of `vhost`: which bytes are a design of the first subset, and what they mean.
+//!
+//! The one contract used above: [`parse_first`] answers exactly what `first_of` of
+//! specs/Meaning.antt says of the bytes, where memory does not run out. It stands on
+//! vh_base, whose [`First`](vh_base::First) it makes, and on vh_grammar, in whose parts
+//! the grammar is written.
+#![tactic(auto)]
+
+mod fault;
+mod first;
+
+pub use fault::FirstFault;
+pub use first::parse_first;
