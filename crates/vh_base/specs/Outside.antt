@@ -15,3 +15,7 @@ IsAnswered (Some whole) limit bytes = bytes ≡ take (limit + 1) whole
 abbrev pub appended : Option (List ℕ) → List ℕ → Option (List ℕ)
 appended None bytes = None
 appended (Some old) bytes = Some (old ++ bytes)
+
+-- Some front of a piece was written.
+abbrev pub AppendsFront : Option (List ℕ) → Option (List ℕ) → List ℕ → Type 0
+AppendsFront old new piece = (part : ℕ) × (new ≡ appended old (take part piece))

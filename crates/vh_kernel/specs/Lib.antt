@@ -4,3 +4,4 @@ pub mod State
 pub mod Step
 pub mod Line
 pub mod Shown
+pub mod Run

@@ -1,4 +1,4 @@
-ghost use Rattle.std.specs.Prelude.{◌≡◌, ◌<◌, ◌+◌, ℕ, List, [], ◌∷◌, ◌++◌, Some, None, option_copied, slice_get, drop, map, IfOk, OnOk, IsTrue};
+ghost use Rattle.std.specs.Prelude.{◌≡◌, false, ◌<◌, ◌+◌, ℕ, List, [], ◌∷◌, ◌++◌, Some, None, option_copied, slice_get, drop, map, IfOk, OnOk, IsTrue};
 ghost use Rattle.vh_kernel.specs.Events.{eligible, next_region, least_time};
 
 use crate::control::{Control, Stack};
@@ -58,12 +58,14 @@ impl Kernel {
     ghost use Rattle.vh_base.specs.First.{are_declared};
     ghost use Rattle.vh_kernel.specs.State.{opening};
     ghost use Rattle.vh_kernel.specs.Shown.{state_of};
+    ghost use Rattle.vh_kernel.specs.Run.{is_end};
     ghost use Rattle.vh_kernel.specs.Step.{Move, ended, failed, finished, next_of, went_on, popped, delayed, showed, performed, later, quiet, picked, is_crowded, by_room, room_choices, step_of, choices_of};
 
     /// The machine at the opening of a design.
     pub fn new(alloc: Global, first: First) -> Result<Kernel, NoMemory>
         requires { IsTrue (are_declared first) }
-        ensures { IfOk result (λ k. state_of k ≡ opening first) }
+        ensures opens { IfOk result (λ k. state_of k ≡ opening first) }
+        ensures goes { IfOk result (λ k. 0 < choices_of (state_of k)) }
     {
         let store = unknown_values(alloc, first.regs.as_slice())?;
         let blocks = first.blocks.into_vec();
@@ -112,6 +114,13 @@ impl Kernel {
     /// of memory the kernel isn't used again.
     pub fn step(&mut self, alloc: Global, k: u32) -> Result<Label, NoMemory>
         requires { k < choices_of (state_of self.old) }
+        ensures step { IfOk result (λ l. step_of (state_of self.old) k ≡ (l, state_of self.new)) }
+        ensures goes { IfOk result (λ l. is_end l ≡ false → 0 < choices_of (state_of self.new)) }
+    {
+        self.make_step(alloc, k)
+    }
+
+    fn make_step(&mut self, alloc: Global, k: u32) -> Result<Label, NoMemory>
         ensures { IfOk result (λ l. step_of (state_of self.old) k ≡ (l, state_of self.new)) }
     {
         match self.phase {

@@ -1,4 +1,5 @@
-ghost use Rattle.std.specs.Prelude.{◌≡◌, Some, None, IfOk};
+ghost use Rattle.std.specs.Prelude.{◌≡◌, Some, None, IfOk, IsTrue};
+ghost use Rattle.vh_base.specs.First.{are_declared};
 ghost use Rattle.vh_parse.specs.Meaning.{first_of};
 
 use crate::fault::FirstFault;
@@ -9,6 +10,7 @@ use vh_base::First;
 /// may be answered for any bytes.
 pub fn parse_first(alloc: Global, bytes: &[u8]) -> Result<First, FirstFault>
     ensures built { IfOk result (λ design. first_of bytes.now ≡ Some design) }
+    ensures declared { IfOk result (λ design. IsTrue (are_declared design)) }
     ensures not_built { result ≡ Err FirstFault.NotBuilt → first_of bytes.now ≡ None }
 {
     Err(FirstFault::NoMemory)

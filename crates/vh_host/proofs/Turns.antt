@@ -1,0 +1,134 @@
+-- From turns to runs: a run that hasn't ended goes on by one label.
+use Rattle.std.proofs.Common.{◌≡◌, ◌≢◌, ℕ, ◌+◌, ◌<◌, ◌≤◌, List, [], ◌∷◌, ◌++◌, length, take, Bool, true, false, not, ◌&&◌, Option, Some, None, refl, ap, sym, subst, ◌∙◌, append_assoc, append-nil, arith, length-append}
+use Rattle.std.specs.List.{flat_map, list_all}
+use Rattle.std.proofs.Math.Seq.{take-append-add}
+use Rattle.vh_base.specs.Outside.{appended, AppendsFront}
+use Rattle.vh_kernel.specs.declared.label.Ending.{Ending}
+use Rattle.vh_kernel.specs.declared.label.Ending.TheVariants as ending
+use Rattle.vh_kernel.specs.declared.label.Label.{Label}
+use Rattle.vh_kernel.specs.declared.label.Label.TheVariants as label
+use Rattle.vh_kernel.specs.State.{State}
+use Rattle.vh_kernel.specs.Step.{Move}
+use Rattle.vh_kernel.specs.Run.{fifo, move_from, IsRun, is_end, line_of_move, text_of}
+use Rattle.vh_host.specs.declared.status.Status.{Status}
+use Rattle.vh_host.specs.declared.status.Status.TheVariants as status
+use Rattle.vh_host.specs.Turn.{Turned, TurnsTo}
+use Rattle.vh_host.specs.Transcript.{none_ends, WroteEnded, WroteFront, WroteBudget, Wrote}
+use Rattle.vh_host.proofs.Appended.{appended_twice, appended_nothing}
+
+-- From a state the machine makes these labels, none of them an end, and comes to another state.
+abbrev pub Goes : State → List Move → State → Type 0
+Goes s [] t = s ≡ t
+Goes s (m ∷ moves) t = (move_from fifo s ≡ m) × (is_end m.0 ≡ false) × Goes m.1 moves t
+
+-- It goes on by one label more.
+pub goes_more : (s t u : State) (l : Label) (moves : List Move)
+    → Goes s moves t → move_from fifo t ≡ (l, u) → is_end l ≡ false → Goes s (moves ++ (l, u) ∷ []) u
+goes_more s t u l [] g m open_yet = (ap (λ (z : State). move_from fifo z) g ∙ m, open_yet, refl)
+goes_more s t u l (n ∷ moves) g m open_yet = (g.0, g.1, goes_more n.1 t u l moves g.2 m open_yet)
+
+-- What hasn't ended is a run.
+pub goes_run : (s t : State) (moves : List Move) → Goes s moves t → IsRun fifo s moves
+goes_run s t [] g = tt
+goes_run s t (n ∷ moves) g = (g.0, (λ e. cc (g.1)), goes_run n.1 t moves g.2)
+
+-- With any one label more it is a run.
+pub goes_last : (s t : State) (m : Move) (moves : List Move)
+    → Goes s moves t → move_from fifo t ≡ m → IsRun fifo s (moves ++ m ∷ [])
+goes_last s t m [] g e = (ap (λ (z : State). move_from fifo z) g ∙ e, (λ _. refl), tt)
+goes_last s t m (n ∷ moves) g e = (g.0, (λ h. cc (g.1)), goes_last n.1 t m moves g.2 e)
+
+-- None of its labels is an end.
+pub goes_none : (s t : State) (moves : List Move) → Goes s moves t → none_ends moves ≡ true
+goes_none s t [] g = refl
+goes_none s t (n ∷ moves) g = rw (g.1) (goes_none n.1 t moves g.2)
+
+-- The text with one label more.
+pub text_more : (moves : List Move) (m : Move) → text_of (moves ++ m ∷ []) ≡ text_of moves ++ line_of_move m
+text_more [] m = append-nil (line_of_move m)
+text_more (n ∷ moves) m = ap (λ (w : List ℕ). line_of_move n ++ w) (text_more moves m) ∙ sym (append_assoc (line_of_move n) (text_of moves) (line_of_move m))
+
+-- What a run has come to: its labels so far, the state, and what was written since it began.
+pub record SoFar (s t : State) (count : ℕ) (old new : Option (List ℕ)) : Type 0 where
+  pub moves : List Move
+  pub goes : Goes s moves t
+  pub counted : length moves ≡ count
+  pub told : new ≡ appended old (text_of moves)
+
+-- What was written once a line more was.
+told_more : (mid old new : Option (List ℕ)) (moves : List Move) (m : Move)
+    → mid ≡ appended old (text_of moves) → new ≡ appended mid (line_of_move m) → new ≡ appended old (text_of (moves ++ m ∷ []))
+told_more mid old new moves m before more =
+    more ∙ ap (λ (w : Option (List ℕ)). appended w (line_of_move m)) before ∙ appended_twice old (text_of moves) (line_of_move m)
+    ∙ ap (λ (w : List ℕ). appended old w) (sym (text_more moves m))
+
+-- At first nothing was made.
+pub so_far_none : (s : State) (w : Option (List ℕ)) → SoFar s s 0 w w
+so_far_none s w = record { moves = []; goes = refl; counted = refl; told = sym (appended_nothing w) }
+
+-- A turn that goes on adds its label.
+pub so_far_more : (s t u : State) (n : ℕ) (old mid new : Option (List ℕ))
+    → SoFar s t n old mid → Turned None t u mid new → SoFar s u (n + 1) old new
+so_far_more s t u n old mid new f turn = record {
+  moves = f.moves ++ (turn.0, u) ∷ [];
+  goes = goes_more s t u turn.0 f.moves f.goes turn.1.0 turn.2;
+  counted = length-append f.moves ((turn.0, u) ∷ []) ∙ ap (λ (k : ℕ). k + 1) f.counted;
+  told = told_more mid old new f.moves (turn.0, u) f.told turn.1.1;
+}
+
+-- What a whole run wrote, by its status.
+abbrev pub WroteFrom : ℕ → State → Status → Option (List ℕ) → Option (List ℕ) → Type 0
+WroteFrom budget s st old new = (written : List ℕ) × (new ≡ appended old written) × Wrote fifo budget s st written
+
+-- A turn with the end ends it.
+ends_with : (s t u : State) (n budget : ℕ) (e : Ending) (old mid new : Option (List ℕ))
+    → SoFar s t n old mid → n < budget → TurnsTo (label.End e) t u mid new
+    → (written : List ℕ) × (new ≡ appended old written) × WroteEnded fifo budget s e written
+ends_with s t u n budget e old mid new f below turn =
+    let last : Move = (label.End e, u) in (
+      text_of (f.moves ++ last ∷ []),
+      told_more mid old new f.moves last f.told turn.1,
+      (f.moves, u, goes_last s t last f.moves f.goes turn.0, (let c = f.counted in omega arith), refl),
+    )
+
+-- A turn that is cut short leaves a front of the text with its line.
+cut_short : (s t : State) (n budget : ℕ) (old mid new : Option (List ℕ))
+    → SoFar s t n old mid → n < budget → AppendsFront mid new (line_of_move (move_from fifo t))
+    → (written : List ℕ) × (new ≡ appended old written) × WroteFront fifo budget s written
+cut_short s t n budget old mid new f below cut =
+    let last : Move = move_from fifo t in (
+      text_of f.moves ++ take cut.0 (line_of_move last),
+      cut.1 ∙ ap (λ (w : Option (List ℕ)). appended w (take cut.0 (line_of_move last))) f.told ∙ appended_twice old (text_of f.moves) (take cut.0 (line_of_move last)),
+      (
+        f.moves ++ last ∷ [],
+        length (text_of f.moves) + cut.0,
+        goes_last s t last f.moves f.goes refl,
+        (let c = f.counted in omega (arith, length-append f.moves (last ∷ []))),
+        sym (ap (λ (w : List ℕ). take (length (text_of f.moves) + cut.0) w) (text_more f.moves last) ∙ take-append-add (text_of f.moves) (line_of_move last) cut.0),
+      ),
+    )
+
+-- A turn that answers a status ends the run with it.
+pub so_far_ends : (s t u : State) (n budget : ℕ) (st : Status) (old mid new : Option (List ℕ))
+    → SoFar s t n old mid → n < budget → Turned (Some st) t u mid new → WroteFrom budget s st old new
+so_far_ends s t u n budget (status.Done c) old mid new f below turn = ends_with s t u n budget (ending.Cause c) old mid new f below turn
+so_far_ends s t u n budget (status.RunFault x) old mid new f below turn = ends_with s t u n budget (ending.Fault x) old mid new f below turn
+so_far_ends s t u n budget status.WriteFault old mid new f below turn = cut_short s t n budget old mid new f below turn
+so_far_ends s t u n budget status.NoMemory old mid new f below turn = cut_short s t n budget old mid new f below turn
+so_far_ends s t u n budget status.Usage old mid new f below turn = absurd turn
+so_far_ends s t u n budget (status.ReadFault k) old mid new f below turn = absurd turn
+so_far_ends s t u n budget (status.TooLong k) old mid new f below turn = absurd turn
+so_far_ends s t u n budget (status.DesignRefused x p) old mid new f below turn = absurd turn
+so_far_ends s t u n budget (status.AppRefused k x p) old mid new f below turn = absurd turn
+so_far_ends s t u n budget status.BudgetSpent old mid new f below turn = absurd turn
+
+-- With as many labels as the budget, the budget is spent.
+pub so_far_spent : (s t : State) (n budget : ℕ) (old new : Option (List ℕ))
+    → SoFar s t n old new → n ≡ budget → WroteFrom budget s status.BudgetSpent old new
+so_far_spent s t n budget old new f all =
+    (text_of f.moves, f.told, (f.moves, goes_run s t f.moves f.goes, f.counted ∙ all, goes_none s t f.moves f.goes, refl))
+
+-- The source is read before the run, so that no turn answers its fault.
+pub turned_calm : (s t : State) (st : Status) (n : ℕ) (old new : Option (List ℕ))
+    → Turned (Some st) s t old new → st ≢ status.ReadFault n
+turned_calm s t st n old new turn = λ is. subst (λ (z : Status). Turned (Some z) s t old new) is turn

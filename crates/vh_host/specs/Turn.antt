@@ -1,0 +1,44 @@
+-- One turn of a run: a step, and its line offered to the sink.
+use Rattle.std.specs.Prelude.{◌≡◌, ◌<◌, ℕ, List, Bool, false, Option, Some, None}
+use Rattle.vh_base.specs.Outside.{appended, AppendsFront}
+use Rattle.vh_kernel.specs.declared.label.Ending.{Ending}
+use Rattle.vh_kernel.specs.declared.label.Ending.TheVariants as ending
+use Rattle.vh_kernel.specs.declared.label.Label.{Label}
+use Rattle.vh_kernel.specs.declared.label.Label.TheVariants as label
+use Rattle.vh_kernel.specs.State.{State}
+use Rattle.vh_kernel.specs.Step.{Move, choices_of}
+use Rattle.vh_kernel.specs.Run.{fifo, move_from, is_end, line_of_move}
+use Rattle.vh_host.specs.declared.status.Status.{Status}
+use Rattle.vh_host.specs.declared.status.Status.TheVariants as status
+
+-- The status that an end gives.
+abbrev pub status_of_end : Ending → Status
+status_of_end (ending.Cause c) = status.Done c
+status_of_end (ending.Fault f) = status.RunFault f
+
+-- The status with which a label ends the run, if it does.
+abbrev pub status_after : Label → Option Status
+status_after (label.Activate region) = None
+status_after (label.Advance time) = None
+status_after (label.Pick serial shown) = None
+status_after (label.Stmt process shown) = None
+status_after (label.Finish cause) = None
+status_after (label.End e) = Some (status_of_end e)
+
+-- The turn's label, and the whole of its line.
+abbrev pub TurnsTo : Label → State → State → Option (List ℕ) → Option (List ℕ) → Type 0
+TurnsTo l s t old new = (move_from fifo s ≡ (l, t)) × (new ≡ appended old (line_of_move (l, t)))
+
+-- By what a turn answers: it goes on, or the run is over, or a front of the line was written.
+abbrev pub Turned : Option Status → State → State → Option (List ℕ) → Option (List ℕ) → Type 0
+Turned None s t old new = (l : Label) × TurnsTo l s t old new × (is_end l ≡ false) × (0 < choices_of t)
+Turned (Some (status.Done c)) s t old new = TurnsTo (label.End (ending.Cause c)) s t old new
+Turned (Some (status.RunFault f)) s t old new = TurnsTo (label.End (ending.Fault f)) s t old new
+Turned (Some status.WriteFault) s t old new = AppendsFront old new (line_of_move (move_from fifo s))
+Turned (Some status.NoMemory) s t old new = AppendsFront old new (line_of_move (move_from fifo s))
+Turned (Some status.Usage) s t old new = ⊥
+Turned (Some (status.ReadFault n)) s t old new = ⊥
+Turned (Some (status.TooLong n)) s t old new = ⊥
+Turned (Some (status.DesignRefused f p)) s t old new = ⊥
+Turned (Some (status.AppRefused n f p)) s t old new = ⊥
+Turned (Some status.BudgetSpent) s t old new = ⊥

@@ -1,0 +1,18 @@
+//! The call that runs a design: words and files to the transcript's bytes.
+//!
+//! The one contract used above: [`run`] writes exactly the text of a run of the machine
+//! for accepted words and text, and its status says how the run ended, or which input was
+//! refused; [`status_line`] and [`exit_number`] are the table of statuses. Stands on
+//! vh_parse for the text's design and on vh_kernel for the machine.
+#![tactic(auto)]
+
+mod host;
+mod report;
+mod status;
+mod transcript;
+mod words;
+mod write;
+
+pub use host::run;
+pub use report::{exit_number, status_line};
+pub use status::Status;

@@ -1,0 +1,147 @@
+ghost use Rattle.std.specs.Prelude.{◌≡◌, ◌++◌, codes, string_bytes, IfOk, Some, [], unwrap_or};
+ghost use Rattle.std.specs.Option.{option_map};
+ghost use Rattle.std.specs.Fmt.{decimal};
+ghost use Rattle.vh_host.specs.Words.{texts, file_word};
+ghost use Rattle.vh_host.specs.Report.{line_of_status, exit_of, design_fault_name, app_fault_name, fault_name, name_of_file};
+
+use crate::status::Status;
+use crate::words::file_to_run;
+use std::alloc::{AllocError, Global};
+use vh_base::{AppFault, DesignFault, Fault, NoMemory, Place};
+
+/// The line that is told of a status, without a newline; it is empty for a run that came to
+/// its end. A file goes by its word among `words`, which don't hold the program's name.
+pub fn status_line(alloc: Global, words: &Vec<String>, status: &Status) -> Result<String, NoMemory>
+    ensures { IfOk result (λ line. string_bytes line ≡ line_of_status (texts words.now.items) status.now) }
+{
+    Ok(line_of(alloc, words.as_slice(), status)?)
+}
+
+fn line_of(alloc: Global, words: &[String], status: &Status) -> Result<String, AllocError>
+    ensures { IfOk result (λ line. string_bytes line ≡ line_of_status (texts words.now) status.now) }
+{
+    match status {
+        Status::Done(_) => Ok(String::new(alloc)),
+        Status::Usage => String::from_str(
+            alloc,
+            "usage: vhost run [--order fifo|lifo|seeded:N] [--budget N] FILES..",
+        ),
+        Status::ReadFault(n) => {
+            let name = file_name(words, *n);
+            format!(in alloc; "cannot read {name}")
+        }
+        Status::TooLong(n) => {
+            let name = file_name(words, *n);
+            format!(in alloc; "too long: {name}")
+        }
+        Status::DesignRefused(fault, place) => line_of_design(alloc, design_fault(fault), place),
+        Status::AppRefused(n, fault, place) => {
+            line_of_app(alloc, file_name(words, *n), app_fault(fault), place)
+        }
+        Status::RunFault(fault) => {
+            let name = run_fault(fault);
+            format!(in alloc; "run fault: {name}")
+        }
+        Status::BudgetSpent => String::from_str(alloc, "budget spent"),
+        Status::WriteFault => String::from_str(alloc, "cannot write"),
+        Status::NoMemory => String::from_str(alloc, "out of memory"),
+    }
+}
+
+// The line of a Verilog text that is refused.
+fn line_of_design(alloc: Global, fault: &str, place: &Place) -> Result<String, AllocError>
+    ensures { IfOk result (λ text. string_bytes text ≡ codes "design refused: " ++ fault.now ++ codes " at "
+        ++ decimal place.now.file ++ codes ":" ++ decimal place.now.line ++ codes ":" ++ decimal place.now.column) }
+{
+    let file = place.file;
+    let line = place.line;
+    let column = place.column;
+    format!(in alloc; "design refused: {fault} at {file}:{line}:{column}")
+}
+
+// The line of a script that is refused.
+fn line_of_app(alloc: Global, name: &str, fault: &str, place: &Place) -> Result<String, AllocError>
+    ensures { IfOk result (λ text. string_bytes text ≡ codes "application refused: " ++ name.now ++ codes ": " ++ fault.now
+        ++ codes " at " ++ decimal place.now.line ++ codes ":" ++ decimal place.now.column) }
+{
+    let line = place.line;
+    let column = place.column;
+    format!(in alloc; "application refused: {name}: {fault} at {line}:{column}")
+}
+
+// The word of the file of this number, or nothing where there is none.
+fn file_name(words: &[String], n: u32) -> &str
+    ensures { result.now ≡ name_of_file (texts words.now) n }
+{
+    match file_to_run(words) {
+        Some(file) if n == 1 => file,
+        _ => "",
+    }
+}
+
+/// The number with which the program exits on a status.
+pub fn exit_number(status: &Status) -> u8
+    ensures { result ≡ exit_of status.now }
+{
+    match status {
+        Status::Done(_) => 0,
+        Status::Usage => 1,
+        Status::DesignRefused(_, _) => 2,
+        Status::AppRefused(_, _, _) => 3,
+        Status::RunFault(_) => 4,
+        Status::BudgetSpent => 5,
+        Status::ReadFault(_) | Status::TooLong(_) => 6,
+        Status::WriteFault => 7,
+        Status::NoMemory => 8,
+    }
+}
+
+fn design_fault(fault: &DesignFault) -> &'static str
+    ensures { result.now ≡ design_fault_name fault.now }
+{
+    match fault {
+        DesignFault::L1 => "L1",
+        DesignFault::L2 => "L2",
+        DesignFault::L3 => "L3",
+        DesignFault::L4 => "L4",
+        DesignFault::L5 => "L5",
+        DesignFault::L6 => "L6",
+        DesignFault::S1 => "S1",
+        DesignFault::S2 => "S2",
+        DesignFault::S3 => "S3",
+        DesignFault::N1 => "N1",
+        DesignFault::N2 => "N2",
+        DesignFault::N3 => "N3",
+        DesignFault::N4 => "N4",
+        DesignFault::N5 => "N5",
+        DesignFault::N6 => "N6",
+        DesignFault::N7 => "N7",
+        DesignFault::N8 => "N8",
+        DesignFault::N9 => "N9",
+        DesignFault::N10 => "N10",
+        DesignFault::N11 => "N11",
+    }
+}
+
+fn app_fault(fault: &AppFault) -> &'static str
+    ensures { result.now ≡ app_fault_name fault.now }
+{
+    match fault {
+        AppFault::A1 => "A1",
+        AppFault::A2 => "A2",
+        AppFault::A3 => "A3",
+        AppFault::A4 => "A4",
+        AppFault::A5 => "A5",
+    }
+}
+
+fn run_fault(fault: &Fault) -> &'static str
+    ensures { result.now ≡ fault_name fault.now }
+{
+    match fault {
+        Fault::F1 => "F1",
+        Fault::F2 => "F2",
+        Fault::F3 => "F3",
+        Fault::F4 => "F4",
+    }
+}

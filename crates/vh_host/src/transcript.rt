@@ -1,0 +1,85 @@
+ghost use Rattle.std.specs.Prelude.{◌≡◌, ◌≢◌, ◌<◌, ◌≤◌, ℕ, List, Some, None, take, OnOk, OnErr};
+ghost use Rattle.vh_base.specs.Outside.{Rose, appended, AppendsFront};
+ghost use Rattle.vh_kernel.specs.Shown.{state_of};
+ghost use Rattle.vh_kernel.specs.Step.{choices_of};
+ghost use Rattle.vh_kernel.specs.Run.{line_of_move, fifo};
+ghost use Rattle.vh_host.specs.Turn.{Turned, status_after};
+ghost use Rattle.vh_host.specs.Transcript.{Wrote};
+ghost use Rattle.vh_host.specs.Headline.{default_budget};
+
+use crate::status::Status;
+use crate::write::write_whole;
+use std::alloc::Global;
+use vh_base::{Sink, SinkFault};
+use vh_kernel::{Ending, Kernel, Label, line_of};
+
+/// Runs a kernel under fifo, and writes the line of each label as it is made, until the run
+/// ends, 100,000,000 labels were made, or a fault of the sink or of memory cuts it short.
+pub fn transcribe<K: Sink>(alloc: Global, kernel: &mut Kernel, out: &mut K) -> Status
+    requires { 0 < choices_of (state_of kernel.old) }
+    ensures wrote { (written : List ℕ) × (K.written out.new ≡ appended (K.written out.old) written)
+        × Wrote fifo default_budget (state_of kernel.old) result written }
+    ensures failed { result ≡ Status.WriteFault → Rose (K.faults out.old) (K.faults out.new) }
+    ensures calm { result ≢ Status.WriteFault → K.faults out.new ≡ K.faults out.old }
+    ensures read { (n : ℕ) → result ≢ Status.ReadFault n }
+    ensures worded { result ≢ Status.Usage }
+{
+    for made in 0..100_000_000u64 {
+        if let Some(status) = turn(alloc, kernel, out) {
+            return status;
+        }
+    }
+    Status::BudgetSpent
+}
+
+// One step, with its line.
+fn turn<K: Sink>(alloc: Global, kernel: &mut Kernel, out: &mut K) -> Option<Status>
+    requires { 0 < choices_of (state_of kernel.old) }
+    ensures turned { Turned result (state_of kernel.old) (state_of kernel.new) (K.written out.old) (K.written out.new) }
+    ensures failed { result ≡ Some Status.WriteFault → Rose (K.faults out.old) (K.faults out.new) }
+    ensures calm { result ≢ Some Status.WriteFault → K.faults out.new ≡ K.faults out.old }
+{
+    let label = match kernel.step(alloc, 0) {
+        Ok(label) => label,
+        Err(_) => return Some(Status::NoMemory),
+    };
+    match tell(alloc, kernel, &label, out) {
+        Ok(()) => status_after(&label),
+        Err(SinkFault::Failed) => Some(Status::WriteFault),
+        Err(SinkFault::NoMemory) => Some(Status::NoMemory),
+    }
+}
+
+// Writes the line of a label, at the time that the kernel shows.
+fn tell<K: Sink>(
+    alloc: Global,
+    kernel: &Kernel,
+    label: &Label,
+    out: &mut K,
+) -> Result<(), SinkFault>
+    ensures ok { OnOk result (K.written out.new ≡ appended (K.written out.old) (line_of_move (label.now, state_of kernel.now))) }
+    ensures err { OnErr result (AppendsFront (K.written out.old) (K.written out.new) (line_of_move (label.now, state_of kernel.now))) }
+    ensures failed { result ≡ Err SinkFault.Failed → Rose (K.faults out.old) (K.faults out.new) }
+    ensures calm { result ≢ Err SinkFault.Failed → K.faults out.new ≡ K.faults out.old }
+{
+    match line_of(alloc, kernel, label) {
+        Ok(Some(line)) => write_whole(out, line.as_bytes()),
+        Ok(None) => Ok(()),
+        Err(_) => Err(SinkFault::NoMemory),
+    }
+}
+
+// The status with which a label ends the run, if it does.
+fn status_after(label: &Label) -> Option<Status>
+    ensures { result ≡ status_after label.now }
+{
+    match label {
+        Label::End(Ending::Cause(cause)) => Some(Status::Done(*cause)),
+        Label::End(Ending::Fault(fault)) => Some(Status::RunFault(*fault)),
+        Label::Activate(_)
+        | Label::Advance(_)
+        | Label::Pick(_, _)
+        | Label::Stmt(_, _)
+        | Label::Finish(_) => None,
+    }
+}
