@@ -1,0 +1,51 @@
+ghost use Rattle.std.specs.Prelude.{◌≡◌, ◌≢◌, ◌<◌, ◌≤◌, ◌+◌, ℕ, None, length, IfOk};
+
+use std::io::ErrorKind;
+use vh_base::{Sink, SinkFault};
+
+/// Standard output as a sink, which tells nothing. It writes the whole of each piece itself.
+#[derive(Drop)]
+pub struct Output<'a, R> {
+    rt: &'a R,
+    faults: u64,
+}
+
+impl<'a, R: Print> Output<'a, R> {
+    pub fn new(rt: &'a R) -> Output<'a, R> {
+        Output { rt, faults: 0 }
+    }
+}
+
+impl<R: Print> Sink for Output<'_, R> {
+    ghost written = { λ _. None };
+
+    ghost faults = { λ s. s.faults };
+
+    fn write(&mut self, piece: &[u8]) -> Result<usize, SinkFault> {
+        match write_all(self.rt, piece) {
+            Ok(()) => Ok(piece.len()),
+            Err(SinkFault::Failed) => {
+                self.faults = self.faults.saturating_add(1);
+                Err(SinkFault::Failed)
+            }
+            Err(SinkFault::NoMemory) => Err(SinkFault::NoMemory),
+        }
+    }
+}
+
+// Writes all of a piece. A write that takes nothing is a failure.
+fn write_all<R: Print>(rt: &R, piece: &[u8]) -> Result<(), SinkFault> {
+    let mut done = 0;
+    for _ in 0..u64::MAX {
+        if done >= piece.len() {
+            return Ok(());
+        }
+        match rt.write_some(&piece[done..]) {
+            Ok(0) => return Err(SinkFault::Failed),
+            Ok(count) => done += count,
+            Err(e) if e.kind() == ErrorKind::Interrupted => {}
+            Err(_) => return Err(SinkFault::Failed),
+        }
+    }
+    Err(SinkFault::Failed)
+}
