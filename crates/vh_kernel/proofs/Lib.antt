@@ -1,2 +1,3 @@
 mod Opening
 pub mod Goes
+pub mod Tables

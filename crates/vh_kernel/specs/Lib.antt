@@ -5,3 +5,4 @@ pub mod Step
 pub mod Line
 pub mod Shown
 pub mod Run
+pub mod Table

@@ -10,10 +10,12 @@ mod control;
 mod events;
 mod kernel;
 mod label;
+mod laws;
 mod line;
 mod phase;
 mod thread;
 
 pub use kernel::Kernel;
 pub use label::{Ending, Label, Region};
+pub use laws::step_laws;
 pub use line::line_of;

@@ -1,0 +1,16 @@
+ghost use Rattle.vh_kernel.specs.Table.{StepsByTable, TableBySteps, OpensSound, StaysSound, OneStateAfter};
+
+/// The laws of the machine's step, of every state and every choice. It does nothing: its
+/// contract is the theorem.
+pub fn step_laws()
+    // Each choice is a step of the table,
+    ensures by_table { StepsByTable }
+    // and each step of the table is that of a choice.
+    ensures by_choice { TableBySteps }
+
+    // From a design's opening on, serials rise and are given once,
+    ensures opens { OpensSound }
+    ensures stays { StaysSound }
+    // so that the state after is a function of the state before and the label.
+    ensures one_after { OneStateAfter }
+{}
