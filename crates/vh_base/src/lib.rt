@@ -16,6 +16,8 @@ mod outside;
 mod place;
 mod sequence;
 mod short;
+#[cfg(test)]
+mod tests;
 
 pub use faults::{AppFault, Cause, DesignFault, Fault, NoMemory};
 pub use first::{First, FirstBit, FirstBlocks, FirstCode, FirstNames};

@@ -1,5 +1,5 @@
 -- Runs of the machine under a chosen order, and their text.
-use Rattle.std.specs.Prelude.{◌≡◌, ℕ, List, [], ◌∷◌, Bool, true, false, unwrap_or}
+use Rattle.std.specs.Prelude.{◌≡◌, ℕ, zero, suc, ◌≤◌, List, [], ◌∷◌, Bool, true, false, cond, length, take, unwrap_or}
 use Rattle.std.specs.List.{flat_map}
 use Rattle.vh_kernel.specs.declared.label.Label.{Label}
 use Rattle.vh_kernel.specs.declared.label.Label.TheVariants as label
@@ -40,6 +40,12 @@ IsRun order s [] = Unit {0}
 IsRun order s (m ∷ moves) =
     (move_from order s ≡ m) × (is_end m.0 ≡ true → moves ≡ []) × IsRun (chooser_after order (choices_of s)) m.1 moves
 
+-- The labels that the machine makes from the state, so many at most, up to its end.
+abbrev pub moves_of : Chooser → ℕ → State → List Move
+moves_of order zero s = []
+moves_of order (suc n) s =
+  move_from order s ∷ cond (is_end (move_from order s).0) [] (moves_of (chooser_after order (choices_of s)) n (move_from order s).1)
+
 -- The line of a label, at the time after it, or nothing for a silent one.
 abbrev pub line_of_move : Move → List ℕ
 line_of_move m = unwrap_or (line_at m.1.queue.time m.0) []
@@ -47,3 +53,9 @@ line_of_move m = unwrap_or (line_at m.1.queue.time m.0) []
 -- The text of a run: the lines of its labels in order.
 abbrev pub text_of : List Move → List ℕ
 text_of moves = flat_map line_of_move moves
+
+-- No run can be picked afterwards to fit other bytes: every run of so many labels at most is the front
+-- of the one list of labels.
+abbrev pub OneRun : Type 0
+OneRun = (order : Chooser) (n : ℕ) (s : State) (moves : List Move) → IsRun order s moves → length moves ≤ n
+  → moves ≡ take (length moves) (moves_of order n s)

@@ -1,4 +1,5 @@
 ghost use Rattle.vh_kernel.specs.Table.{StepsByTable, TableBySteps, OpensSound, StaysSound, OneStateAfter};
+ghost use Rattle.vh_kernel.specs.Run.{OneRun};
 
 /// The laws of the machine's step, of every state and every choice. It does nothing: its
 /// contract is the theorem.
@@ -13,4 +14,7 @@ pub fn step_laws()
     ensures stays { StaysSound }
     // so that the state after is a function of the state before and the label.
     ensures one_after { OneStateAfter }
+
+    // Under an order of choice there is one run.
+    ensures one_run { OneRun }
 {}

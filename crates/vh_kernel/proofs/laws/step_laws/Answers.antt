@@ -1,4 +1,5 @@
 use Rattle.vh_kernel.proofs.Tables.{steps_by_table, table_by_steps, opens_sound, stays_sound, one_state_after}
+use Rattle.vh_kernel.proofs.Runs.{one_run}
 use Rattle.vh_kernel.proofs.laws.step_laws.Goals as goal
 
 pub returns-clause-by_table : goal.returns-clause-by_table
@@ -15,3 +16,6 @@ returns-clause-stays c = stays_sound
 
 pub returns-clause-one_after : goal.returns-clause-one_after
 returns-clause-one_after c = one_state_after
+
+pub returns-clause-one_run : goal.returns-clause-one_run
+returns-clause-one_run c = one_run

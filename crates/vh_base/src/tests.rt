@@ -1,0 +1,67 @@
+use crate::{Bytes, FetchFault, Files, MemoryFiles, MemorySink, Sequence, Short, Sink, SinkFault};
+use std::alloc::Global;
+use std::test::Fail;
+
+fn one_file(alloc: Global, failing: u64) -> Result<MemoryFiles, Fail> {
+    let mut files = Vec::new(alloc);
+    files.push((
+        String::from_str(alloc, "a.v")?,
+        Vec::from_slice(alloc, b"module")?,
+    ))?;
+    let mut numbers = Vec::new(alloc);
+    numbers.push(failing)?;
+    Ok(MemoryFiles::new(files, numbers))
+}
+
+#[test]
+fn reads_by_name_within_the_limit(rt: HostRuntime) -> Result<(), Fail> {
+    let alloc = rt.alloc();
+    let mut files = one_file(alloc, 3)?;
+    // One byte more than the limit tells that the file is longer.
+    let cut = files.read(alloc, "a.v", 2).expect(&rt, "held");
+    assert_eq!(rt; cut.as_slice(), b"mod".as_slice());
+    let whole = files.read(alloc, "a.v", 6).expect(&rt, "held");
+    assert_eq!(rt; whole.as_slice(), b"module".as_slice());
+    // The third read fails, and so does one of a name that isn't held.
+    let third = files.read(alloc, "a.v", 6);
+    assert!(rt; matches!(third, Err(FetchFault::Failed)));
+    let missing = files.read(alloc, "b.v", 6);
+    assert!(rt; matches!(missing, Err(FetchFault::Failed)));
+    let again = files.read(alloc, "a.v", 0).expect(&rt, "held");
+    assert_eq!(rt; again.as_slice(), b"m".as_slice());
+    Ok(())
+}
+
+#[test]
+fn a_sink_takes_parts_and_fails_by_number(rt: HostRuntime) -> Result<(), Fail> {
+    let alloc = rt.alloc();
+    let mut failing = Vec::new(alloc);
+    failing.push(2)?;
+    let mut sink = MemorySink::new(alloc, 3, failing).expect(&rt, "no memory is taken");
+    assert_eq!(rt; sink.write(b"hello"), Ok(3));
+    assert_eq!(rt; sink.write(b"lo"), Err(SinkFault::Failed));
+    assert_eq!(rt; sink.write(b"lo"), Ok(2));
+    assert_eq!(rt; sink.write(b""), Ok(0));
+    assert_eq!(rt; sink.bytes(), b"hello".as_slice());
+    Ok(())
+}
+
+#[test]
+fn a_short_text_has_255_bytes_at_most(rt: HostRuntime) -> Result<(), Fail> {
+    let bytes = [b'a'; 256];
+    assert!(rt; Short::new(&bytes).is_none());
+    let most = Short::new(&bytes[..255]).expect(&rt, "255 bytes");
+    assert_eq!(rt; most.bytes().len(), 255);
+    assert_eq!(rt; most.copy().bytes().len(), 255);
+    let empty = Short::new(b"").expect(&rt, "no bytes");
+    assert_eq!(rt; empty.bytes(), b"".as_slice());
+    Ok(())
+}
+
+#[test]
+fn a_sequence_gives_its_vector_back(rt: HostRuntime) -> Result<(), Fail> {
+    let bytes: Bytes = Sequence::new(Vec::from_slice(rt.alloc(), b"top")?);
+    assert_eq!(rt; bytes.as_slice(), b"top".as_slice());
+    assert_eq!(rt; bytes.into_vec().as_slice(), b"top".as_slice());
+    Ok(())
+}
