@@ -1,3 +1,4 @@
 pub mod Appended
 pub mod Turns
 pub mod Verdicts
+pub mod LabelTexts

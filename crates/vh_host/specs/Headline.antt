@@ -2,7 +2,7 @@
 use Rattle.std.specs.Prelude.{◌≡◌, ◌≢◌, ℕ, ◌+◌, ◌≤◌, ◌++◌, List, [], ◌∷◌, length, Option, Some, None, ◌⊎◌, slice_get}
 use Rattle.vh_base.specs.declared.first.First.{First}
 use Rattle.vh_base.specs.Outside.{IsAnswered, appended}
-use Rattle.vh_kernel.specs.Run.{Chooser, fifo}
+use Rattle.vh_kernel.specs.Run.{fifo, moves_of, text_of}
 use Rattle.vh_kernel.specs.State.{opening}
 use Rattle.vh_host.specs.declared.status.Status.{Status}
 use Rattle.vh_host.specs.declared.status.Status.TheVariants as status
@@ -72,3 +72,8 @@ Refuses words holds s old new =
 -- A status comes exactly where a fact holds, unless memory was refused.
 abbrev pub Exactly : Status → Status → Type 0 → Type 0
 Exactly s given P = (s ≡ given → P) × (P → (s ≡ given) ⊎ (s ≡ status.NoMemory))
+
+-- The text of the run that a verdict allows, of so many labels at most; none for a refused input.
+abbrev pub text_by : Verdict → ℕ → List ℕ
+text_by (refuses r) budget = []
+text_by (accepts design) budget = text_of (moves_of fifo budget (opening design))

@@ -7,12 +7,16 @@
 #![tactic(auto)]
 
 mod host;
+mod plain;
 mod report;
 mod status;
+#[cfg(test)]
+mod tests;
 mod transcript;
 mod words;
 mod write;
 
 pub use host::run;
+pub use plain::plain_text;
 pub use report::{exit_number, status_line};
 pub use status::Status;
