@@ -11,7 +11,7 @@ abbrev pub Says_of : {T A : Type 0} → (A → List T → List T → Type 0) →
 Says_of I E ts (got a rest) = I a ts rest
 Says_of I E ts (stop fault left) = E fault ts left
 
-abbrev one : {T P : Type 0} (V : P → Type 0) {A : Type 0} → (T → Option A) → Part T V A
+abbrev pub one : {T P : Type 0} (V : P → Type 0) {A : Type 0} → (T → Option A) → Part T V A
 one V meaning = tok meaning
 
 abbrev pub Meets_item : {T A : Type 0} → (A → List T → List T → Type 0) → (Fault → List T → ℕ → Type 0) → (T → Bool) → Fault → List T → ℕ → Type 0

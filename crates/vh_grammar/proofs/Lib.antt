@@ -1,3 +1,4 @@
 pub mod Size
 pub mod Exact
 pub mod Places
+pub mod Starts
