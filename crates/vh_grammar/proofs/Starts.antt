@@ -45,7 +45,7 @@ cons-nil t ts e = cc
 -- a repetition
 module _ {T A : Type 0} (item : List T → Out T A) (I : A → List T → List T → Type 0) (E : Fault → List T → ℕ → Type 0) (B : List T → Type 0) (class : T → Bool) (short : (ts : List T) → Sized 1 ts (item ts)) where
   abbrev Begun : ℕ → List T → Type 0
-  Begun n ts = AfterTurns (λ _ _ m r. (a : A) × I a m r) (λ _. class) (λ _ m. (m ≡ []) ⊎ ((next_is class m ≡ true) × B m)) n (tt {0}) ts
+  Begun n ts = AfterTurns (λ _ _ m r. (next_is class m ≡ true) × ((a : A) × I a m r)) (λ _ m. (m ≡ []) ⊎ ((next_is class m ≡ true) × B m)) n (tt {0}) ts
 
   many-begins : ((ts : List T) → Says_of I E ts (item ts)) → ((ts : List T) → Ended (item ts) → B ts) → (n : ℕ) (ts : List T) → length ts ≤ n → Ended (many item class n ts) → (k : ℕ) × Begun k ts
   many-begins h f n [] b e = (0, inl refl)
@@ -55,7 +55,7 @@ module _ {T A : Type 0} (item : List T → Out T A) (I : A → List T → List T
       go : (d : Bool) → class t ≡ d → (o : Out T A) → Says_of I E (t ∷ ts) o → Sized 1 (t ∷ ts) o → (Ended o → B (t ∷ ts)) → ((mid : List T) → length mid ≤ n → Ended (many item class n mid) → (k : ℕ) × Begun k mid) →
            Ended (cond d (then_ o (λ a mid. then_ (many item class n mid) (λ more rest. got (a ∷ more) rest))) (got [] (t ∷ ts))) → (k : ℕ) × Begun k (t ∷ ts)
       go false c o i s q more e = absurd (cons-nil t ts e)
-      go true c (got a mid) i s q more e = let r : (k : ℕ) × Begun k mid = more mid (omega arith) (ended-act (λ z. a ∷ z) (many item class n mid) e) in (suc r.0, (c, (tt, mid, (a, i), r.1)))
+      go true c (got a mid) i s q more e = let r : (k : ℕ) × Begun k mid = more mid (omega arith) (ended-act (λ z. a ∷ z) (many item class n mid) e) in (suc r.0, (tt, mid, (c, (a, i)), r.1))
       go true c (stop lost left) i s q more e = (0, inr (c, q e))
       go true c (stop deep left) i s q more e = absurd e
       go true c (stop left_out left) i s q more e = absurd e
@@ -66,15 +66,15 @@ module _ {T A : Type 0} (item : List T → Out T A) (I : A → List T → List T
   many-ended h f zero (suc n) ts b (inr e) =
       rw e.0 (ended-then (item ts) (λ a mid. then_ (many item class n mid) (λ more rest. got (a ∷ more) rest)) (f ts e.1)
        (λ a. ended-back (λ z. a ∷ z) (many item class n []) (ended-size 0 (many item class n []) (size-many item class n [] (λ m. size-less 1 0 m (item m) (omega arith) (short m))))))
-  many-ended h f (suc k) zero ts b r = absurd (next-none class ts r.0 b)
+  many-ended h f (suc k) zero ts b r = absurd (next-none class ts r.2.0 b)
   many-ended h f (suc k) (suc n) ts b r =
-      let e : item ts ≡ got r.1.2.0 r.1.1 = h r.1.2.0 ts r.1.1 r.1.2.1 in
-      rw (r.0, e) (ended-back (λ z. r.1.2.0 ∷ z) (many item class n r.1.1) (many-ended h f k n r.1.1 (shorter_mid ts r.1.1 r.1.2.0 (item ts) n e (short ts) b) r.1.3))
+      let e : item ts ≡ got r.2.1.0 r.1 = h r.2.1.0 ts r.1 r.2.1.1 in
+      rw (r.2.0, e) (ended-back (λ z. r.2.1.0 ∷ z) (many item class n r.1) (many-ended h f k n r.1 (shorter_mid ts r.1 r.2.1.0 (item ts) n e (short ts) b) r.3))
 
 -- an iteration
 module _ {T S : Type 0} (turn : S → List T → Out T S) (I : S → S → List T → List T → Type 0) (E : S → Fault → List T → ℕ → Type 0) (B : S → List T → Type 0) (class : S → T → Bool) (short : (s : S) (ts : List T) → Sized 1 ts (turn s ts)) where
   abbrev Begun_turns : ℕ → S → List T → Type 0
-  Begun_turns n s ts = AfterTurns I class (λ u m. (m ≡ []) ⊎ ((next_is (class u) m ≡ true) × B u m)) n s ts
+  Begun_turns n s ts = AfterTurns (λ u v m r. (next_is (class u) m ≡ true) × I u v m r) (λ u m. (m ≡ []) ⊎ ((next_is (class u) m ≡ true) × B u m)) n s ts
 
   turns-begins : ((s : S) (ts : List T) → Says_of (I s) (E s) ts (turn s ts)) → ((s : S) (ts : List T) → Ended (turn s ts) → B s ts) → (n : ℕ) (s : S) (ts : List T) → length ts ≤ n → Ended (turns turn class n s ts) → (k : ℕ) × Begun_turns k s ts
   turns-begins h f n s [] b e = (0, inl refl)
@@ -84,7 +84,7 @@ module _ {T S : Type 0} (turn : S → List T → Out T S) (I : S → S → List 
       go : (d : Bool) → class s t ≡ d → (o : Out T S) → Says_of (I s) (E s) (t ∷ ts) o → Sized 1 (t ∷ ts) o → (Ended o → B s (t ∷ ts)) → ((u : S) (mid : List T) → length mid ≤ n → Ended (turns turn class n u mid) → (k : ℕ) × Begun_turns k u mid) →
            Ended (cond d (then_ o (turns turn class n)) (got s (t ∷ ts))) → (k : ℕ) × Begun_turns k s (t ∷ ts)
       go false c o i z q more e = absurd (cons-nil t ts e)
-      go true c (got u mid) i z q more e = let r : (k : ℕ) × Begun_turns k u mid = more u mid (omega arith) e in (suc r.0, (c, (u, mid, i, r.1)))
+      go true c (got u mid) i z q more e = let r : (k : ℕ) × Begun_turns k u mid = more u mid (omega arith) e in (suc r.0, (u, mid, (c, i), r.1))
       go true c (stop lost left) i z q more e = (0, inr (c, q e))
       go true c (stop deep left) i z q more e = absurd e
       go true c (stop left_out left) i z q more e = absurd e
@@ -94,10 +94,10 @@ module _ {T S : Type 0} (turn : S → List T → Out T S) (I : S → S → List 
   turns-ended h f zero zero s ts b (inr e) = absurd (next-none (class s) ts e.0 b)
   turns-ended h f zero (suc n) s ts b (inr e) =
       rw e.0 (ended-then (turn s ts) (turns turn class n) (f s ts e.1) (λ u. ended-size 0 (turns turn class n u []) (size-turns turn class n u [] (λ v m. size-less 1 0 m (turn v m) (omega arith) (short v m)))))
-  turns-ended h f (suc k) zero s ts b r = absurd (next-none (class s) ts r.0 b)
+  turns-ended h f (suc k) zero s ts b r = absurd (next-none (class s) ts r.2.0 b)
   turns-ended h f (suc k) (suc n) s ts b r =
-      let e : turn s ts ≡ got r.1.0 r.1.1 = h s r.1.0 ts r.1.1 r.1.2 in
-      rw (r.0, e) (turns-ended h f k n r.1.0 r.1.1 (shorter_mid ts r.1.1 r.1.0 (turn s ts) n e (short s ts) b) r.1.3)
+      let e : turn s ts ≡ got r.0 r.1 = h s r.0 ts r.1 r.2.1 in
+      rw (r.2.0, e) (turns-ended h f k n r.0 r.1 (shorter_mid ts r.1 r.0 (turn s ts) n e (short s ts) b) r.3)
 
 module _ {T P : Type 0} {V : P → Type 0} (R : (p : P) → List T → Out T (V p)) (N : (p : P) → V p → List T → List T → Type 0) (M : (p : P) → Fault → List T → ℕ → Type 0) (B : (p : P) → List T → Type 0) (each : (p : P) (ts : List T) → Sized 1 ts (R p ts)) where
   short-part : {A : Type 0} (p : Part T V A) → eats p ≡ true → (ts : List T) → Sized 1 ts (run R p ts)
