@@ -2,3 +2,5 @@ pub mod Part
 pub mod Reading
 pub mod Sentences
 pub mod Conditions
+pub mod Table
+pub mod Laws
