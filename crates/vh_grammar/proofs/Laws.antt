@@ -4,12 +4,13 @@ use Rattle.vh_grammar.specs.Part.{Part}
 use Rattle.vh_grammar.specs.Reading.{Fault, lost, deep, left_out, Out, got, stop, reader, whole}
 use Rattle.vh_grammar.specs.Sentences.{ReadsAt, BeginsAt, MeetsAt}
 use Rattle.vh_grammar.specs.Table.{Table, source}
-use Rattle.vh_grammar.specs.Laws.{ReadsWhatIsSpelled, HasOneTree, RefusesWhatIsMet, AcceptsWholeSources, LeavesNothing, EndsTooSoon, FaultIsFirst, RefusedAt, FirstIsRefused, IsTooDeep, IsLeftOut, OnlyDepthNeedsLevels, PlacesAreInside}
+use Rattle.vh_grammar.specs.Laws.{ReadsWhatIsSpelled, HasOneTree, RefusesWhatIsMet, AcceptsWholeSources, LeavesNothing, EndsTooSoon, FaultIsFirst, RefusedAt, FirstIsRefused, IsTooDeep, IsLeftOut, OnlyDepthNeedsLevels, PlacesAreInside, ClassesAreFirsts, SpellsWithoutClasses, BeginsWithoutClasses}
 use Rattle.vh_grammar.proofs.Size.{Sized, size-reader}
-use Rattle.vh_grammar.proofs.Exact.{Says_of, reader-sound, reader-tree, reader-fault}
+use Rattle.vh_grammar.proofs.Outcomes.{Says_of, reader-sound, reader-tree, reader-fault}
 use Rattle.vh_grammar.proofs.Places.{Late, Cut, cut-reader}
 use Rattle.vh_grammar.proofs.Starts.{Ended, reader-begins, reader-ended}
-use Rattle.vh_grammar.proofs.Levels.{Below, reader-below}
+use Rattle.vh_grammar.proofs.Choices.{chooses, spells-reads, reads-spells, opens-begins, begins-opens}
+use Rattle.vh_grammar.proofs.Levels.{Below, ended-below, reader-below}
 
 got-parts : {T A : Type 0} (a b : A) (r s : List T) → got a r ≡ got b s → (a ≡ b) × (r ≡ s)
 got-parts a b r s e = (cc, cc)
@@ -84,12 +85,6 @@ lost-any more (got a rest) o x h c b e = lost-next more (got a rest) o h c (rw b
 lost-any more (stop lost k) o x h c b e = lost-next more (stop lost k) o h c (rw b at e)
 lost-any more (stop deep k) o x h c b e = rw c at h
 lost-any more (stop left_out k) o x h c b e = lost-next more (stop left_out k) o h c (rw b at e)
-
-ended-below : {T A : Type 0} (x y : Out T A) → Below x y → Ended x → Ended y
-ended-below (got a rest) y b e = rw b e
-ended-below (stop lost k) y b e = rw b e
-ended-below (stop deep k) y b e = absurd e
-ended-below (stop left_out k) y b e = absurd e
 
 whole-ended : {T A : Type 0} (o : Out T A) → whole o ≡ stop lost 0 → Ended o
 whole-ended (got a []) e = refl
@@ -239,3 +234,14 @@ module _ (t : Table) where
 
   pub places_are_inside : PlacesAreInside t
   places_are_inside n p ts fault left e = inside 1 ts (reader t.grammar n p ts) fault left (size-reader t.grammar t.eating n p ts) e
+
+  pub classes_are_firsts : ClassesAreFirsts t
+  classes_are_firsts p = chooses t.grammar t.eating t.advancing t.reach (t.grammar p) (t.advancing p) (t.heeding p)
+
+  pub spells_without_classes : SpellsWithoutClasses t
+  spells_without_classes n p a ts rest =
+      (λ s. spells-reads t.grammar t.eating t.advancing t.reach t.heeding n p a ts rest s, λ s. reads-spells t.grammar t.eating t.advancing t.reach t.heeding n p a ts rest s)
+
+  pub begins_without_classes : BeginsWithoutClasses t
+  begins_without_classes n p ts =
+      (λ s. opens-begins t.grammar t.eating t.advancing t.reach t.heeding n p ts s, λ s. begins-opens t.grammar t.eating t.advancing t.reach t.heeding n p ts s)

@@ -4,6 +4,7 @@ use Rattle.vh_grammar.specs.Part.{Part, done, tok, seq, bind, act, alt, rep, ite
 use Rattle.vh_grammar.specs.Reading.{Fault, lost, deep, left_out, Out, got, stop, then_, next_is, taken, token_of, refused, past_levels, many, turns, run, reader}
 use Rattle.vh_grammar.specs.Conditions.{eats}
 use Rattle.vh_grammar.proofs.Size.{Sized, size-reader}
+use Rattle.vh_grammar.proofs.Starts.{Ended}
 
 -- the second reading has more levels than the first
 abbrev pub Below : {T A : Type 0} → Out T A → Out T A → Type 0
@@ -11,6 +12,12 @@ Below (got a rest) o = o ≡ got a rest
 Below (stop lost left) o = o ≡ stop lost left
 Below (stop deep left) o = Unit {0}
 Below (stop left_out left) o = o ≡ stop left_out left
+
+pub ended-below : {T A : Type 0} (x y : Out T A) → Below x y → Ended x → Ended y
+ended-below (got a rest) y b e = rw b e
+ended-below (stop lost k) y b e = rw b e
+ended-below (stop deep k) y b e = absurd e
+ended-below (stop left_out k) y b e = absurd e
 
 below-same : {T A : Type 0} (o : Out T A) → Below o o
 below-same (got a rest) = refl

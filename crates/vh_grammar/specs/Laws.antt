@@ -3,6 +3,8 @@
 use Rattle.std.specs.Prelude.{◌≡◌, ℕ, zero, suc, ◌+◌, ◌<◌, ◌≤◌, List, [], ◌∷◌, ◌++◌, length, ◌⊎◌, ◌↔◌}
 use Rattle.vh_grammar.specs.Reading.{Fault, lost, deep, left_out, Out, got, stop, reader}
 use Rattle.vh_grammar.specs.Sentences.{ReadsAt, BeginsAt, MeetsAt}
+use Rattle.vh_grammar.specs.Language.{SpellsAt, OpensAt}
+use Rattle.vh_grammar.specs.Choices.{ChoosesByFirsts}
 use Rattle.vh_grammar.specs.Table.{Table, source}
 
 -- reading gives a tree and a rest exactly where the tokens up to the rest spell the production with it (own)
@@ -75,3 +77,16 @@ OnlyDepthNeedsLevels t =
 abbrev pub PlacesAreInside : Table → Type 0
 PlacesAreInside t =
     (levels : ℕ) (p : t.Name) (ts : List t.Token) (fault : Fault) (left : ℕ) → source t levels p ts ≡ stop fault left → (left ≤ length ts) × (left ≡ 0 → fault ≡ lost)
+
+-- the class of each choice of the table is the set of the first tokens of what is chosen (own)
+abbrev pub ClassesAreFirsts : Table → Type 0
+ClassesAreFirsts t = (p : t.Name) → ChoosesByFirsts t.grammar (t.grammar p)
+
+-- with the classes or without them the same tokens spell a production with the same tree (own)
+abbrev pub SpellsWithoutClasses : Table → Type 0
+SpellsWithoutClasses t =
+    (levels : ℕ) (p : t.Name) (a : t.tree_of p) (ts rest : List t.Token) → SpellsAt t.grammar t.reach levels p a ts rest ↔ ReadsAt t.grammar levels p a ts rest
+
+-- with the classes or without them the same tokens begin a production (own)
+abbrev pub BeginsWithoutClasses : Table → Type 0
+BeginsWithoutClasses t = (levels : ℕ) (p : t.Name) (ts : List t.Token) → OpensAt t.grammar t.reach levels p ts ↔ BeginsAt t.grammar levels p ts

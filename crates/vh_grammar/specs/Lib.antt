@@ -4,3 +4,5 @@ pub mod Sentences
 pub mod Conditions
 pub mod Table
 pub mod Laws
+pub mod Choices
+pub mod Language

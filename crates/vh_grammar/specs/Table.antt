@@ -3,8 +3,9 @@ use Rattle.std.specs.Prelude.{◌≡◌, ℕ, Bool, true, List}
 use Rattle.vh_grammar.specs.Part.{Part}
 use Rattle.vh_grammar.specs.Reading.{Out, reader, whole}
 use Rattle.vh_grammar.specs.Conditions.{eats, Advances}
+use Rattle.vh_grammar.specs.Choices.{Heeds}
 
--- A table of productions that meets the two conditions under which reading it means what it should (own).
+-- A table of productions that meets the conditions under which reading it means what it should (own).
 pub record Table : Type 1 where
   pub Token : Type 0
   pub Name : Type 0
@@ -12,8 +13,12 @@ pub record Table : Type 1 where
   pub grammar : (p : Name) → Part Token tree_of (tree_of p)
   -- each production takes a token
   pub eating : (p : Name) → eats (grammar p) ≡ true
-  -- each turn of a repetition takes a token
+  -- what is chosen by its class takes a token
   pub advancing : (p : Name) → Advances (grammar p)
+  -- the levels on which a token alone is read, to see where it can stand first
+  pub reach : ℕ
+  -- each choice is made right at each token
+  pub heeding : (p : Name) (t : Token) → Heeds (reader grammar reach) (grammar p) t
 
 -- what reading the tokens as a whole source gives, the source being this production with so many levels
 -- left (own)
