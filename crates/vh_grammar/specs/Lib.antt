@@ -6,3 +6,4 @@ pub mod Table
 pub mod Laws
 pub mod Choices
 pub mod Language
+pub mod Says
