@@ -1,0 +1,247 @@
+-- The laws of reading, from the lemmas on each.
+use Rattle.std.proofs.Common.{◌≡◌, ℕ, zero, suc, ◌+◌, ◌-◌, ◌<◌, ◌≤◌, Bool, true, false, cond, List, [], ◌∷◌, ◌++◌, length, take, drop, ◌⊎◌, inl, inr, ◌↔◌, refl, sym, ap, ◌∙◌, subst, arith, length-append, append_assoc, append-nil, take-append-drop, length-drop, add_comm}
+use Rattle.vh_grammar.specs.Part.{Part}
+use Rattle.vh_grammar.specs.Reading.{Fault, lost, deep, left_out, Out, got, stop, reader, whole}
+use Rattle.vh_grammar.specs.Sentences.{ReadsAt, BeginsAt, MeetsAt}
+use Rattle.vh_grammar.specs.Table.{Table, source}
+use Rattle.vh_grammar.specs.Laws.{ReadsWhatIsSpelled, HasOneTree, RefusesWhatIsMet, AcceptsWholeSources, LeavesNothing, EndsTooSoon, FaultIsFirst, RefusedAt, FirstIsRefused, IsTooDeep, IsLeftOut, OnlyDepthNeedsLevels, PlacesAreInside, ClassesAreFirsts, SpellsWithoutClasses, BeginsWithoutClasses}
+use Rattle.vh_grammar.proofs.Size.{Sized, size-reader}
+use Rattle.vh_grammar.proofs.Outcomes.{Says_of, reader-sound, reader-tree, reader-fault}
+use Rattle.vh_grammar.proofs.Places.{Late, Cut, cut-reader}
+use Rattle.vh_grammar.proofs.Starts.{Ended, reader-begins, reader-ended}
+use Rattle.vh_grammar.proofs.Choices.{chooses, spells-reads, reads-spells, opens-begins, begins-opens}
+use Rattle.vh_grammar.proofs.Levels.{Below, ended-below, reader-below}
+
+got-parts : {T A : Type 0} (a b : A) (r s : List T) → got a r ≡ got b s → (a ≡ b) × (r ≡ s)
+got-parts a b r s e = (cc, cc)
+
+whole-tree : {T A : Type 0} (a : A) (o : Out T A) → whole o ≡ got a [] → o ≡ got a []
+whole-tree a (got b []) e = e
+whole-tree a (got b (t ∷ ts)) e = cc
+whole-tree a (stop fault left) e = e
+
+whole-nothing : {T A : Type 0} (a : A) (rest : List T) (o : Out T A) → whole o ≡ got a rest → rest ≡ []
+whole-nothing a rest (got b []) e = cc
+whole-nothing a rest (got b (t ∷ ts)) e = cc
+whole-nothing a rest (stop fault left) e = cc
+
+whole-deep : {T A : Type 0} (left : ℕ) (o : Out T A) → whole o ≡ stop deep left → o ≡ stop deep left
+whole-deep left (got b []) e = cc
+whole-deep left (got b (t ∷ ts)) e = cc
+whole-deep left (stop fault k) e = e
+
+whole-left_out : {T A : Type 0} (left : ℕ) (o : Out T A) → whole o ≡ stop left_out left → o ≡ stop left_out left
+whole-left_out left (got b []) e = cc
+whole-left_out left (got b (t ∷ ts)) e = cc
+whole-left_out left (stop fault k) e = e
+
+-- a reading that is refused, as a whole source, for a token that could not stand there
+abbrev LostAt : {T A : Type 0} → ℕ → Out T A → Type 0
+LostAt left (got a rest) = length rest ≡ left
+LostAt left (stop lost k) = k ≡ left
+LostAt left (stop deep k) = ⊥
+LostAt left (stop left_out k) = ⊥
+
+whole-lost : {T A : Type 0} (left : ℕ) (o : Out T A) → whole o ≡ stop lost left → LostAt left o
+whole-lost left (got a []) e = cc
+whole-lost left (got a (t ∷ ts)) e = cc
+whole-lost left (stop lost k) e = cc
+whole-lost left (stop deep k) e = cc
+whole-lost left (stop left_out k) e = cc
+
+lost-size : {T A : Type 0} (w left : ℕ) (ts : List T) (o : Out T A) → LostAt left o → Sized w ts o → left ≤ length ts
+lost-size w left ts (got a rest) h s = omega arith
+lost-size w left ts (stop lost k) h s = omega arith
+lost-size w left ts (stop deep k) h s = absurd h
+lost-size w left ts (stop left_out k) h s = absurd h
+
+lost-front : {T A : Type 0} (rest : List T) (o' o : Out T A) → LostAt (length rest) o → Cut rest o' o → Ended o'
+lost-front rest (got a []) o h c = refl
+lost-front {T} {A} rest (got a (t ∷ ts)) o h c =
+    let k : LostAt (length rest) (got a (t ∷ (ts ++ rest))) = rw c at h in absurd (omega (arith, length-append ts rest))
+lost-front rest (stop lost zero) o h c = refl
+lost-front {T} {A} rest (stop lost (suc j)) o h c =
+    let k : suc j + length rest ≡ length rest = rw c at h in absurd (omega arith)
+lost-front rest (stop deep j) o h c = absurd (rw c at h)
+lost-front rest (stop left_out j) o h c = absurd (rw c at h)
+
+lost-late : {T A : Type 0} (more : List T) (o : Out T A) → LostAt (suc (length more)) o → Late more o → ⊥
+lost-late more (got a rest) h l = omega arith
+lost-late more (stop lost k) h l = omega arith
+lost-late more (stop deep k) h l = h
+lost-late more (stop left_out k) h l = h
+
+lost-next : {T A : Type 0} (more : List T) (o' o : Out T A) → LostAt (suc (length more)) o → Cut more o' o → Ended o' → ⊥
+lost-next more (got a []) o h c e = lost-late more o h c
+lost-next more (got a (t ∷ ts)) o h c e = cc
+lost-next more (stop lost zero) o h c e = lost-late more o h c
+lost-next more (stop lost (suc j)) o h c e = omega arith
+lost-next more (stop deep j) o h c e = e
+lost-next more (stop left_out j) o h c e = e
+
+-- on any number of levels
+lost-any : {T A : Type 0} (more : List T) (o' o x : Out T A) → LostAt (suc (length more)) o → Cut more o' o → Below o' x → Ended x → ⊥
+lost-any more (got a rest) o x h c b e = lost-next more (got a rest) o h c (rw b at e)
+lost-any more (stop lost k) o x h c b e = lost-next more (stop lost k) o h c (rw b at e)
+lost-any more (stop deep k) o x h c b e = rw c at h
+lost-any more (stop left_out k) o x h c b e = lost-next more (stop left_out k) o h c (rw b at e)
+
+whole-ended : {T A : Type 0} (o : Out T A) → whole o ≡ stop lost 0 → Ended o
+whole-ended (got a []) e = refl
+whole-ended (got a (t ∷ ts)) e = cc
+whole-ended (stop lost k) e = cc
+whole-ended (stop deep k) e = cc
+whole-ended (stop left_out k) e = cc
+
+ended-whole : {T A : Type 0} (o : Out T A) → Ended o → ((a : A) → o ≡ got a [] → ⊥) → whole o ≡ stop lost 0
+ended-whole (got a rest) e n = absurd (n a (ap (λ z. got a z) e))
+ended-whole (stop lost k) e n = ap (λ (j : ℕ). stop lost j) e
+ended-whole (stop deep k) e n = absurd e
+ended-whole (stop left_out k) e n = absurd e
+
+refused-here : {T A : Type 0} (w : ℕ) (front : List T) (next : T) (more : List T) (o'' o' o : Out T A) → Ended o'' → Cut (next ∷ []) o'' o' → Sized w front o' → (Ended o' → ⊥) → Cut more o' o → RefusedAt (suc (length more)) (whole o)
+refused-here w front next more o'' (got a []) o e c s n d = absurd (n refl)
+refused-here {T} {A} w front next more o'' (got a (t ∷ ts)) o e c s n d = go o'' e c
+  where
+    none : (ts : List T) → length ts ≤ 0 → ts ≡ []
+    none [] l = refl
+    none (x ∷ xs) l = absurd (omega arith)
+    go : (x : Out T A) → Ended x → Cut (next ∷ []) x (got a (t ∷ ts)) → RefusedAt (suc (length more)) (whole o)
+    go (got b []) e c = let l : length ts ≤ 0 = omega arith in let k : ts ≡ [] = none ts l in inl (rw (d, k))
+    go (got b (x ∷ xs)) e c = absurd (cons_nil e)
+      where
+        cons_nil : (x ∷ xs) ≡ [] → ⊥
+        cons_nil q = cc
+    go (stop lost zero) e c = let l : length ts ≤ 0 = omega arith in let k : ts ≡ [] = none ts l in inl (rw (d, k))
+    go (stop lost (suc j)) e c = absurd (omega arith)
+    go (stop deep j) e c = absurd e
+    go (stop left_out j) e c = absurd e
+refused-here w front next more o'' (stop lost zero) o e c s n d = absurd (n refl)
+refused-here {T} {A} w front next more o'' (stop lost (suc k)) o e c s n d = go o'' e c
+  where
+    at : suc k ≤ 1 → RefusedAt (suc (length more)) (whole o)
+    at l = let q : suc k + length more ≡ suc (length more) = omega arith in inl (rw (d, q))
+    go : (x : Out T A) → Ended x → Cut (next ∷ []) x (stop lost (suc k)) → RefusedAt (suc (length more)) (whole o)
+    go (got b []) e c = at c
+    go (got b (x ∷ xs)) e c = cc
+    go (stop lost zero) e c = at c
+    go (stop lost (suc j)) e c = absurd (omega arith)
+    go (stop deep j) e c = absurd e
+    go (stop left_out j) e c = absurd e
+refused-here {T} {A} w front next more o'' (stop deep k) o e c s n d = go o'' e c
+  where
+    at : k ≤ 1 → RefusedAt (suc (length more)) (whole o)
+    at l = let q : k + length more ≡ suc (length more) = omega arith in inr (inl (rw (d, q)))
+    go : (x : Out T A) → Ended x → Cut (next ∷ []) x (stop deep k) → RefusedAt (suc (length more)) (whole o)
+    go (got b []) e c = at c
+    go (got b (x ∷ xs)) e c = cc
+    go (stop lost zero) e c = at c
+    go (stop lost (suc j)) e c = absurd (omega arith)
+    go (stop deep j) e c = absurd e
+    go (stop left_out j) e c = absurd e
+refused-here w front next more o'' (stop left_out k) o e c s n d = inr (inr (k + length more, rw d, omega arith))
+
+inside : {T A : Type 0} (w : ℕ) (ts : List T) (o : Out T A) (fault : Fault) (left : ℕ) → Sized w ts o → whole o ≡ stop fault left → (left ≤ length ts) × (left ≡ 0 → fault ≡ lost)
+inside w ts (got a []) fault left s e = cc
+inside w ts (got a (t ∷ rest)) fault left s e = let l : left ≡ suc (length rest) = cc in (omega arith, λ z. cc)
+inside w ts (stop lost k) fault left s e = let l : left ≡ k = cc in (omega arith, λ z. cc)
+inside w ts (stop deep k) fault left s e = let l : left ≡ k = cc in (omega arith, λ z. absurd (omega arith))
+inside w ts (stop left_out k) fault left s e = let l : left ≡ k = cc in (omega arith, λ z. absurd (omega arith))
+
+lost-got : {T A : Type 0} (left : ℕ) (a : A) (rest : List T) → stop lost left ≡ got a rest → ⊥
+lost-got left a rest e = cc
+
+module _ (t : Table) where
+  says : (n : ℕ) (p : t.Name) (ts : List t.Token) (o : Out t.Token (t.tree_of p)) → reader t.grammar n p ts ≡ o → Says_of (ReadsAt t.grammar n p) (MeetsAt t.grammar n p) ts o
+  says n p ts o e = rw e at (reader-sound t.grammar t.eating t.advancing n p ts)
+
+  tree-of : (n : ℕ) (p : t.Name) (a : t.tree_of p) (ts rest : List t.Token) → ReadsAt t.grammar n p a ts rest → reader t.grammar n p ts ≡ got a rest
+  tree-of n p a ts rest h = reader-tree t.grammar t.eating t.advancing n p a ts rest h
+
+  fault-of : (n : ℕ) (p : t.Name) (fault : Fault) (ts : List t.Token) (left : ℕ) → MeetsAt t.grammar n p fault ts left → reader t.grammar n p ts ≡ stop fault left
+  fault-of n p fault ts left h = reader-fault t.grammar t.eating t.advancing n p fault ts left h
+
+  pub reads_what_is_spelled : ReadsWhatIsSpelled t
+  reads_what_is_spelled n p a ts rest = (λ e. says n p ts (got a rest) e, λ h. tree-of n p a ts rest h)
+
+  pub has_one_tree : HasOneTree t
+  has_one_tree n p a b ts rest end h k = got-parts a b rest end (sym (tree-of n p a ts rest h) ∙ tree-of n p b ts end k)
+
+  pub refuses_what_is_met : RefusesWhatIsMet t
+  refuses_what_is_met n p fault ts left = (λ e. says n p ts (stop fault left) e, λ h. fault-of n p fault ts left h)
+
+  pub accepts_whole_sources : AcceptsWholeSources t
+  accepts_whole_sources n p a ts = (λ e. says n p ts (got a []) (whole-tree a (reader t.grammar n p ts) e), λ h. rw (tree-of n p a ts [] h))
+
+  pub leaves_nothing : LeavesNothing t
+  leaves_nothing n p a ts rest e = whole-nothing a rest (reader t.grammar n p ts) e
+
+  pub ends_too_soon : EndsTooSoon t
+  ends_too_soon n p ts =
+      (λ e. (reader-begins t.grammar t.eating t.advancing n p ts (whole-ended (reader t.grammar n p ts) e),
+             λ a h. let k : whole (reader t.grammar n p ts) ≡ got a [] = rw (tree-of n p a ts [] h) in lost-got 0 a [] (sym e ∙ k)),
+       λ h. ended-whole (reader t.grammar n p ts) (reader-ended t.grammar t.eating t.advancing n p ts h.0) (λ a e. h.1 a (says n p ts (got a []) e)))
+
+  first-of : (n : ℕ) (p : t.Name) (front rest : List t.Token) → LostAt (length rest) (reader t.grammar n p (front ++ rest)) → BeginsAt t.grammar n p front × ((next : t.Token) (more : List t.Token) → rest ≡ next ∷ more → (any : ℕ) → BeginsAt t.grammar any p (front ++ next ∷ []) → ⊥)
+  first-of n p front rest h =
+      (reader-begins t.grammar t.eating t.advancing n p front (lost-front rest (reader t.grammar n p front) (reader t.grammar n p (front ++ rest)) h (cut-reader t.grammar t.eating t.advancing n p front rest)),
+       λ next more e any b.
+         let h' : LostAt (suc (length more)) (reader t.grammar n p (front ++ (next ∷ more))) = rw e at h in
+         let h'' : LostAt (suc (length more)) (reader t.grammar n p ((front ++ next ∷ []) ++ more)) = rw append_assoc h' in
+         let x : Ended (reader t.grammar any p (front ++ next ∷ [])) = reader-ended t.grammar t.eating t.advancing any p (front ++ next ∷ []) b in
+         let y : Ended (reader t.grammar (n + any) p (front ++ next ∷ [])) = ended-below (reader t.grammar any p (front ++ next ∷ [])) (reader t.grammar (n + any) p (front ++ next ∷ [])) (reader-below t.grammar t.eating any n p (front ++ next ∷ [])) x in
+         let z : Ended (reader t.grammar (any + n) p (front ++ next ∷ [])) = rw (add_comm n any) at y in
+         lost-any more (reader t.grammar n p (front ++ next ∷ [])) (reader t.grammar n p ((front ++ next ∷ []) ++ more)) (reader t.grammar (any + n) p (front ++ next ∷ [])) h'' (cut-reader t.grammar t.eating t.advancing n p (front ++ next ∷ []) more) (reader-below t.grammar t.eating n any p (front ++ next ∷ [])) z)
+
+  pub fault_is_first : FaultIsFirst t
+  fault_is_first n p ts left e =
+      let h : LostAt left (reader t.grammar n p ts) = whole-lost left (reader t.grammar n p ts) e in
+      let l : left ≤ length ts = lost-size 1 left ts (reader t.grammar n p ts) h (size-reader t.grammar t.eating n p ts) in
+      let front : List t.Token = take (length ts - left) ts in
+      let rest : List t.Token = drop (length ts - left) ts in
+      let split : ts ≡ front ++ rest = sym (take-append-drop (length ts - left) ts) in
+      let size : length rest ≡ left = omega (arith, length-drop (length ts - left) ts) in
+      let h' : LostAt (length rest) (reader t.grammar n p (front ++ rest)) = rw (size, take-append-drop (length ts - left) ts) h in
+      let r : BeginsAt t.grammar n p front × ((next : t.Token) (more : List t.Token) → rest ≡ next ∷ more → (any : ℕ) → BeginsAt t.grammar any p (front ++ next ∷ []) → ⊥) = first-of n p front rest h' in
+      (front, rest, split, size, r.0, r.1)
+
+  pub first_is_refused : FirstIsRefused t
+  first_is_refused n p front next more h k =
+      let o : List t.Token → Out t.Token (t.tree_of p) = reader t.grammar n p in
+      let r : RefusedAt (suc (length more)) (whole (o ((front ++ next ∷ []) ++ more))) =
+        refused-here 1 (front ++ next ∷ []) next more (o front) (o (front ++ next ∷ [])) (o ((front ++ next ∷ []) ++ more))
+        (reader-ended t.grammar t.eating t.advancing n p front h)
+        (cut-reader t.grammar t.eating t.advancing n p front (next ∷ []))
+        (size-reader t.grammar t.eating n p (front ++ next ∷ []))
+        (λ e. k (reader-begins t.grammar t.eating t.advancing n p (front ++ next ∷ []) e))
+        (cut-reader t.grammar t.eating t.advancing n p (front ++ next ∷ []) more) in
+      rw append_assoc at r
+
+  pub is_too_deep : IsTooDeep t
+  is_too_deep n p ts left = (λ e. says n p ts (stop deep left) (whole-deep left (reader t.grammar n p ts) e), λ h. rw (fault-of n p deep ts left h))
+
+  pub is_left_out : IsLeftOut t
+  is_left_out n p ts left = (λ e. says n p ts (stop left_out left) (whole-left_out left (reader t.grammar n p ts) e), λ h. rw (fault-of n p left_out ts left h))
+
+  pub only_depth_needs_levels : OnlyDepthNeedsLevels t
+  only_depth_needs_levels n more p ts h = go (reader t.grammar n p ts) (reader-below t.grammar t.eating n more p ts) h
+    where
+      go : (x : Out t.Token (t.tree_of p)) → Below x (reader t.grammar (more + n) p ts) → ((left : ℕ) → x ≡ stop deep left → ⊥) → reader t.grammar (more + n) p ts ≡ x
+      go (got a rest) b d = b
+      go (stop lost k) b d = b
+      go (stop deep k) b d = absurd (d k refl)
+      go (stop left_out k) b d = b
+
+  pub places_are_inside : PlacesAreInside t
+  places_are_inside n p ts fault left e = inside 1 ts (reader t.grammar n p ts) fault left (size-reader t.grammar t.eating n p ts) e
+
+  pub classes_are_firsts : ClassesAreFirsts t
+  classes_are_firsts p = chooses t.grammar t.eating t.advancing t.reach (t.grammar p) (t.advancing p) (t.heeding p)
+
+  pub spells_without_classes : SpellsWithoutClasses t
+  spells_without_classes n p a ts rest =
+      (λ s. spells-reads t.grammar t.eating t.advancing t.reach t.heeding n p a ts rest s, λ s. reads-spells t.grammar t.eating t.advancing t.reach t.heeding n p a ts rest s)
+
+  pub begins_without_classes : BeginsWithoutClasses t
+  begins_without_classes n p ts =
+      (λ s. opens-begins t.grammar t.eating t.advancing t.reach t.heeding n p ts s, λ s. begins-opens t.grammar t.eating t.advancing t.reach t.heeding n p ts s)
