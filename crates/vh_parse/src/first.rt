@@ -2,6 +2,7 @@ ghost use Rattle.std.specs.Prelude.{◌≡◌, Some, None, IfOk};
 ghost use Rattle.vh_parse.specs.Meaning.{first_of};
 
 use crate::fault::FirstFault;
+use crate::{lexer, meaning, parser};
 use std::alloc::Global;
 use vh_base::First;
 
@@ -11,5 +12,7 @@ pub fn parse_first(alloc: Global, bytes: &[u8]) -> Result<First, FirstFault>
     ensures built { IfOk result (λ design. first_of bytes.now ≡ Some design) }
     ensures not_built { result ≡ Err FirstFault.NotBuilt → first_of bytes.now ≡ None }
 {
-    Err(FirstFault::NoMemory)
+    let tokens = lexer::tokens(alloc, bytes)?;
+    let module = parser::source(alloc, &tokens)?;
+    meaning::design(alloc, &module)
 }
