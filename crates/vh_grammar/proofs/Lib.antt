@@ -5,3 +5,4 @@ pub mod Starts
 pub mod Levels
 pub mod Laws
 pub mod Choices
+pub mod Turns

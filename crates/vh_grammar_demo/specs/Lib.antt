@@ -1,0 +1,4 @@
+pub mod Token
+pub mod Trees
+pub mod Views
+pub mod Grammar
