@@ -52,8 +52,11 @@ unfoldable pub one_step : Bool → PathTree → G PathTree
 one_step true p = dotted p
 one_step false p = alt (is_sign sign.Dot) (dotted p) (bracketed p)
 
+abbrev pub goes_with : Bool → Token → Bool
+goes_with indexed t = is_sign sign.Dot t || (not indexed && is_sign sign.OpenBracket t)
+
 abbrev pub goes_on : PathTree → Token → Bool
-goes_on p t = is_sign sign.Dot t || (not p.indexed && is_sign sign.OpenBracket t)
+goes_on p t = goes_with p.indexed t
 
 abbrev pub steps : PathTree → G PathTree
 steps p = iter goes_on (λ q. one_step q.indexed q) p

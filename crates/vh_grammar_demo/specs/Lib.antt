@@ -2,3 +2,4 @@ pub mod Token
 pub mod Trees
 pub mod Views
 pub mod Grammar
+pub mod Table
