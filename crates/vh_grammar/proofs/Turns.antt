@@ -1,8 +1,8 @@
 -- A repetition turn by turn, for the loops of a parser: what one turn, a fault in it and the end make of
 -- the reading.
-use Rattle.std.proofs.Common.{◌≡◌, ℕ, zero, suc, ◌+◌, ◌<◌, ◌≤◌, Bool, true, false, cond, List, [], ◌∷◌, length, refl, sym, ap, ◌∙◌, arith}
+use Rattle.std.proofs.Common.{◌≡◌, ℕ, zero, suc, ◌+◌, ◌<◌, ◌≤◌, Bool, true, false, cond, List, [], ◌∷◌, ◌++◌, length, refl, sym, ap, ◌∙◌, arith, append_assoc, append-nil}
 use Rattle.vh_grammar.specs.Part.{Part, rep, iter}
-use Rattle.vh_grammar.specs.Reading.{Fault, Out, got, stop, then_, next_is, many, turns, run, reader, read}
+use Rattle.vh_grammar.specs.Reading.{Fault, Out, got, stop, then_, next_is, many, turns, run, reader, read, joined}
 use Rattle.vh_grammar.specs.Conditions.{eats}
 use Rattle.vh_grammar.proofs.Size.{weight, Sized, size-run, size-reader}
 
@@ -43,6 +43,10 @@ module _ {T P : Type 0} {V : P → Type 0} (grammar : (p : P) → Part T V (V p)
   short-read : {A : Type 0} (n : ℕ) (p : Part T V A) → eats p ≡ true → (ts : List T) → Sized 1 ts (read grammar n p ts)
   short-read n p e ts = rw e at (size-run (reader grammar n) (size-reader grammar eating n) p ts)
 
+  -- what reading a part that eats leaves is shorter
+  pub read_less : {A : Type 0} (n : ℕ) (p : Part T V A) → eats p ≡ true → (ts : List T) (a : A) (mid : List T) → read grammar n p ts ≡ got a mid → length mid < length ts
+  read_less n p e ts a mid r = mid-size ts mid a (read grammar n p ts) r (short-read n p e ts)
+
   -- a repetition ends where no token of its class is next
   pub rep_end : {A : Type 0} (n : ℕ) (class : T → Bool) (p : Part T V A) (ts : List T) → next_is class ts ≡ false → read grammar n (rep class p) ts ≡ got [] ts
   rep_end n class p [] c = refl
@@ -54,6 +58,21 @@ module _ {T P : Type 0} {V : P → Type 0} (grammar : (p : P) → Part T V (V p)
   rep_turn {A} n class p e (t ∷ ts) a mid c r =
       let l : suc (length mid) ≤ suc (length ts) = mid-size (t ∷ ts) mid a (read grammar n p (t ∷ ts)) r (short-read n p e (t ∷ ts)) in
       rw (c, r, many-same (read grammar n p) class (short-read n p e) (length ts) (length mid) mid (omega arith) (omega arith)) refl
+
+  -- the invariant of a loop over a repetition: at its start, after a turn and at its end
+  pub joined_none : {A : Type 0} (o : Out T (List A)) → joined [] o ≡ o
+  joined_none (got list rest) = refl
+  joined_none (stop fault left) = refl
+
+  pub joined_turn : {A : Type 0} (n : ℕ) (class : T → Bool) (p : Part T V A) → eats p ≡ true → (front : List A) (ts : List T) (a : A) (mid : List T) → next_is class ts ≡ true → read grammar n p ts ≡ got a mid → joined front (read grammar n (rep class p) ts) ≡ joined (front ++ a ∷ []) (read grammar n (rep class p) mid)
+  joined_turn {A} n class p e front ts a mid c r = ap (λ (o : Out T (List A)). joined front o) (rep_turn n class p e ts a mid c r) ∙ go (read grammar n (rep class p) mid)
+    where
+      go : (o : Out T (List A)) → joined front (then_ o (λ more rest. got (a ∷ more) rest)) ≡ joined (front ++ a ∷ []) o
+      go (got more rest) = ap (λ (z : List A). got z rest) (sym (append_assoc front (a ∷ []) more))
+      go (stop fault left) = refl
+
+  pub joined_end : {A : Type 0} (n : ℕ) (class : T → Bool) (p : Part T V A) (front : List A) (ts : List T) → next_is class ts ≡ false → joined front (read grammar n (rep class p) ts) ≡ got front ts
+  joined_end {A} n class p front ts c = rw (rep_end n class p ts c) (ap (λ (z : List A). got z ts) (append-nil front))
 
   -- a fault in a turn of a repetition
   pub rep_fault : {A : Type 0} (n : ℕ) (class : T → Bool) (p : Part T V A) (ts : List T) (fault : Fault) (left : ℕ) → next_is class ts ≡ true → read grammar n p ts ≡ stop fault left → read grammar n (rep class p) ts ≡ stop fault left

@@ -1,13 +1,13 @@
 -- The grammar of the small language.
-use Rattle.std.specs.Prelude.{◌≡◌, ℕ, zero, suc, Bool, true, false, not, ◌&&◌, ◌||◌, is_some, List, [], ◌∷◌, map, Option, Some, None, refl}
+use Rattle.std.specs.Prelude.{◌≡◌, ℕ, zero, suc, Bool, true, false, not, ◌&&◌, ◌||◌, is_some, List, [], ◌∷◌, ◌++◌, map, Option, Some, None, refl}
 use Rattle.vh_grammar.specs.Part.{Part, done, tok, seq, bind, act, alt, rep, iter, nested, unless, barred, only, opt, two, after, before}
-use Rattle.vh_grammar.specs.Reading.{Out, read}
+use Rattle.vh_grammar.specs.Reading.{Out, got, then_, read}
 use Rattle.vh_grammar_demo.specs.declared.token.Sign.{Sign}
 use Rattle.vh_grammar_demo.specs.declared.token.Sign.TheVariants as sign
 use Rattle.vh_grammar_demo.specs.declared.token.Token.{Token}
 use Rattle.vh_grammar_demo.specs.declared.tree.Step.TheVariants as step
 use Rattle.vh_grammar_demo.specs.declared.tree.Operator.{Operator}
-use Rattle.vh_grammar_demo.specs.Token.{is_sign, number_of, name_of, operator_at}
+use Rattle.vh_grammar_demo.specs.Token.{is_sign, number_of, name_of, operator_at, is_operator}
 use Rattle.vh_grammar_demo.specs.Trees.{PathTree, with_name, with_index, ExprTree, number, place, StmtTree, empty, assign, conditional, block, stmts, chained, branches}
 
 -- the productions (own)
@@ -61,8 +61,11 @@ goes_on p t = goes_with p.indexed t
 abbrev pub steps : PathTree → G PathTree
 steps p = iter goes_on (λ q. one_step q.indexed q) p
 
+abbrev pub path_start : G PathTree
+path_start = tok (λ t. named t.place (name_of t.kind))
+
 unfoldable pub path : G PathTree
-path = bind (tok (λ t. named t.place (name_of t.kind))) steps
+path = bind path_start steps
 
 -- a path that is no call: a call, shown by the `(` behind it, is left out (own)
 unfoldable pub place_only : G PathTree
@@ -83,7 +86,7 @@ abbrev pub link_with : ℕ → G ExprTree → G (Operator × ExprTree)
 link_with level lower = seq (tok (λ t. operator_at level t.kind)) lower
 
 abbrev pub links_with : ℕ → G ExprTree → G (List Operator × List ExprTree)
-links_with level lower = act halves (rep (λ t. is_some (operator_at level t.kind)) (link_with level lower))
+links_with level lower = act halves (rep (is_operator level) (link_with level lower))
 
 unfoldable pub chain_at : ℕ → G ExprTree
 chain_at zero = operand
@@ -137,3 +140,7 @@ grammar stmt = statement
 -- reads a part with so many levels left (own)
 abbrev pub reads : {A : Type 0} → ℕ → G A → List Token → Out Token A
 reads levels part ts = read grammar levels part ts
+
+-- the links that a loop has read already, in front of those that it has still to read (own)
+abbrev pub links_joined : List Operator → List ExprTree → Out Token (List Operator × List ExprTree) → Out Token (List Operator × List ExprTree)
+links_joined operators operands o = then_ o (λ more rest. got (operators ++ more.0, operands ++ more.1) rest)

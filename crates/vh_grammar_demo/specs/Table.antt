@@ -40,7 +40,7 @@ eating expr = chain_eats 2
 eating stmt = refl
 
 -- what is chosen by its class takes a token (own)
-steps_advance : (b : Bool) (p : PathTree) → (eats (one_step b p) ≡ true) × Advances (one_step b p)
+pub steps_advance : (b : Bool) (p : PathTree) → (eats (one_step b p) ≡ true) × Advances (one_step b p)
 unfolding one_step dotted bracketed
 steps_advance true p = (refl, (tt, tt))
 steps_advance false p = (refl, (refl, (tt, tt), (tt, (tt, tt))))

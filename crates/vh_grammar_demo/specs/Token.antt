@@ -1,5 +1,5 @@
 -- The classes of the small language's tokens.
-use Rattle.std.specs.Prelude.{ℕ, zero, suc, Bool, true, false, nat_eq, Option, Some, None}
+use Rattle.std.specs.Prelude.{ℕ, zero, suc, Bool, true, false, nat_eq, is_some, Option, Some, None, List, [], ◌∷◌}
 use Rattle.vh_grammar_demo.specs.declared.token.Sign.{Sign}
 use Rattle.vh_grammar_demo.specs.declared.token.Sign.TheVariants.{Plus, Minus, Times, Assign, Open, Close, OpenBrace, CloseBrace, OpenBracket, CloseBracket, Dot, Semicolon, If, Else, While}
 use Rattle.vh_grammar_demo.specs.declared.token.Kind.{Kind}
@@ -60,3 +60,12 @@ abbrev pub operator_at : ℕ → Kind → Option Operator
 operator_at level (Number n) = None
 operator_at level (Name n) = None
 operator_at level (Fixed sign) = operator_of level sign
+
+-- the token is an operator of the level (own)
+abbrev pub is_operator : ℕ → Token → Bool
+is_operator level t = is_some (operator_at level t.kind)
+
+-- the operator of the level that is next, if one is (own)
+abbrev pub operator_next : ℕ → List Token → Option Operator
+operator_next level [] = None
+operator_next level (t ∷ ts) = operator_at level t.kind

@@ -1,8 +1,10 @@
 -- The trees of the code as those of the grammar: without pointers.
-use Rattle.std.specs.Prelude.{List, map}
+use Rattle.std.specs.Prelude.{List, map, Vec}
 use Rattle.vh_grammar_demo.specs.declared.tree.Path.{Path}
 use Rattle.vh_grammar_demo.specs.declared.tree.Expr.{Expr, fold-Expr}
 use Rattle.vh_grammar_demo.specs.declared.tree.Expr.TheOpen as e
+use Rattle.vh_grammar_demo.specs.declared.tree.Operator.{Operator}
+use Rattle.vh_grammar_demo.specs.declared.tree.Links.{Links}
 use Rattle.vh_grammar_demo.specs.declared.tree.Stmt.{Stmt, fold-Stmt}
 use Rattle.vh_grammar_demo.specs.declared.tree.Stmt.TheOpen as s
 use Rattle.vh_grammar_demo.specs.Trees.{PathTree, ExprTree, number, place, chain, StmtTree, empty, assign, conditional, block, exprs, stmts}
@@ -20,6 +22,13 @@ expr_layer (e.Chain first operators operands) = chain first.value operators.item
 abbrev pub expr_tree : Expr → ExprTree
 expr_tree = fold-Expr ExprTree expr_layer
 
+-- an operator with the operand behind it, and several (own)
+abbrev pub link_tree : Operator × Expr → Operator × ExprTree
+link_tree l = (l.0, expr_tree l.1)
+
+abbrev pub links_tree : Links → List Operator × List ExprTree
+links_tree l = (l.operators.items, map expr_tree l.operands.items)
+
 -- a statement of the code (own)
 abbrev pub stmt_layer : s.Stmt-F StmtTree → StmtTree
 stmt_layer s.Empty = empty
@@ -29,3 +38,6 @@ stmt_layer (s.Block parts) = block (stmts parts.items)
 
 abbrev pub stmt_tree : Stmt → StmtTree
 stmt_tree = fold-Stmt StmtTree stmt_layer
+
+abbrev pub stmt_trees : {A : Type 0} → Vec Stmt A → List StmtTree
+stmt_trees all = map stmt_tree all.items

@@ -13,4 +13,4 @@ mod tree;
 
 pub use parser::read;
 pub use token::{Kind, Sign, Token};
-pub use tree::{Expr, Operator, Path, Step, Stmt};
+pub use tree::{Expr, Links, Operator, Path, Step, Stmt};

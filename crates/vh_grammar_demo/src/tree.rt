@@ -23,6 +23,13 @@ pub enum Operator {
     Multiply,
 }
 
+/// Operators, with the operand behind each.
+#[derive(Drop)]
+pub struct Links {
+    pub operators: Vec<Operator>,
+    pub operands: Vec<Expr>,
+}
+
 /// An expression. A chain is flat: its first operand, and operators with the operands behind them.
 #[derive(Drop)]
 pub enum Expr {
