@@ -4,7 +4,7 @@ use Rattle.vh_grammar.specs.Part.{Part}
 use Rattle.vh_grammar.specs.Reading.{Fault, lost, deep, left_out, Out, got, stop, reader, whole}
 use Rattle.vh_grammar.specs.Sentences.{ReadsAt, BeginsAt, MeetsAt}
 use Rattle.vh_grammar.specs.Table.{Table, source}
-use Rattle.vh_grammar.specs.Laws.{ReadsWhatIsSpelled, HasOneTree, RefusesWhatIsMet, AcceptsWholeSources, LeavesNothing, EndsTooSoon, FaultIsFirst, RefusedAt, FirstIsRefused, IsTooDeep, IsLeftOut, OnlyDepthNeedsLevels, PlacesAreInside, ClassesAreFirsts, SpellsWithoutClasses, BeginsWithoutClasses}
+use Rattle.vh_grammar.specs.Laws.{ReadsWhatIsSpelled, HasOneTree, RefusesWhatIsMet, AcceptsWholeSources, LeavesNothing, EndsTooSoon, FrontBegins, FaultIsFirst, RefusedAt, FirstIsRefused, IsTooDeep, IsLeftOut, OnlyDepthNeedsLevels, PlacesAreInside, ClassesAreFirsts, SpellsWithoutClasses, BeginsWithoutClasses}
 use Rattle.vh_grammar.proofs.Size.{Sized, size-reader}
 use Rattle.vh_grammar.proofs.Outcomes.{Says_of, reader-sound, reader-tree, reader-fault}
 use Rattle.vh_grammar.proofs.Places.{Late, Cut, cut-reader}
@@ -78,6 +78,27 @@ lost-next more (stop lost zero) o h c e = lost-late more o h c
 lost-next more (stop lost (suc j)) o h c e = omega arith
 lost-next more (stop deep j) o h c e = e
 lost-next more (stop left_out j) o h c e = e
+
+deep-front : {T A : Type 0} (w : ℕ) (front rest : List T) (o' o : Out T A) → o ≡ stop deep (length rest) → Sized w front o' → Cut rest o' o → Ended o'
+deep-front w front rest (got a []) o h s c = refl
+deep-front w front rest (got a (t ∷ ts)) o h s c = cc
+deep-front w front rest (stop lost zero) o h s c = refl
+deep-front w front rest (stop lost (suc j)) o h s c = cc
+deep-front w front rest (stop deep j) o h s c = let e : j + length rest ≡ length rest = cc in absurd (omega arith)
+deep-front w front rest (stop left_out j) o h s c = cc
+
+left_out-front : {T A : Type 0} (w : ℕ) (front rest : List T) (o' o : Out T A) → o ≡ stop left_out (length rest) → Sized w front o' → Cut rest o' o → Ended o'
+left_out-front w front rest (got a []) o h s c = refl
+left_out-front w front rest (got a (t ∷ ts)) o h s c = cc
+left_out-front w front rest (stop lost zero) o h s c = refl
+left_out-front w front rest (stop lost (suc j)) o h s c = cc
+left_out-front w front rest (stop deep j) o h s c = cc
+left_out-front w front rest (stop left_out j) o h s c = let e : j + length rest ≡ length rest = cc in absurd (omega arith)
+
+whole-front : {T A : Type 0} (w : ℕ) (front rest : List T) (fault : Fault) (o' o : Out T A) → whole o ≡ stop fault (length rest) → Sized w front o' → Cut rest o' o → Ended o'
+whole-front w front rest lost o' o e s c = lost-front rest o' o (whole-lost (length rest) o e) c
+whole-front w front rest deep o' o e s c = deep-front w front rest o' o (whole-deep (length rest) o e) s c
+whole-front w front rest left_out o' o e s c = left_out-front w front rest o' o (whole-left_out (length rest) o e) s c
 
 -- on any number of levels
 lost-any : {T A : Type 0} (more : List T) (o' o x : Out T A) → LostAt (suc (length more)) o → Cut more o' o → Below o' x → Ended x → ⊥
@@ -192,6 +213,18 @@ module _ (t : Table) where
          let y : Ended (reader t.grammar (n + any) p (front ++ next ∷ [])) = ended-below (reader t.grammar any p (front ++ next ∷ [])) (reader t.grammar (n + any) p (front ++ next ∷ [])) (reader-below t.grammar t.eating any n p (front ++ next ∷ [])) x in
          let z : Ended (reader t.grammar (any + n) p (front ++ next ∷ [])) = rw (add_comm n any) at y in
          lost-any more (reader t.grammar n p (front ++ next ∷ [])) (reader t.grammar n p ((front ++ next ∷ []) ++ more)) (reader t.grammar (any + n) p (front ++ next ∷ [])) h'' (cut-reader t.grammar t.eating t.advancing n p (front ++ next ∷ []) more) (reader-below t.grammar t.eating n any p (front ++ next ∷ [])) z)
+
+  pub front_begins : FrontBegins t
+  front_begins n p ts fault left e =
+      let l : left ≤ length ts = (inside 1 ts (reader t.grammar n p ts) fault left (size-reader t.grammar t.eating n p ts) e).0 in
+      let front : List t.Token = take (length ts - left) ts in
+      let rest : List t.Token = drop (length ts - left) ts in
+      let split : ts ≡ front ++ rest = sym (take-append-drop (length ts - left) ts) in
+      let size : length rest ≡ left = omega (arith, length-drop (length ts - left) ts) in
+      let e' : whole (reader t.grammar n p (front ++ rest)) ≡ stop fault (length rest) = rw (size, take-append-drop (length ts - left) ts) e in
+      (front, rest, split, size,
+       reader-begins t.grammar t.eating t.advancing n p front
+       (whole-front 1 front rest fault (reader t.grammar n p front) (reader t.grammar n p (front ++ rest)) e' (size-reader t.grammar t.eating n p front) (cut-reader t.grammar t.eating t.advancing n p front rest)))
 
   pub fault_is_first : FaultIsFirst t
   fault_is_first n p ts left e =

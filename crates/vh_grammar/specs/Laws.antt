@@ -38,6 +38,12 @@ abbrev pub EndsTooSoon : Table → Type 0
 EndsTooSoon t =
     (levels : ℕ) (p : t.Name) (ts : List t.Token) → (source t levels p ts ≡ stop lost 0) ↔ (BeginsAt t.grammar levels p ts × ((a : t.tree_of p) → ReadsAt t.grammar levels p a ts [] → ⊥))
 
+-- the tokens before the place of a fault, of each kind, begin the production (own)
+abbrev pub FrontBegins : Table → Type 0
+FrontBegins t =
+    (levels : ℕ) (p : t.Name) (ts : List t.Token) (fault : Fault) (left : ℕ) → source t levels p ts ≡ stop fault left →
+    (front : List t.Token) × (rest : List t.Token) × (ts ≡ front ++ rest) × (length rest ≡ left) × BeginsAt t.grammar levels p front
+
 -- a token that could not stand there is the first with which the tokens so far don't begin the
 -- production, on however many levels: those before it begin it (own)
 abbrev pub FaultIsFirst : Table → Type 0

@@ -15,7 +15,7 @@
 #![tactic(auto)]
 
 ghost use Rattle.vh_grammar.specs.Table.{Table};
-ghost use Rattle.vh_grammar.specs.Laws.{ReadsWhatIsSpelled, HasOneTree, RefusesWhatIsMet, AcceptsWholeSources, LeavesNothing, EndsTooSoon, FaultIsFirst, FirstIsRefused, IsTooDeep, IsLeftOut, OnlyDepthNeedsLevels, PlacesAreInside, ClassesAreFirsts, SpellsWithoutClasses, BeginsWithoutClasses};
+ghost use Rattle.vh_grammar.specs.Laws.{ReadsWhatIsSpelled, HasOneTree, RefusesWhatIsMet, AcceptsWholeSources, LeavesNothing, EndsTooSoon, FrontBegins, FaultIsFirst, FirstIsRefused, IsTooDeep, IsLeftOut, OnlyDepthNeedsLevels, PlacesAreInside, ClassesAreFirsts, SpellsWithoutClasses, BeginsWithoutClasses};
 
 mod stop;
 
@@ -35,6 +35,7 @@ pub fn exact<G: Grammar>()
     ensures whole { AcceptsWholeSources G.table }
     ensures nothing_left { LeavesNothing G.table }
     ensures too_soon { EndsTooSoon G.table }
+    ensures front { FrontBegins G.table }
     ensures first { FaultIsFirst G.table }
     ensures first_refused { FirstIsRefused G.table }
     ensures too_deep { IsTooDeep G.table }
