@@ -13,7 +13,7 @@ use Rattle.vh_grammar_demo.specs.declared.token.Kind.{Kind}
 use Rattle.vh_grammar_demo.specs.declared.token.Kind.TheVariants.{Number, Name, Fixed}
 use Rattle.vh_grammar_demo.specs.declared.token.Token.{Token}
 use Rattle.vh_grammar_demo.specs.Token.{operator_at}
-use Rattle.vh_grammar_demo.specs.Trees.{PathTree}
+use Rattle.vh_grammar_demo.specs.Trees.{PathTree, StmtTree}
 use Rattle.vh_grammar_demo.specs.Grammar.{Name as Production, expr, stmt, tree_of, G, grammar, dotted, bracketed, one_step, path, place_only, operand, chain_at, expression, inner, otherwise, if_statement, statements, block_statement, assignment, statement, goes_with, link_with}
 
 -- each production takes a token (own)
@@ -174,6 +174,27 @@ pub heeding : (p : Production) (t : Token) → Heeds R (grammar p) t
 heeding expr t = expression_heeds t.kind t.place
 heeding stmt t = statement_heeds t.kind t.place
 
+-- a source is any number of statements (own)
+pub start_advances : Advances statements
+unfolding statements inner
+start_advances = (refl, tt)
+
+pub start_heeds : (t : Token) → Heeds R statements t
+start_heeds t = statements_heed t.kind t.place
+
 -- the table (own)
 abbrev pub arithmetic : Table
-arithmetic = record { Token = Token; Name = Production; tree_of = tree_of; grammar = grammar; eating = eating; advancing = advancing; reach = 1; heeding = heeding }
+arithmetic = record {
+  Token = Token;
+  Name = Production;
+  tree_of = tree_of;
+  grammar = grammar;
+  Source = List StmtTree;
+  start = statements;
+  eating = eating;
+  advancing = advancing;
+  start_advancing = start_advances;
+  reach = 1;
+  heeding = heeding;
+  start_heeding = start_heeds
+}

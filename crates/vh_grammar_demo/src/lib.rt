@@ -7,6 +7,10 @@
 //! The crate stands on `vh_grammar`, and nothing stands on it.
 #![tactic(auto)]
 
+ghost use Rattle.vh_grammar_demo.specs.Table.{arithmetic};
+
+use vh_grammar::Grammar;
+
 mod parser;
 mod token;
 mod tree;
@@ -14,3 +18,10 @@ mod tree;
 pub use parser::read;
 pub use token::{Kind, Sign, Token};
 pub use tree::{Expr, Links, Operator, Path, Step, Stmt};
+
+/// The small language.
+pub struct Arithmetic;
+
+impl Grammar for Arithmetic {
+    ghost table = { arithmetic };
+}

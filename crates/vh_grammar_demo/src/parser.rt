@@ -1,8 +1,8 @@
 //! The parser: a function for each production, which ensures one equation with the reading of its part.
 
-ghost use Rattle.std.specs.Prelude.{◌≡◌, suc, length, option_map};
+ghost use Rattle.std.specs.Prelude.{◌≡◌, suc, length, option_map, IfOk};
 ghost use Rattle.vh_grammar.specs.Part.{nested};
-ghost use Rattle.vh_grammar.specs.Table.{source};
+ghost use Rattle.vh_grammar.specs.Table.{source, IsSource};
 ghost use Rattle.vh_grammar_demo.specs.Table.{arithmetic};
 ghost use Rattle.vh_grammar.specs.Reading.{next_is, whole};
 ghost use Rattle.vh_grammar.specs.Says.{Says, Passes, Accepts};
@@ -12,8 +12,9 @@ ghost use Rattle.vh_grammar_demo.specs.Grammar.{reads, the, a_number, a_name, go
 
 use std::alloc::Global;
 
-use vh_grammar::Stop;
+use vh_grammar::{Stop, exact};
 
+use crate::Arithmetic;
 use crate::token::{self, Kind, Sign, Token};
 use crate::tree::{Expr, Links, Operator, Path, Step, Stmt};
 
@@ -408,10 +409,19 @@ fn statement(alloc: Global, depth: usize, tokens: &[Token]) -> Result<(Stmt, &[T
     assigned(alloc, depth, tokens)
 }
 
-/// Reads a whole source: one statement, with so many levels of nesting.
-pub fn read(alloc: Global, levels: usize, tokens: &[Token]) -> Result<Stmt, Stop>
-    ensures { Accepts stmt_tree (source arithmetic levels stmt tokens.now) result }
+// A whole source: statements, and no token behind them.
+fn all_read(alloc: Global, levels: usize, tokens: &[Token]) -> Result<Vec<Stmt>, Stop>
+    ensures { Accepts stmt_trees (source arithmetic levels tokens.now) result }
 {
-    let (found, rest) = nested_statement(alloc, levels, tokens)?;
-    if rest.is_empty() { Ok(found) } else { Err(Stop::Lost(rest.len())) }
+    let (all, rest) = all_statements(alloc, levels, tokens)?;
+    if rest.is_empty() { Ok(all) } else { Err(Stop::Lost(rest.len())) }
+}
+
+/// Reads a whole source, any number of statements, with so many levels of nesting.
+pub fn read(alloc: Global, levels: usize, tokens: &[Token]) -> Result<Vec<Stmt>, Stop>
+    ensures read { Accepts stmt_trees (source arithmetic levels tokens.now) result }
+    ensures spelled { IfOk result (λ all. IsSource arithmetic levels (stmt_trees all) tokens.now) }
+{
+    exact::<Arithmetic>();
+    all_read(alloc, levels, tokens)
 }
