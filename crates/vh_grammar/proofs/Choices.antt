@@ -7,11 +7,11 @@ use Rattle.vh_grammar.specs.Sentences.{Repeats, AfterTurns, Reads, Begins, Meets
 use Rattle.vh_grammar.specs.Conditions.{eats, Advances}
 use Rattle.vh_grammar.specs.Language.{not_refused, can_begin, Spells, Opens, SpellsAt, OpensAt}
 use Rattle.vh_grammar.specs.Choices.{is_settled, Heeds, IsFirst, ChoosesByFirsts}
-use Rattle.vh_grammar.proofs.Size.{weight, Sized, size-run, size-reader}
-use Rattle.vh_grammar.proofs.Outcomes.{Says_of, run-sound, run-tree, run-fault, reader-sound, reader-tree, reader-fault}
-use Rattle.vh_grammar.proofs.Places.{Cut, cut-run, cut-reader}
-use Rattle.vh_grammar.proofs.Starts.{Ended, ended-size, run-begins, run-ended, reader-begins, reader-ended}
-use Rattle.vh_grammar.proofs.Levels.{Below, ended-below, run-below, reader-below}
+use Rattle.vh_grammar.proofs.Size.{weight, Sized}
+use Rattle.vh_grammar.proofs.Places.{Cut}
+use Rattle.vh_grammar.proofs.Starts.{Ended}
+use Rattle.vh_grammar.proofs.Levels.{Below, ended-below}
+use Rattle.vh_grammar.proofs.Parts.{On, Begun, Met, size-part, cut-part, tree-part, fault-part, sound-part, begins-part, ended-part, begins-none, below-part}
 
 -- what a reading of one token alone says, from a reading of more
 one-tree : {T A : Type 0} (m rest : List T) (t : T) (a : A) (o' o : Out T A) → Cut m o' o → o ≡ got a rest → suc (length rest) ≤ suc (length m) → Ended o'
@@ -88,73 +88,40 @@ turns-map I J E F f g zero s ts h = g s ts h
 turns-map I J E F f g (suc n) s ts h = (h.0, h.1, f s h.0 ts h.1 h.2, turns-map I J E F f g n h.0 h.1 h.3)
 
 module _ {T P : Type 0} {V : P → Type 0} (grammar : (p : P) → Part T V (V p)) (eating : (p : P) → eats (grammar p) ≡ true) (advancing : (p : P) → Advances (grammar p)) (reach : ℕ) where
-  abbrev On : ℕ → {A : Type 0} → Part T V A → A → List T → List T → Type 0
-  On n p a ts rest = Reads (ReadsAt grammar n) p a ts rest
-
-  abbrev Begun : ℕ → {A : Type 0} → Part T V A → List T → Type 0
-  Begun n p ts = Begins (ReadsAt grammar n) (BeginsAt grammar n) p ts
-
-  size-part : {A : Type 0} (n : ℕ) (p : Part T V A) (ts : List T) → Sized (weight (eats p)) ts (run (reader grammar n) p ts)
-  size-part n p ts = size-run (reader grammar n) (size-reader grammar eating n) p ts
-
-  cut-part : {A : Type 0} (n : ℕ) (p : Part T V A) → Advances p → (t : T) (m : List T) → Cut m (run (reader grammar n) p (t ∷ [])) (run (reader grammar n) p (t ∷ m))
-  cut-part n p v t m = cut-run (reader grammar n) (size-reader grammar eating n) (cut-reader grammar eating advancing n) p v (t ∷ []) m
-
-  tree-part : {A : Type 0} (n : ℕ) (p : Part T V A) → Advances p → (a : A) (ts rest : List T) → On n p a ts rest → run (reader grammar n) p ts ≡ got a rest
-  tree-part n p v a ts rest h = run-tree (reader grammar n) (ReadsAt grammar n) (MeetsAt grammar n) (size-reader grammar eating n) (reader-tree grammar eating advancing n) p v a ts rest h
-
-  fault-part : {A : Type 0} (n : ℕ) (p : Part T V A) → Advances p → (fault : Fault) (ts : List T) (left : ℕ) → Meets (ReadsAt grammar n) (MeetsAt grammar n) p fault ts left → run (reader grammar n) p ts ≡ stop fault left
-  fault-part n p v fault ts left h = run-fault (reader grammar n) (ReadsAt grammar n) (MeetsAt grammar n) (size-reader grammar eating n) (reader-tree grammar eating advancing n) (reader-fault grammar eating advancing n) p v fault ts left h
-
-  sound-part : {A : Type 0} (n : ℕ) (p : Part T V A) → Advances p → (ts : List T) → Says_of (On n p) (Meets (ReadsAt grammar n) (MeetsAt grammar n) p) ts (run (reader grammar n) p ts)
-  sound-part n p v ts = run-sound (reader grammar n) (ReadsAt grammar n) (MeetsAt grammar n) (size-reader grammar eating n) (reader-sound grammar eating advancing n) p v ts
-
-  begins-part : {A : Type 0} (n : ℕ) (p : Part T V A) → Advances p → (ts : List T) → Ended (run (reader grammar n) p ts) → Begun n p ts
-  begins-part n p v ts e = run-begins (reader grammar n) (ReadsAt grammar n) (MeetsAt grammar n) (BeginsAt grammar n) (size-reader grammar eating n) (reader-sound grammar eating advancing n) (reader-begins grammar eating advancing n) p v ts e
-
-  ended-part : {A : Type 0} (n : ℕ) (p : Part T V A) → Advances p → (ts : List T) → Begun n p ts → Ended (run (reader grammar n) p ts)
-  ended-part n p v ts h = run-ended (reader grammar n) (ReadsAt grammar n) (MeetsAt grammar n) (BeginsAt grammar n) (size-reader grammar eating n) (reader-tree grammar eating advancing n) (reader-ended grammar eating advancing n) p v ts h
-
-  begins-none : {A : Type 0} (n : ℕ) (p : Part T V A) → Advances p → Begun n p []
-  begins-none n p v = begins-part n p v [] (ended-size (weight (eats p)) (run (reader grammar n) p []) (size-part n p []))
-
-  below-part : {A : Type 0} (n more : ℕ) (p : Part T V A) (ts : List T) → Below (run (reader grammar n) p ts) (run (reader grammar (more + n)) p ts)
-  below-part n more p ts = run-below (reader grammar n) (reader grammar (more + n)) (λ q xs. reader-below grammar eating n more q xs) p ts
-
   below-reach : {A : Type 0} (n : ℕ) (p : Part T V A) (ts : List T) → Below (run (reader grammar n) p ts) (run (reader grammar (n + reach)) p ts)
-  below-reach n p ts = rw (add_comm reach n) at (below-part n reach p ts)
+  below-reach n p ts = rw (add_comm reach n) at (below-part grammar eating advancing n reach p ts)
 
   first-can : {A : Type 0} (n : ℕ) (p : Part T V A) (t : T) → Ended (run (reader grammar n) p (t ∷ [])) → can_begin (reader grammar reach) p t ≡ true
   first-can n p t e =
-      ended-can (run (reader grammar reach) p (t ∷ [])) (run (reader grammar n) p (t ∷ [])) (run (reader grammar (n + reach)) p (t ∷ [])) (below-part reach n p (t ∷ [])) (below-reach n p (t ∷ [])) e
+      ended-can (run (reader grammar reach) p (t ∷ [])) (run (reader grammar n) p (t ∷ [])) (run (reader grammar (n + reach)) p (t ∷ [])) (below-part grammar eating advancing reach n p (t ∷ [])) (below-reach n p (t ∷ [])) e
 
   left-first : {A : Type 0} (n k : ℕ) (p : Part T V A) (t : T) → run (reader grammar n) p (t ∷ []) ≡ stop left_out k → can_begin (reader grammar reach) p t ≡ true
   left-first n k p t e =
-      left-can (run (reader grammar reach) p (t ∷ [])) (run (reader grammar n) p (t ∷ [])) (run (reader grammar (n + reach)) p (t ∷ [])) k (below-part reach n p (t ∷ [])) (below-reach n p (t ∷ [])) e
+      left-can (run (reader grammar reach) p (t ∷ [])) (run (reader grammar n) p (t ∷ [])) (run (reader grammar (n + reach)) p (t ∷ [])) k (below-part grammar eating advancing reach n p (t ∷ [])) (below-reach n p (t ∷ [])) e
 
-  next-tree : {A : Type 0} (n : ℕ) (p : Part T V A) → Advances p → eats p ≡ true → (a : A) (ts rest : List T) → On n p a ts rest → next_is (can_begin (reader grammar reach) p) ts ≡ true
+  next-tree : {A : Type 0} (n : ℕ) (p : Part T V A) → Advances p → eats p ≡ true → (a : A) (ts rest : List T) → On grammar n p a ts rest → next_is (can_begin (reader grammar reach) p) ts ≡ true
   next-tree n p v e a [] rest h =
-      let s : Sized (weight (eats p)) [] (got a rest) = rw (tree-part n p v a [] rest h) at (size-part n p []) in
+      let s : Sized (weight (eats p)) [] (got a rest) = rw (tree-part grammar eating advancing n p v a [] rest h) at (size-part grammar eating advancing n p []) in
       let z : 1 + length rest ≤ 0 = rw e at s in absurd (omega arith)
   next-tree n p v e a (t ∷ m) rest h =
-      let q : run (reader grammar n) p (t ∷ m) ≡ got a rest = tree-part n p v a (t ∷ m) rest h in
-      let s : Sized (weight (eats p)) (t ∷ m) (got a rest) = rw q at (size-part n p (t ∷ m)) in
+      let q : run (reader grammar n) p (t ∷ m) ≡ got a rest = tree-part grammar eating advancing n p v a (t ∷ m) rest h in
+      let s : Sized (weight (eats p)) (t ∷ m) (got a rest) = rw q at (size-part grammar eating advancing n p (t ∷ m)) in
       let z : 1 + length rest ≤ suc (length m) = rw e at s in
-      first-can n p t (one-tree m rest t a (run (reader grammar n) p (t ∷ [])) (run (reader grammar n) p (t ∷ m)) (cut-part n p v t m) q (omega arith))
+      first-can n p t (one-tree m rest t a (run (reader grammar n) p (t ∷ [])) (run (reader grammar n) p (t ∷ m)) (cut-part grammar eating advancing n p v (t ∷ []) m) q (omega arith))
 
-  next-begun : {A : Type 0} (n : ℕ) (p : Part T V A) → Advances p → (t : T) (m : List T) → Begun n p (t ∷ m) → can_begin (reader grammar reach) p t ≡ true
-  next-begun n p v t m h = first-can n p t (one-ended m (run (reader grammar n) p (t ∷ [])) (run (reader grammar n) p (t ∷ m)) (cut-part n p v t m) (ended-part n p v (t ∷ m) h))
+  next-begun : {A : Type 0} (n : ℕ) (p : Part T V A) → Advances p → (t : T) (m : List T) → Begun grammar n p (t ∷ m) → can_begin (reader grammar reach) p t ≡ true
+  next-begun n p v t m h = first-can n p t (one-ended m (run (reader grammar n) p (t ∷ [])) (run (reader grammar n) p (t ∷ m)) (cut-part grammar eating advancing n p v (t ∷ []) m) (ended-part grammar eating advancing n p v (t ∷ m) h))
 
   -- the classes are the first tokens
   class-firsts : {A : Type 0} (p : Part T V A) → Advances p → (class : T → Bool) → ((t : T) → class t ≡ can_begin (reader grammar reach) p t) → ((t : T) → is_settled (run (reader grammar reach) p (t ∷ [])) ≡ true) → (t : T) → (class t ≡ true) ↔ IsFirst grammar p t
-  class-firsts {A} p v class h s t = (λ e. (reach, which (settled-first (weight (eats p)) t (run (reader grammar reach) p (t ∷ [])) (sym (h t) ∙ e) (s t) (size-part reach p (t ∷ [])))), λ f. h t ∙ back f.0 f.1)
+  class-firsts {A} p v class h s t = (λ e. (reach, which (settled-first (weight (eats p)) t (run (reader grammar reach) p (t ∷ [])) (sym (h t) ∙ e) (s t) (size-part grammar eating advancing reach p (t ∷ [])))), λ f. h t ∙ back f.0 f.1)
     where
-      which : Ended (run (reader grammar reach) p (t ∷ [])) ⊎ (run (reader grammar reach) p (t ∷ []) ≡ stop left_out 1) → Begun reach p (t ∷ []) ⊎ Meets (ReadsAt grammar reach) (MeetsAt grammar reach) p left_out (t ∷ []) 1
-      which (inl e) = inl (begins-part reach p v (t ∷ []) e)
-      which (inr e) = inr (rw e at (sound-part reach p v (t ∷ [])))
-      back : (n : ℕ) → Begun n p (t ∷ []) ⊎ Meets (ReadsAt grammar n) (MeetsAt grammar n) p left_out (t ∷ []) 1 → can_begin (reader grammar reach) p t ≡ true
+      which : Ended (run (reader grammar reach) p (t ∷ [])) ⊎ (run (reader grammar reach) p (t ∷ []) ≡ stop left_out 1) → Begun grammar reach p (t ∷ []) ⊎ Meets (ReadsAt grammar reach) (MeetsAt grammar reach) p left_out (t ∷ []) 1
+      which (inl e) = inl (begins-part grammar eating advancing reach p v (t ∷ []) e)
+      which (inr e) = inr (rw e at (sound-part grammar eating advancing reach p v (t ∷ [])))
+      back : (n : ℕ) → Begun grammar n p (t ∷ []) ⊎ Meets (ReadsAt grammar n) (MeetsAt grammar n) p left_out (t ∷ []) 1 → can_begin (reader grammar reach) p t ≡ true
       back n (inl b) = next-begun n p v t [] b
-      back n (inr b) = left-first n 1 p t (fault-part n p v left_out (t ∷ []) 1 b)
+      back n (inr b) = left-first n 1 p t (fault-part grammar eating advancing n p v left_out (t ∷ []) 1 b)
 
   pub chooses : {A : Type 0} (p : Part T V A) → Advances p → ((t : T) → Heeds (reader grammar reach) p t) → ChoosesByFirsts grammar p
   chooses (done a) v h = tt
@@ -177,26 +144,26 @@ module _ {T P : Type 0} {V : P → Type 0} (grammar : (p : P) → Part T V (V p)
     Opened p ts = Opens (reader grammar reach) S O p ts
 
     module _ (nested-reads : (p : P) (a : V p) (ts rest : List T) → S p a ts rest → ReadsAt grammar n p a ts rest) where
-      pub to-reads : {A : Type 0} (p : Part T V A) → Advances p → ((t : T) → Heeds (reader grammar reach) p t) → (a : A) (ts rest : List T) → Spelled p a ts rest → On n p a ts rest
+      pub to-reads : {A : Type 0} (p : Part T V A) → Advances p → ((t : T) → Heeds (reader grammar reach) p t) → (a : A) (ts rest : List T) → Spelled p a ts rest → On grammar n p a ts rest
       to-reads (done b) v h a ts rest s = s
       to-reads (tok meaning) v h a ts rest s = s
       to-reads (seq p q) v h a ts rest s = (s.0, to-reads p v.0 (λ t. (h t).0) a.0 ts s.0 s.1, to-reads q v.1 (λ t. (h t).1) a.1 s.0 rest s.2)
       to-reads (bind p q) v h b ts rest s = (s.0, s.1, to-reads p v.0 (λ t. (h t).0) s.0 ts s.1 s.2, to-reads (q s.0) (v.1 s.0) (λ t. (h t).1 s.0) b s.1 rest s.3)
       to-reads (act f p) v h b ts rest s = (s.0, s.1, to-reads p v h s.0 ts rest s.2)
       to-reads (alt class p q) v h a ts rest (inl s) =
-          let r : On n p a ts rest = to-reads p v.1 (λ t. (h t).3) a ts rest s in
+          let r : On grammar n p a ts rest = to-reads p v.1 (λ t. (h t).3) a ts rest s in
           inl (next-same class (can_begin (reader grammar reach) p) (λ t. (h t).0) ts ∙ next-tree n p v.1 v.0 a ts rest r, r)
       to-reads (alt class p q) v h a ts rest (inr s) = inr (next-same class (can_begin (reader grammar reach) p) (λ t. (h t).0) ts ∙ s.0, to-reads q v.2 (λ t. (h t).4) a ts rest s.1)
       to-reads (rep class p) v h list ts rest s =
-          repeats-map (Spelled p) (λ a m r. (next_is class m ≡ true) × On n p a m r) (λ m. next_is (can_begin (reader grammar reach) p) m ≡ false) (λ m. next_is class m ≡ false)
-          (λ a m r i. let k : On n p a m r = to-reads p v.1 (λ t. (h t).2) a m r i in (next-same class (can_begin (reader grammar reach) p) (λ t. (h t).0) m ∙ next-tree n p v.1 v.0 a m r k, k))
+          repeats-map (Spelled p) (λ a m r. (next_is class m ≡ true) × On grammar n p a m r) (λ m. next_is (can_begin (reader grammar reach) p) m ≡ false) (λ m. next_is class m ≡ false)
+          (λ a m r i. let k : On grammar n p a m r = to-reads p v.1 (λ t. (h t).2) a m r i in (next-same class (can_begin (reader grammar reach) p) (λ t. (h t).0) m ∙ next-tree n p v.1 v.0 a m r k, k))
           (λ m e. next-same class (can_begin (reader grammar reach) p) (λ t. (h t).0) m ∙ e)
           list ts rest s
       to-reads (iter class part s0) v h a ts rest s =
           (s.0,
-           turns-map (λ u w m r. Spelled (part u) w m r) (λ u w m r. (next_is (class u) m ≡ true) × On n (part u) w m r)
+           turns-map (λ u w m r. Spelled (part u) w m r) (λ u w m r. (next_is (class u) m ≡ true) × On grammar n (part u) w m r)
            (λ u m. (a ≡ u) × (rest ≡ m) × (next_is (can_begin (reader grammar reach) (part u)) m ≡ false)) (λ u m. (a ≡ u) × (rest ≡ m) × (next_is (class u) m ≡ false))
-           (λ u w m r i. let k : On n (part u) w m r = to-reads (part u) (v u).1 (λ t. (h t u).2) w m r i in (next-same (class u) (can_begin (reader grammar reach) (part u)) (λ t. (h t u).0) m ∙ next-tree n (part u) (v u).1 (v u).0 w m r k, k))
+           (λ u w m r i. let k : On grammar n (part u) w m r = to-reads (part u) (v u).1 (λ t. (h t u).2) w m r i in (next-same (class u) (can_begin (reader grammar reach) (part u)) (λ t. (h t u).0) m ∙ next-tree n (part u) (v u).1 (v u).0 w m r k, k))
            (λ u m e. (e.0, e.1, next-same (class u) (can_begin (reader grammar reach) (part u)) (λ t. (h t u).0) m ∙ e.2))
            s.0 s0 ts s.1)
       to-reads (nested p) v h a ts rest s = nested-reads p a ts rest s
@@ -204,7 +171,7 @@ module _ {T P : Type 0} {V : P → Type 0} (grammar : (p : P) → Part T V (V p)
       to-reads (barred class p) v h a ts rest s = (to-reads p v h a ts rest s.0, s.1)
 
     module _ (nested-spells : (p : P) (a : V p) (ts rest : List T) → ReadsAt grammar n p a ts rest → S p a ts rest) where
-      pub from-reads : {A : Type 0} (p : Part T V A) → Advances p → ((t : T) → Heeds (reader grammar reach) p t) → (a : A) (ts rest : List T) → On n p a ts rest → Spelled p a ts rest
+      pub from-reads : {A : Type 0} (p : Part T V A) → Advances p → ((t : T) → Heeds (reader grammar reach) p t) → (a : A) (ts rest : List T) → On grammar n p a ts rest → Spelled p a ts rest
       from-reads (done b) v h a ts rest s = s
       from-reads (tok meaning) v h a ts rest s = s
       from-reads (seq p q) v h a ts rest s = (s.0, from-reads p v.0 (λ t. (h t).0) a.0 ts s.0 s.1, from-reads q v.1 (λ t. (h t).1) a.1 s.0 rest s.2)
@@ -213,13 +180,13 @@ module _ {T P : Type 0} {V : P → Type 0} (grammar : (p : P) → Part T V (V p)
       from-reads (alt class p q) v h a ts rest (inl s) = inl (from-reads p v.1 (λ t. (h t).3) a ts rest s.1)
       from-reads (alt class p q) v h a ts rest (inr s) = inr (sym (next-same class (can_begin (reader grammar reach) p) (λ t. (h t).0) ts) ∙ s.0, from-reads q v.2 (λ t. (h t).4) a ts rest s.1)
       from-reads (rep class p) v h list ts rest s =
-          repeats-map (λ a m r. (next_is class m ≡ true) × On n p a m r) (Spelled p) (λ m. next_is class m ≡ false) (λ m. next_is (can_begin (reader grammar reach) p) m ≡ false)
+          repeats-map (λ a m r. (next_is class m ≡ true) × On grammar n p a m r) (Spelled p) (λ m. next_is class m ≡ false) (λ m. next_is (can_begin (reader grammar reach) p) m ≡ false)
           (λ a m r i. from-reads p v.1 (λ t. (h t).2) a m r i.1)
           (λ m e. sym (next-same class (can_begin (reader grammar reach) p) (λ t. (h t).0) m) ∙ e)
           list ts rest s
       from-reads (iter class part s0) v h a ts rest s =
           (s.0,
-           turns-map (λ u w m r. (next_is (class u) m ≡ true) × On n (part u) w m r) (λ u w m r. Spelled (part u) w m r)
+           turns-map (λ u w m r. (next_is (class u) m ≡ true) × On grammar n (part u) w m r) (λ u w m r. Spelled (part u) w m r)
            (λ u m. (a ≡ u) × (rest ≡ m) × (next_is (class u) m ≡ false)) (λ u m. (a ≡ u) × (rest ≡ m) × (next_is (can_begin (reader grammar reach) (part u)) m ≡ false))
            (λ u w m r i. from-reads (part u) (v u).1 (λ t. (h t u).2) w m r i.1)
            (λ u m e. (e.0, e.1, sym (next-same (class u) (can_begin (reader grammar reach) (part u)) (λ t. (h t u).0) m) ∙ e.2))
@@ -229,19 +196,19 @@ module _ {T P : Type 0} {V : P → Type 0} (grammar : (p : P) → Part T V (V p)
       from-reads (barred class p) v h a ts rest s = (from-reads p v h a ts rest s.0, s.1)
 
     module _ (nested-reads : (p : P) (a : V p) (ts rest : List T) → S p a ts rest → ReadsAt grammar n p a ts rest) (nested-begins : (p : P) (ts : List T) → O p ts → BeginsAt grammar n p ts) where
-      alt-first : {A : Type 0} (class : T → Bool) (p q : Part T V A) → Advances (alt class p q) → ((t : T) → Heeds (reader grammar reach) (alt class p q) t) → (ts : List T) → Begun n p ts → Begun n (alt class p q) ts
-      alt-first class p q v h [] b = inr (refl, begins-none n q v.2)
+      alt-first : {A : Type 0} (class : T → Bool) (p q : Part T V A) → Advances (alt class p q) → ((t : T) → Heeds (reader grammar reach) (alt class p q) t) → (ts : List T) → Begun grammar n p ts → Begun grammar n (alt class p q) ts
+      alt-first class p q v h [] b = inr (refl, begins-none grammar eating advancing n q v.2)
       alt-first class p q v h (t ∷ m) b = inl ((h t).0 ∙ next-begun n p v.1 t m b, b)
 
-      alt-second : {A : Type 0} (class : T → Bool) (p q : Part T V A) → Advances (alt class p q) → ((t : T) → Heeds (reader grammar reach) (alt class p q) t) → (ts : List T) → Begun n q ts → Begun n (alt class p q) ts
+      alt-second : {A : Type 0} (class : T → Bool) (p q : Part T V A) → Advances (alt class p q) → ((t : T) → Heeds (reader grammar reach) (alt class p q) t) → (ts : List T) → Begun grammar n q ts → Begun grammar n (alt class p q) ts
       alt-second class p q v h [] b = inr (refl, b)
       alt-second class p q v h (t ∷ m) b = inr (and-false (class t) (can_begin (reader grammar reach) q t) (h t).2 (next-begun n q v.2 t m b), b)
 
-      turn-end : {A : Type 0} (class : T → Bool) (p : Part T V A) → Advances p → ((t : T) → class t ≡ can_begin (reader grammar reach) p t) → (ts : List T) → Begun n p ts → (ts ≡ []) ⊎ ((next_is class ts ≡ true) × Begun n p ts)
+      turn-end : {A : Type 0} (class : T → Bool) (p : Part T V A) → Advances p → ((t : T) → class t ≡ can_begin (reader grammar reach) p t) → (ts : List T) → Begun grammar n p ts → (ts ≡ []) ⊎ ((next_is class ts ≡ true) × Begun grammar n p ts)
       turn-end class p v h [] b = inl refl
       turn-end class p v h (t ∷ m) b = inr (h t ∙ next-begun n p v t m b, b)
 
-      pub to-begins : {A : Type 0} (p : Part T V A) → Advances p → ((t : T) → Heeds (reader grammar reach) p t) → (ts : List T) → Opened p ts → Begun n p ts
+      pub to-begins : {A : Type 0} (p : Part T V A) → Advances p → ((t : T) → Heeds (reader grammar reach) p t) → (ts : List T) → Opened p ts → Begun grammar n p ts
       to-begins (done a) v h ts o = o
       to-begins (tok meaning) v h ts o = o
       to-begins (seq p q) v h ts (inl o) = inl (to-begins p v.0 (λ t. (h t).0) ts o)
@@ -253,14 +220,14 @@ module _ {T P : Type 0} {V : P → Type 0} (grammar : (p : P) → Part T V (V p)
       to-begins (alt class p q) v h ts (inr o) = alt-second class p q v h ts (to-begins q v.2 (λ t. (h t).4) ts o)
       to-begins (rep {A} class p) v h ts o =
           (o.0,
-           turns-map {S = Unit {0}} (λ _ _ m r. (a : A) × Spelled p a m r) (λ _ _ m r. (next_is class m ≡ true) × ((a : A) × On n p a m r)) (λ _ m. (m ≡ []) ⊎ Opened p m) (λ _ m. (m ≡ []) ⊎ ((next_is class m ≡ true) × Begun n p m))
-           (λ _ _ m r i. let k : On n p i.0 m r = to-reads nested-reads p v.1 (λ t. (h t).2) i.0 m r i.1 in (next-same class (can_begin (reader grammar reach) p) (λ t. (h t).0) m ∙ next-tree n p v.1 v.0 i.0 m r k, (i.0, k)))
+           turns-map {S = Unit {0}} (λ _ _ m r. (a : A) × Spelled p a m r) (λ _ _ m r. (next_is class m ≡ true) × ((a : A) × On grammar n p a m r)) (λ _ m. (m ≡ []) ⊎ Opened p m) (λ _ m. (m ≡ []) ⊎ ((next_is class m ≡ true) × Begun grammar n p m))
+           (λ _ _ m r i. let k : On grammar n p i.0 m r = to-reads nested-reads p v.1 (λ t. (h t).2) i.0 m r i.1 in (next-same class (can_begin (reader grammar reach) p) (λ t. (h t).0) m ∙ next-tree n p v.1 v.0 i.0 m r k, (i.0, k)))
            (λ _ m e. elim e [ inl z ↦ inl z | inr z ↦ turn-end class p v.1 (λ t. (h t).0) m (to-begins p v.1 (λ t. (h t).2) m z) ])
            o.0 tt ts o.1)
       to-begins (iter class part s0) v h ts o =
           (o.0,
-           turns-map (λ u w m r. Spelled (part u) w m r) (λ u w m r. (next_is (class u) m ≡ true) × On n (part u) w m r) (λ u m. (m ≡ []) ⊎ Opened (part u) m) (λ u m. (m ≡ []) ⊎ ((next_is (class u) m ≡ true) × Begun n (part u) m))
-           (λ u w m r i. let k : On n (part u) w m r = to-reads nested-reads (part u) (v u).1 (λ t. (h t u).2) w m r i in (next-same (class u) (can_begin (reader grammar reach) (part u)) (λ t. (h t u).0) m ∙ next-tree n (part u) (v u).1 (v u).0 w m r k, k))
+           turns-map (λ u w m r. Spelled (part u) w m r) (λ u w m r. (next_is (class u) m ≡ true) × On grammar n (part u) w m r) (λ u m. (m ≡ []) ⊎ Opened (part u) m) (λ u m. (m ≡ []) ⊎ ((next_is (class u) m ≡ true) × Begun grammar n (part u) m))
+           (λ u w m r i. let k : On grammar n (part u) w m r = to-reads nested-reads (part u) (v u).1 (λ t. (h t u).2) w m r i in (next-same (class u) (can_begin (reader grammar reach) (part u)) (λ t. (h t u).0) m ∙ next-tree n (part u) (v u).1 (v u).0 w m r k, k))
            (λ u m e. elim e [ inl z ↦ inl z | inr z ↦ turn-end (class u) (part u) (v u).1 (λ t. (h t u).0) m (to-begins (part u) (v u).1 (λ t. (h t u).2) m z) ])
            o.0 s0 ts o.1)
       to-begins (nested p) v h ts o = nested-begins p ts o
@@ -268,7 +235,7 @@ module _ {T P : Type 0} {V : P → Type 0} (grammar : (p : P) → Part T V (V p)
       to-begins (barred class p) v h ts o = to-begins p v h ts o
 
     module _ (nested-spells : (p : P) (a : V p) (ts rest : List T) → ReadsAt grammar n p a ts rest → S p a ts rest) (nested-opens : (p : P) (ts : List T) → BeginsAt grammar n p ts → O p ts) where
-      pub from-begins : {A : Type 0} (p : Part T V A) → Advances p → ((t : T) → Heeds (reader grammar reach) p t) → (ts : List T) → Begun n p ts → Opened p ts
+      pub from-begins : {A : Type 0} (p : Part T V A) → Advances p → ((t : T) → Heeds (reader grammar reach) p t) → (ts : List T) → Begun grammar n p ts → Opened p ts
       from-begins (done a) v h ts b = b
       from-begins (tok meaning) v h ts b = b
       from-begins (seq p q) v h ts (inl b) = inl (from-begins p v.0 (λ t. (h t).0) ts b)
@@ -280,13 +247,13 @@ module _ {T P : Type 0} {V : P → Type 0} (grammar : (p : P) → Part T V (V p)
       from-begins (alt class p q) v h ts (inr b) = inr (from-begins q v.2 (λ t. (h t).4) ts b.1)
       from-begins (rep {A} class p) v h ts b =
           (b.0,
-           turns-map {S = Unit {0}} (λ _ _ m r. (next_is class m ≡ true) × ((a : A) × On n p a m r)) (λ _ _ m r. (a : A) × Spelled p a m r) (λ _ m. (m ≡ []) ⊎ ((next_is class m ≡ true) × Begun n p m)) (λ _ m. (m ≡ []) ⊎ Opened p m)
+           turns-map {S = Unit {0}} (λ _ _ m r. (next_is class m ≡ true) × ((a : A) × On grammar n p a m r)) (λ _ _ m r. (a : A) × Spelled p a m r) (λ _ m. (m ≡ []) ⊎ ((next_is class m ≡ true) × Begun grammar n p m)) (λ _ m. (m ≡ []) ⊎ Opened p m)
            (λ _ _ m r i. (i.1.0, from-reads nested-spells p v.1 (λ t. (h t).2) i.1.0 m r i.1.1))
            (λ _ m e. elim e [ inl z ↦ inl z | inr z ↦ inr (from-begins p v.1 (λ t. (h t).2) m z.1) ])
            b.0 tt ts b.1)
       from-begins (iter class part s0) v h ts b =
           (b.0,
-           turns-map (λ u w m r. (next_is (class u) m ≡ true) × On n (part u) w m r) (λ u w m r. Spelled (part u) w m r) (λ u m. (m ≡ []) ⊎ ((next_is (class u) m ≡ true) × Begun n (part u) m)) (λ u m. (m ≡ []) ⊎ Opened (part u) m)
+           turns-map (λ u w m r. (next_is (class u) m ≡ true) × On grammar n (part u) w m r) (λ u w m r. Spelled (part u) w m r) (λ u m. (m ≡ []) ⊎ ((next_is (class u) m ≡ true) × Begun grammar n (part u) m)) (λ u m. (m ≡ []) ⊎ Opened (part u) m)
            (λ u w m r i. from-reads nested-spells (part u) (v u).1 (λ t. (h t u).2) w m r i.1)
            (λ u m e. elim e [ inl z ↦ inl z | inr z ↦ inr (from-begins (part u) (v u).1 (λ t. (h t u).2) m z.1) ])
            b.0 s0 ts b.1)

@@ -1,16 +1,17 @@
 -- The laws of reading, from the lemmas on each.
 use Rattle.std.proofs.Common.{◌≡◌, ℕ, zero, suc, ◌+◌, ◌-◌, ◌<◌, ◌≤◌, Bool, true, false, cond, List, [], ◌∷◌, ◌++◌, length, take, drop, ◌⊎◌, inl, inr, ◌↔◌, refl, sym, ap, ◌∙◌, subst, arith, length-append, append_assoc, append-nil, take-append-drop, length-drop, add_comm}
-use Rattle.vh_grammar.specs.Part.{Part}
-use Rattle.vh_grammar.specs.Reading.{Fault, lost, deep, left_out, Out, got, stop, reader, whole}
-use Rattle.vh_grammar.specs.Sentences.{ReadsAt, BeginsAt, MeetsAt}
-use Rattle.vh_grammar.specs.Table.{Table, source}
-use Rattle.vh_grammar.specs.Laws.{ReadsWhatIsSpelled, HasOneTree, RefusesWhatIsMet, AcceptsWholeSources, LeavesNothing, EndsTooSoon, FaultIsFirst, RefusedAt, FirstIsRefused, IsTooDeep, IsLeftOut, OnlyDepthNeedsLevels, PlacesAreInside, ClassesAreFirsts, SpellsWithoutClasses, BeginsWithoutClasses}
-use Rattle.vh_grammar.proofs.Size.{Sized, size-reader}
+use Rattle.vh_grammar.specs.Reading.{Fault, lost, deep, left_out, Out, got, stop, read, whole}
+use Rattle.vh_grammar.specs.Language.{SpellsAt, OpensAt}
+use Rattle.vh_grammar.specs.Conditions.{eats}
+use Rattle.vh_grammar.specs.Table.{Table, source, IsSource, BeginsSource, MeetsFault}
+use Rattle.vh_grammar.specs.Laws.{ReadsWhatIsSpelled, RefusesWhatIsMet, HasOneTree, AcceptsSources, LeavesNothing, HasOneSource, EndsTooSoon, FrontBegins, FaultIsFirst, RefusedAt, FirstIsRefused, IsTooDeep, IsLeftOut, OnlyDepthNeedsLevels, PlacesAreInside, ClassesAreFirsts, SpellsWithoutClasses, BeginsWithoutClasses}
+use Rattle.vh_grammar.proofs.Size.{weight, Sized}
 use Rattle.vh_grammar.proofs.Outcomes.{Says_of, reader-sound, reader-tree, reader-fault}
-use Rattle.vh_grammar.proofs.Places.{Late, Cut, cut-reader}
-use Rattle.vh_grammar.proofs.Starts.{Ended, reader-begins, reader-ended}
-use Rattle.vh_grammar.proofs.Choices.{chooses, spells-reads, reads-spells, opens-begins, begins-opens}
-use Rattle.vh_grammar.proofs.Levels.{Below, ended-below, reader-below}
+use Rattle.vh_grammar.proofs.Places.{Late, Cut}
+use Rattle.vh_grammar.proofs.Starts.{Ended}
+use Rattle.vh_grammar.proofs.Levels.{Below, ended-below}
+use Rattle.vh_grammar.proofs.Parts.{On, Met, size-part, cut-part, tree-part, fault-part, sound-part, begins-part, ended-part, below-part}
+use Rattle.vh_grammar.proofs.Choices.{chooses, to-reads, from-reads, to-begins, from-begins, spells-reads, reads-spells, opens-begins, begins-opens}
 
 got-parts : {T A : Type 0} (a b : A) (r s : List T) → got a r ≡ got b s → (a ≡ b) × (r ≡ s)
 got-parts a b r s e = (cc, cc)
@@ -78,6 +79,27 @@ lost-next more (stop lost zero) o h c e = lost-late more o h c
 lost-next more (stop lost (suc j)) o h c e = omega arith
 lost-next more (stop deep j) o h c e = e
 lost-next more (stop left_out j) o h c e = e
+
+deep-front : {T A : Type 0} (w : ℕ) (front rest : List T) (o' o : Out T A) → o ≡ stop deep (length rest) → Sized w front o' → Cut rest o' o → Ended o'
+deep-front w front rest (got a []) o h s c = refl
+deep-front w front rest (got a (t ∷ ts)) o h s c = cc
+deep-front w front rest (stop lost zero) o h s c = refl
+deep-front w front rest (stop lost (suc j)) o h s c = cc
+deep-front w front rest (stop deep j) o h s c = let e : j + length rest ≡ length rest = cc in absurd (omega arith)
+deep-front w front rest (stop left_out j) o h s c = cc
+
+left_out-front : {T A : Type 0} (w : ℕ) (front rest : List T) (o' o : Out T A) → o ≡ stop left_out (length rest) → Sized w front o' → Cut rest o' o → Ended o'
+left_out-front w front rest (got a []) o h s c = refl
+left_out-front w front rest (got a (t ∷ ts)) o h s c = cc
+left_out-front w front rest (stop lost zero) o h s c = refl
+left_out-front w front rest (stop lost (suc j)) o h s c = cc
+left_out-front w front rest (stop deep j) o h s c = cc
+left_out-front w front rest (stop left_out j) o h s c = let e : j + length rest ≡ length rest = cc in absurd (omega arith)
+
+whole-front : {T A : Type 0} (w : ℕ) (front rest : List T) (fault : Fault) (o' o : Out T A) → whole o ≡ stop fault (length rest) → Sized w front o' → Cut rest o' o → Ended o'
+whole-front w front rest lost o' o e s c = lost-front rest o' o (whole-lost (length rest) o e) c
+whole-front w front rest deep o' o e s c = deep-front w front rest o' o (whole-deep (length rest) o e) s c
+whole-front w front rest left_out o' o e s c = left_out-front w front rest o' o (whole-left_out (length rest) o e) s c
 
 -- on any number of levels
 lost-any : {T A : Type 0} (more : List T) (o' o x : Out T A) → LostAt (suc (length more)) o → Cut more o' o → Below o' x → Ended x → ⊥
@@ -152,96 +174,134 @@ lost-got : {T A : Type 0} (left : ℕ) (a : A) (rest : List T) → stop lost lef
 lost-got left a rest e = cc
 
 module _ (t : Table) where
-  says : (n : ℕ) (p : t.Name) (ts : List t.Token) (o : Out t.Token (t.tree_of p)) → reader t.grammar n p ts ≡ o → Says_of (ReadsAt t.grammar n p) (MeetsAt t.grammar n p) ts o
-  says n p ts o e = rw e at (reader-sound t.grammar t.eating t.advancing n p ts)
+  size : (n : ℕ) (ts : List t.Token) → Sized (weight (eats t.start)) ts (read t.grammar n t.start ts)
+  size n ts = size-part t.grammar t.eating t.advancing n t.start ts
 
-  tree-of : (n : ℕ) (p : t.Name) (a : t.tree_of p) (ts rest : List t.Token) → ReadsAt t.grammar n p a ts rest → reader t.grammar n p ts ≡ got a rest
-  tree-of n p a ts rest h = reader-tree t.grammar t.eating t.advancing n p a ts rest h
+  cut : (n : ℕ) (us zs : List t.Token) → Cut zs (read t.grammar n t.start us) (read t.grammar n t.start (us ++ zs))
+  cut n us zs = cut-part t.grammar t.eating t.advancing n t.start t.start_advancing us zs
 
-  fault-of : (n : ℕ) (p : t.Name) (fault : Fault) (ts : List t.Token) (left : ℕ) → MeetsAt t.grammar n p fault ts left → reader t.grammar n p ts ≡ stop fault left
-  fault-of n p fault ts left h = reader-fault t.grammar t.eating t.advancing n p fault ts left h
+  says : (n : ℕ) (ts : List t.Token) (o : Out t.Token t.Source) → read t.grammar n t.start ts ≡ o → Says_of (On t.grammar n t.start) (Met t.grammar n t.start) ts o
+  says n ts o e = rw e at (sound-part t.grammar t.eating t.advancing n t.start t.start_advancing ts)
 
+  tree : (n : ℕ) (a : t.Source) (ts rest : List t.Token) → On t.grammar n t.start a ts rest → read t.grammar n t.start ts ≡ got a rest
+  tree n a ts rest h = tree-part t.grammar t.eating t.advancing n t.start t.start_advancing a ts rest h
+
+  fault : (n : ℕ) (f : Fault) (ts : List t.Token) (left : ℕ) → MeetsFault t n f ts left → read t.grammar n t.start ts ≡ stop f left
+  fault n f ts left h = fault-part t.grammar t.eating t.advancing n t.start t.start_advancing f ts left h
+
+  begins : (n : ℕ) (ts : List t.Token) → Ended (read t.grammar n t.start ts) → BeginsSource t n ts
+  begins n ts e = begins-part t.grammar t.eating t.advancing n t.start t.start_advancing ts e
+
+  ended : (n : ℕ) (ts : List t.Token) → BeginsSource t n ts → Ended (read t.grammar n t.start ts)
+  ended n ts h = ended-part t.grammar t.eating t.advancing n t.start t.start_advancing ts h
+
+  below : (n more : ℕ) (ts : List t.Token) → Below (read t.grammar n t.start ts) (read t.grammar (more + n) t.start ts)
+  below n more ts = below-part t.grammar t.eating t.advancing n more t.start ts
+
+  -- a production
   pub reads_what_is_spelled : ReadsWhatIsSpelled t
-  reads_what_is_spelled n p a ts rest = (λ e. says n p ts (got a rest) e, λ h. tree-of n p a ts rest h)
-
-  pub has_one_tree : HasOneTree t
-  has_one_tree n p a b ts rest end h k = got-parts a b rest end (sym (tree-of n p a ts rest h) ∙ tree-of n p b ts end k)
+  reads_what_is_spelled n p a ts rest =
+      (λ e. rw e at (reader-sound t.grammar t.eating t.advancing n p ts), λ h. reader-tree t.grammar t.eating t.advancing n p a ts rest h)
 
   pub refuses_what_is_met : RefusesWhatIsMet t
-  refuses_what_is_met n p fault ts left = (λ e. says n p ts (stop fault left) e, λ h. fault-of n p fault ts left h)
+  refuses_what_is_met n p f ts left =
+      (λ e. rw e at (reader-sound t.grammar t.eating t.advancing n p ts), λ h. reader-fault t.grammar t.eating t.advancing n p f ts left h)
 
-  pub accepts_whole_sources : AcceptsWholeSources t
-  accepts_whole_sources n p a ts = (λ e. says n p ts (got a []) (whole-tree a (reader t.grammar n p ts) e), λ h. rw (tree-of n p a ts [] h))
+  pub has_one_tree : HasOneTree t
+  has_one_tree n p a b ts rest end h k =
+      got-parts a b rest end (sym (reader-tree t.grammar t.eating t.advancing n p a ts rest h) ∙ reader-tree t.grammar t.eating t.advancing n p b ts end k)
+
+  -- a source
+  pub accepts_sources : AcceptsSources t
+  accepts_sources n a ts = (λ e. says n ts (got a []) (whole-tree a (read t.grammar n t.start ts) e), λ h. rw (tree n a ts [] h))
 
   pub leaves_nothing : LeavesNothing t
-  leaves_nothing n p a ts rest e = whole-nothing a rest (reader t.grammar n p ts) e
+  leaves_nothing n a ts rest e = whole-nothing a rest (read t.grammar n t.start ts) e
+
+  pub has_one_source : HasOneSource t
+  has_one_source n a b ts h k = (got-parts a b [] [] (sym (tree n a ts [] h) ∙ tree n b ts [] k)).0
 
   pub ends_too_soon : EndsTooSoon t
-  ends_too_soon n p ts =
-      (λ e. (reader-begins t.grammar t.eating t.advancing n p ts (whole-ended (reader t.grammar n p ts) e),
-             λ a h. let k : whole (reader t.grammar n p ts) ≡ got a [] = rw (tree-of n p a ts [] h) in lost-got 0 a [] (sym e ∙ k)),
-       λ h. ended-whole (reader t.grammar n p ts) (reader-ended t.grammar t.eating t.advancing n p ts h.0) (λ a e. h.1 a (says n p ts (got a []) e)))
+  ends_too_soon n ts =
+      (λ e. (begins n ts (whole-ended (read t.grammar n t.start ts) e),
+             λ a h. let k : whole (read t.grammar n t.start ts) ≡ got a [] = rw (tree n a ts [] h) in lost-got 0 a [] (sym e ∙ k)),
+       λ h. ended-whole (read t.grammar n t.start ts) (ended n ts h.0) (λ a e. h.1 a (says n ts (got a []) e)))
 
-  first-of : (n : ℕ) (p : t.Name) (front rest : List t.Token) → LostAt (length rest) (reader t.grammar n p (front ++ rest)) → BeginsAt t.grammar n p front × ((next : t.Token) (more : List t.Token) → rest ≡ next ∷ more → (any : ℕ) → BeginsAt t.grammar any p (front ++ next ∷ []) → ⊥)
-  first-of n p front rest h =
-      (reader-begins t.grammar t.eating t.advancing n p front (lost-front rest (reader t.grammar n p front) (reader t.grammar n p (front ++ rest)) h (cut-reader t.grammar t.eating t.advancing n p front rest)),
+  first-of : (n : ℕ) (front rest : List t.Token) → LostAt (length rest) (read t.grammar n t.start (front ++ rest)) → BeginsSource t n front × ((next : t.Token) (more : List t.Token) → rest ≡ next ∷ more → (any : ℕ) → BeginsSource t any (front ++ next ∷ []) → ⊥)
+  first-of n front rest h =
+      (begins n front (lost-front rest (read t.grammar n t.start front) (read t.grammar n t.start (front ++ rest)) h (cut n front rest)),
        λ next more e any b.
-         let h' : LostAt (suc (length more)) (reader t.grammar n p (front ++ (next ∷ more))) = rw e at h in
-         let h'' : LostAt (suc (length more)) (reader t.grammar n p ((front ++ next ∷ []) ++ more)) = rw append_assoc h' in
-         let x : Ended (reader t.grammar any p (front ++ next ∷ [])) = reader-ended t.grammar t.eating t.advancing any p (front ++ next ∷ []) b in
-         let y : Ended (reader t.grammar (n + any) p (front ++ next ∷ [])) = ended-below (reader t.grammar any p (front ++ next ∷ [])) (reader t.grammar (n + any) p (front ++ next ∷ [])) (reader-below t.grammar t.eating any n p (front ++ next ∷ [])) x in
-         let z : Ended (reader t.grammar (any + n) p (front ++ next ∷ [])) = rw (add_comm n any) at y in
-         lost-any more (reader t.grammar n p (front ++ next ∷ [])) (reader t.grammar n p ((front ++ next ∷ []) ++ more)) (reader t.grammar (any + n) p (front ++ next ∷ [])) h'' (cut-reader t.grammar t.eating t.advancing n p (front ++ next ∷ []) more) (reader-below t.grammar t.eating n any p (front ++ next ∷ [])) z)
+         let h' : LostAt (suc (length more)) (read t.grammar n t.start (front ++ (next ∷ more))) = rw e at h in
+         let h'' : LostAt (suc (length more)) (read t.grammar n t.start ((front ++ next ∷ []) ++ more)) = rw append_assoc h' in
+         let x : Ended (read t.grammar any t.start (front ++ next ∷ [])) = ended any (front ++ next ∷ []) b in
+         let y : Ended (read t.grammar (n + any) t.start (front ++ next ∷ [])) = ended-below (read t.grammar any t.start (front ++ next ∷ [])) (read t.grammar (n + any) t.start (front ++ next ∷ [])) (below any n (front ++ next ∷ [])) x in
+         let z : Ended (read t.grammar (any + n) t.start (front ++ next ∷ [])) = rw (add_comm n any) at y in
+         lost-any more (read t.grammar n t.start (front ++ next ∷ [])) (read t.grammar n t.start ((front ++ next ∷ []) ++ more)) (read t.grammar (any + n) t.start (front ++ next ∷ [])) h'' (cut n (front ++ next ∷ []) more) (below n any (front ++ next ∷ [])) z)
 
-  pub fault_is_first : FaultIsFirst t
-  fault_is_first n p ts left e =
-      let h : LostAt left (reader t.grammar n p ts) = whole-lost left (reader t.grammar n p ts) e in
-      let l : left ≤ length ts = lost-size 1 left ts (reader t.grammar n p ts) h (size-reader t.grammar t.eating n p ts) in
+  pub front_begins : FrontBegins t
+  front_begins n ts f left e =
+      let l : left ≤ length ts = (inside (weight (eats t.start)) ts (read t.grammar n t.start ts) f left (size n ts) e).0 in
       let front : List t.Token = take (length ts - left) ts in
       let rest : List t.Token = drop (length ts - left) ts in
       let split : ts ≡ front ++ rest = sym (take-append-drop (length ts - left) ts) in
-      let size : length rest ≡ left = omega (arith, length-drop (length ts - left) ts) in
-      let h' : LostAt (length rest) (reader t.grammar n p (front ++ rest)) = rw (size, take-append-drop (length ts - left) ts) h in
-      let r : BeginsAt t.grammar n p front × ((next : t.Token) (more : List t.Token) → rest ≡ next ∷ more → (any : ℕ) → BeginsAt t.grammar any p (front ++ next ∷ []) → ⊥) = first-of n p front rest h' in
-      (front, rest, split, size, r.0, r.1)
+      let count : length rest ≡ left = omega (arith, length-drop (length ts - left) ts) in
+      let e' : whole (read t.grammar n t.start (front ++ rest)) ≡ stop f (length rest) = rw (count, take-append-drop (length ts - left) ts) e in
+      (front, rest, split, count, begins n front (whole-front (weight (eats t.start)) front rest f (read t.grammar n t.start front) (read t.grammar n t.start (front ++ rest)) e' (size n front) (cut n front rest)))
+
+  pub fault_is_first : FaultIsFirst t
+  fault_is_first n ts left e =
+      let h : LostAt left (read t.grammar n t.start ts) = whole-lost left (read t.grammar n t.start ts) e in
+      let l : left ≤ length ts = lost-size (weight (eats t.start)) left ts (read t.grammar n t.start ts) h (size n ts) in
+      let front : List t.Token = take (length ts - left) ts in
+      let rest : List t.Token = drop (length ts - left) ts in
+      let split : ts ≡ front ++ rest = sym (take-append-drop (length ts - left) ts) in
+      let count : length rest ≡ left = omega (arith, length-drop (length ts - left) ts) in
+      let h' : LostAt (length rest) (read t.grammar n t.start (front ++ rest)) = rw (count, take-append-drop (length ts - left) ts) h in
+      let r : BeginsSource t n front × ((next : t.Token) (more : List t.Token) → rest ≡ next ∷ more → (any : ℕ) → BeginsSource t any (front ++ next ∷ []) → ⊥) = first-of n front rest h' in
+      (front, rest, split, count, r.0, r.1)
 
   pub first_is_refused : FirstIsRefused t
-  first_is_refused n p front next more h k =
-      let o : List t.Token → Out t.Token (t.tree_of p) = reader t.grammar n p in
+  first_is_refused n front next more h k =
+      let o : List t.Token → Out t.Token t.Source = read t.grammar n t.start in
       let r : RefusedAt (suc (length more)) (whole (o ((front ++ next ∷ []) ++ more))) =
-        refused-here 1 (front ++ next ∷ []) next more (o front) (o (front ++ next ∷ [])) (o ((front ++ next ∷ []) ++ more))
-        (reader-ended t.grammar t.eating t.advancing n p front h)
-        (cut-reader t.grammar t.eating t.advancing n p front (next ∷ []))
-        (size-reader t.grammar t.eating n p (front ++ next ∷ []))
-        (λ e. k (reader-begins t.grammar t.eating t.advancing n p (front ++ next ∷ []) e))
-        (cut-reader t.grammar t.eating t.advancing n p (front ++ next ∷ []) more) in
+        refused-here (weight (eats t.start)) (front ++ next ∷ []) next more (o front) (o (front ++ next ∷ [])) (o ((front ++ next ∷ []) ++ more))
+        (ended n front h)
+        (cut n front (next ∷ []))
+        (size n (front ++ next ∷ []))
+        (λ e. k (begins n (front ++ next ∷ []) e))
+        (cut n (front ++ next ∷ []) more) in
       rw append_assoc at r
 
   pub is_too_deep : IsTooDeep t
-  is_too_deep n p ts left = (λ e. says n p ts (stop deep left) (whole-deep left (reader t.grammar n p ts) e), λ h. rw (fault-of n p deep ts left h))
+  is_too_deep n ts left = (λ e. says n ts (stop deep left) (whole-deep left (read t.grammar n t.start ts) e), λ h. rw (fault n deep ts left h))
 
   pub is_left_out : IsLeftOut t
-  is_left_out n p ts left = (λ e. says n p ts (stop left_out left) (whole-left_out left (reader t.grammar n p ts) e), λ h. rw (fault-of n p left_out ts left h))
+  is_left_out n ts left = (λ e. says n ts (stop left_out left) (whole-left_out left (read t.grammar n t.start ts) e), λ h. rw (fault n left_out ts left h))
 
   pub only_depth_needs_levels : OnlyDepthNeedsLevels t
-  only_depth_needs_levels n more p ts h = go (reader t.grammar n p ts) (reader-below t.grammar t.eating n more p ts) h
+  only_depth_needs_levels n more ts h = go (read t.grammar n t.start ts) (below n more ts) h
     where
-      go : (x : Out t.Token (t.tree_of p)) → Below x (reader t.grammar (more + n) p ts) → ((left : ℕ) → x ≡ stop deep left → ⊥) → reader t.grammar (more + n) p ts ≡ x
-      go (got a rest) b d = b
-      go (stop lost k) b d = b
+      go : (x : Out t.Token t.Source) → Below x (read t.grammar (more + n) t.start ts) → ((left : ℕ) → whole x ≡ stop deep left → ⊥) → whole (read t.grammar (more + n) t.start ts) ≡ whole x
+      go (got a rest) b d = ap whole b
+      go (stop lost k) b d = ap whole b
       go (stop deep k) b d = absurd (d k refl)
-      go (stop left_out k) b d = b
+      go (stop left_out k) b d = ap whole b
 
   pub places_are_inside : PlacesAreInside t
-  places_are_inside n p ts fault left e = inside 1 ts (reader t.grammar n p ts) fault left (size-reader t.grammar t.eating n p ts) e
+  places_are_inside n ts f left e = inside (weight (eats t.start)) ts (read t.grammar n t.start ts) f left (size n ts) e
 
+  -- the choices
   pub classes_are_firsts : ClassesAreFirsts t
-  classes_are_firsts p = chooses t.grammar t.eating t.advancing t.reach (t.grammar p) (t.advancing p) (t.heeding p)
+  classes_are_firsts =
+      (λ p. chooses t.grammar t.eating t.advancing t.reach (t.grammar p) (t.advancing p) (t.heeding p),
+       chooses t.grammar t.eating t.advancing t.reach t.start t.start_advancing t.start_heeding)
 
   pub spells_without_classes : SpellsWithoutClasses t
-  spells_without_classes n p a ts rest =
-      (λ s. spells-reads t.grammar t.eating t.advancing t.reach t.heeding n p a ts rest s, λ s. reads-spells t.grammar t.eating t.advancing t.reach t.heeding n p a ts rest s)
+  spells_without_classes n a ts =
+      (λ s. to-reads t.grammar t.eating t.advancing t.reach n (SpellsAt t.grammar t.reach n) (OpensAt t.grammar t.reach n) (spells-reads t.grammar t.eating t.advancing t.reach t.heeding n) t.start t.start_advancing t.start_heeding a ts [] s,
+       λ s. from-reads t.grammar t.eating t.advancing t.reach n (SpellsAt t.grammar t.reach n) (OpensAt t.grammar t.reach n) (reads-spells t.grammar t.eating t.advancing t.reach t.heeding n) t.start t.start_advancing t.start_heeding a ts [] s)
 
   pub begins_without_classes : BeginsWithoutClasses t
-  begins_without_classes n p ts =
-      (λ s. opens-begins t.grammar t.eating t.advancing t.reach t.heeding n p ts s, λ s. begins-opens t.grammar t.eating t.advancing t.reach t.heeding n p ts s)
+  begins_without_classes n ts =
+      (λ o. to-begins t.grammar t.eating t.advancing t.reach n (SpellsAt t.grammar t.reach n) (OpensAt t.grammar t.reach n) (spells-reads t.grammar t.eating t.advancing t.reach t.heeding n) (opens-begins t.grammar t.eating t.advancing t.reach t.heeding n) t.start t.start_advancing t.start_heeding ts o,
+       λ b. from-begins t.grammar t.eating t.advancing t.reach n (SpellsAt t.grammar t.reach n) (OpensAt t.grammar t.reach n) (reads-spells t.grammar t.eating t.advancing t.reach t.heeding n) (begins-opens t.grammar t.eating t.advancing t.reach t.heeding n) t.start t.start_advancing t.start_heeding ts b)

@@ -4,4 +4,6 @@ pub mod Places
 pub mod Starts
 pub mod Levels
 pub mod Laws
+pub mod Parts
 pub mod Choices
+pub mod Turns

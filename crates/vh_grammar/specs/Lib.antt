@@ -7,3 +7,4 @@ pub mod Laws
 pub mod Choices
 pub mod Language
 pub mod Says
+pub mod Past
