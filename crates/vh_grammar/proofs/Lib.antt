@@ -1,3 +1,9 @@
 pub mod Size
-pub mod Exact
+pub mod Outcomes
 pub mod Places
+pub mod Starts
+pub mod Levels
+pub mod Laws
+pub mod Parts
+pub mod Choices
+pub mod Turns

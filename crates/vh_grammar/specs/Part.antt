@@ -1,5 +1,5 @@
 -- What a grammar is made of, as data: the parts that a production is written with.
-use Rattle.std.specs.Prelude.{Bool, Option, Some, None, List, ◌∷◌}
+use Rattle.std.specs.Prelude.{Bool, cond, Option, Some, None, List, ◌∷◌}
 
 -- A part of a production, whose trees have the type `A`, over tokens `T`. `P` names the productions
 -- that parts may refer to, and `V p` is the type of the trees of `p` (own; IEEE 1364-2005 Annex A,
@@ -31,6 +31,10 @@ pub data Part (T : Type 0) {P : Type 0} (V : P → Type 0) : Type 0 → Type 1 w
   barred : {A : Type 0} → (A → T → Bool) → Part T V A → Part T V A
 
 module _ {T P : Type 0} {V : P → Type 0} where
+  -- one token of the class, whose tree says no more than that it stands there (own)
+  abbrev pub only : (T → Bool) → Part T V (Unit {0})
+  only class = tok (λ t. cond (class t) (Some tt) None)
+
   -- the part where a token of the class is next, and else nothing (own)
   abbrev pub opt : {A : Type 0} → (T → Bool) → Part T V A → Part T V (Option A)
   opt c p = alt c (act Some p) (done None)

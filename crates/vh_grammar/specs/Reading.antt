@@ -1,6 +1,6 @@
 -- Reading: one total function from a part and a list of tokens to a tree with the tokens that are left,
 -- or to a fault with its place.
-use Rattle.std.specs.Prelude.{ℕ, zero, suc, Bool, true, false, cond, Option, Some, None, List, [], ◌∷◌, length}
+use Rattle.std.specs.Prelude.{ℕ, zero, suc, Bool, true, false, cond, Option, Some, None, List, [], ◌∷◌, ◌++◌, length}
 use Rattle.vh_grammar.specs.Part.{Part, done, tok, seq, bind, act, alt, rep, iter, nested, unless, barred}
 
 -- Why tokens are refused (own).
@@ -84,6 +84,10 @@ module _ {T P : Type 0} {V : P → Type 0} (grammar : (p : P) → Part T V (V p)
   -- reads a part with so many levels left below it (own)
   abbrev pub read : {A : Type 0} → ℕ → Part T V A → List T → Out T A
   read levels part ts = run (reader levels) part ts
+
+-- what a loop has read already, in front of what it has still to read (own)
+abbrev pub joined : {T A : Type 0} → List A → Out T (List A) → Out T (List A)
+joined front o = then_ o (λ more rest. got (front ++ more) rest)
 
 -- a whole source: a token that is left over is one that could not stand there (own)
 abbrev pub whole : {T A : Type 0} → Out T A → Out T A

@@ -4,18 +4,16 @@ use Rattle.std.specs.Prelude.{◌≡◌, ℕ, zero, suc, Bool, true, false, Opti
 use Rattle.vh_grammar.specs.Part.{Part, done, tok, seq, bind, act, alt, rep, iter, nested, unless, barred}
 use Rattle.vh_grammar.specs.Reading.{Fault, lost, deep, left_out, next_is}
 
--- the tokens from `ts` up to `rest` are items, one for each tree of the list, each begun by a token of
--- the class, and no such token is next after the last (own)
-abbrev pub Repeats : {T A : Type 0} → (A → List T → List T → Type 0) → (T → Bool) → List A → List T → List T → Type 0
-Repeats Item class [] ts rest = (rest ≡ ts) × (next_is class ts ≡ false)
-Repeats {T} Item class (a ∷ more) ts rest =
-    (next_is class ts ≡ true) × ((mid : List T) × Item a ts mid × Repeats Item class more mid rest)
+-- the tokens from `ts` up to `rest` are items, one for each tree of the list, and behind the last it
+-- ends (own)
+abbrev pub Repeats : {T A : Type 0} → (A → List T → List T → Type 0) → (List T → Type 0) → List A → List T → List T → Type 0
+Repeats Item End [] ts rest = (rest ≡ ts) × End ts
+Repeats {T} Item End (a ∷ more) ts rest = (mid : List T) × Item a ts mid × Repeats Item End more mid rest
 
--- after `n` turns, each begun by a token of the class, this holds of the state and of the tokens left (own)
-abbrev pub AfterTurns : {T S : Type 0} → (S → S → List T → List T → Type 0) → (S → T → Bool) → (S → List T → Type 0) → ℕ → S → List T → Type 0
-AfterTurns Turn class End zero s ts = End s ts
-AfterTurns {T} {S} Turn class End (suc n) s ts =
-    (next_is (class s) ts ≡ true) × ((u : S) × (mid : List T) × Turn s u ts mid × AfterTurns Turn class End n u mid)
+-- after `n` turns from a state and these tokens, this holds of the state and of the tokens left (own)
+abbrev pub AfterTurns : {T S : Type 0} → (S → S → List T → List T → Type 0) → (S → List T → Type 0) → ℕ → S → List T → Type 0
+AfterTurns Turn End zero s ts = End s ts
+AfterTurns {T} {S} Turn End (suc n) s ts = (u : S) × (mid : List T) × Turn s u ts mid × AfterTurns Turn End n u mid
 
 -- the first token is none of the class (own)
 abbrev pub NoToken : {T A : Type 0} → (T → Option A) → List T → Type 0
@@ -32,9 +30,9 @@ module _ {T P : Type 0} {V : P → Type 0} (Nested : (p : P) → V p → List T 
   Reads (bind {A} p q) b ts rest = (a : A) × (mid : List T) × Reads p a ts mid × Reads (q a) b mid rest
   Reads (act {A} f p) b ts rest = (a : A) × (b ≡ f a) × Reads p a ts rest
   Reads (alt class p q) a ts rest = ((next_is class ts ≡ true) × Reads p a ts rest) ⊎ ((next_is class ts ≡ false) × Reads q a ts rest)
-  Reads (rep class p) list ts rest = Repeats (Reads p) class list ts rest
+  Reads (rep class p) list ts rest = Repeats (λ a m r. (next_is class m ≡ true) × Reads p a m r) (λ m. next_is class m ≡ false) list ts rest
   Reads (iter class part s) a ts rest =
-      (n : ℕ) × AfterTurns (λ u v m r. Reads (part u) v m r) class (λ u m. (a ≡ u) × (rest ≡ m) × (next_is (class u) m ≡ false)) n s ts
+      (n : ℕ) × AfterTurns (λ u v m r. (next_is (class u) m ≡ true) × Reads (part u) v m r) (λ u m. (a ≡ u) × (rest ≡ m) × (next_is (class u) m ≡ false)) n s ts
   Reads (nested p) a ts rest = Nested p a ts rest
   Reads (unless class p) a ts rest = (next_is class ts ≡ false) × Reads p a ts rest
   Reads (barred class p) a ts rest = Reads p a ts rest × (next_is (class a) rest ≡ false)
@@ -51,9 +49,9 @@ module _ {T P : Type 0} {V : P → Type 0} (Nested : (p : P) → V p → List T 
     Begins (act f p) ts = Begins p ts
     Begins (alt class p q) ts = ((next_is class ts ≡ true) × Begins p ts) ⊎ ((next_is class ts ≡ false) × Begins q ts)
     Begins (rep {A} class p) ts =
-        (n : ℕ) × AfterTurns (λ _ _ m r. (a : A) × Reads p a m r) (λ _. class) (λ _ m. (m ≡ []) ⊎ ((next_is class m ≡ true) × Begins p m)) n (tt {0}) ts
+        (n : ℕ) × AfterTurns (λ _ _ m r. (next_is class m ≡ true) × ((a : A) × Reads p a m r)) (λ _ m. (m ≡ []) ⊎ ((next_is class m ≡ true) × Begins p m)) n (tt {0}) ts
     Begins (iter class part s) ts =
-        (n : ℕ) × AfterTurns (λ u v m r. Reads (part u) v m r) class (λ u m. (m ≡ []) ⊎ ((next_is (class u) m ≡ true) × Begins (part u) m)) n s ts
+        (n : ℕ) × AfterTurns (λ u v m r. (next_is (class u) m ≡ true) × Reads (part u) v m r) (λ u m. (m ≡ []) ⊎ ((next_is (class u) m ≡ true) × Begins (part u) m)) n s ts
     Begins (nested p) ts = NestedBegins p ts
     Begins (unless class p) ts = (next_is class ts ≡ false) × Begins p ts
     Begins (barred class p) ts = Begins p ts
@@ -69,9 +67,9 @@ module _ {T P : Type 0} {V : P → Type 0} (Nested : (p : P) → V p → List T 
     Meets (alt class p q) fault ts left =
         ((next_is class ts ≡ true) × Meets p fault ts left) ⊎ ((next_is class ts ≡ false) × Meets q fault ts left)
     Meets (rep {A} class p) fault ts left =
-        (n : ℕ) × AfterTurns (λ _ _ m r. (a : A) × Reads p a m r) (λ _. class) (λ _ m. (next_is class m ≡ true) × Meets p fault m left) n (tt {0}) ts
+        (n : ℕ) × AfterTurns (λ _ _ m r. (next_is class m ≡ true) × ((a : A) × Reads p a m r)) (λ _ m. (next_is class m ≡ true) × Meets p fault m left) n (tt {0}) ts
     Meets (iter class part s) fault ts left =
-        (n : ℕ) × AfterTurns (λ u v m r. Reads (part u) v m r) class (λ u m. (next_is (class u) m ≡ true) × Meets (part u) fault m left) n s ts
+        (n : ℕ) × AfterTurns (λ u v m r. (next_is (class u) m ≡ true) × Reads (part u) v m r) (λ u m. (next_is (class u) m ≡ true) × Meets (part u) fault m left) n s ts
     Meets (nested p) fault ts left = NestedMeets p fault ts left
     Meets (unless class p) fault ts left =
         ((next_is class ts ≡ true) × (fault ≡ left_out) × (left ≡ length ts)) ⊎ ((next_is class ts ≡ false) × Meets p fault ts left)

@@ -7,7 +7,7 @@
 use Rattle.std.specs.Prelude.{ℕ, ◌+◌, ◌*◌, ◌-◌, Bool, true, false, ◌||◌, cond, List, [], ◌∷◌, ◌++◌, Option, Some, None, codes, fold, nat_eq, nat_lt, bytes_eq}
 use Rattle.vh_base.specs.declared.first.FirstBit.{FirstBit}
 use Rattle.vh_base.specs.declared.first.FirstBit.TheVariants.{Zero, One}
-use Rattle.vh_grammar.specs.Part.{Part, tok, alt, rep, nested, act, seq, done, two, after, before, listed}
+use Rattle.vh_grammar.specs.Part.{Part, tok, alt, rep, nested, act, two, after, before, listed}
 use Rattle.vh_grammar.specs.Reading.{Out, read, whole}
 use Rattle.vh_parse.specs.Token.{Token, word, name, system, digits, sized, text, mark}
 use Rattle.vh_parse.specs.Tree.{Step, wait, assign, show, finish, Item, registers, initial, Module}
@@ -146,10 +146,14 @@ display =
 unfoldable pub finishing : G (List Step)
 finishing = act finishes (after (exactly (is_system (codes "$finish"))) (exactly (is_mark semicolon)))
 
+-- { st } (IEEE 1364-2005, A.6.3 seq_block)
+unfoldable pub statements : G (List Step)
+statements = act in_order (rep begins_statement (nested statement))
+
 -- "begin" { st } "end" (IEEE 1364-2005, A.6.3 seq_block)
 unfoldable pub sequence : G (List Step)
 sequence =
-    after (exactly (is_word (codes "begin"))) (before (act in_order (rep begins_statement (nested statement))) (exactly (is_word (codes "end"))))
+    after (exactly (is_word (codes "begin"))) (before statements (exactly (is_word (codes "end"))))
 
 -- st (IEEE 1364-2005, A.6.4 statement)
 unfoldable pub any_statement : G (List Step)
@@ -163,6 +167,10 @@ any_statement =
 -- the table
 abbrev pub grammar : (p : Production) → G (Tree p)
 grammar statement = any_statement
+
+-- ID { "," ID } (IEEE 1364-2005, A.2.3 list_of_variable_identifiers)
+unfoldable pub names : G (List (List ℕ))
+names = listed (is_mark comma) (exactly (is_mark comma)) (tok name_in)
 
 -- "reg" ID { "," ID } ";" (IEEE 1364-2005, A.2.1.3 reg_declaration)
 unfoldable pub declaration : G Item
@@ -182,8 +190,12 @@ begins_item t = is_word (codes "reg") t || is_word (codes "initial") t
 unfoldable pub item : G Item
 item = alt (is_word (codes "reg")) declaration initial_construct
 
+-- { item } (IEEE 1364-2005, A.1.2 module_declaration)
+unfoldable pub items : G (List Item)
+items = rep begins_item item
+
 abbrev pub named : List ℕ → List Item → Module
-named bytes items = record { name = bytes; items = items }
+named bytes list = record { name = bytes; items = list }
 
 -- first (IEEE 1364-2005, A.1.2 module_declaration)
 unfoldable pub first : G Module

@@ -3,3 +3,5 @@ pub mod Spelling
 pub mod Tree
 pub mod Grammar
 pub mod Meaning
+pub mod Seen
+pub mod Fault

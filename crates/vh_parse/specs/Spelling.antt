@@ -36,7 +36,7 @@ abbrev pub is_mark : ℕ → Bool
 is_mark byte = nat_eq byte 35 || nat_eq byte 40 || nat_eq byte 41 || nat_eq byte 44 || nat_eq byte 59 || nat_eq byte 61
 
 -- the reserved words (IEEE 1364-2005, Annex B)
-abbrev pub reserved_words : List (List ℕ)
+unfoldable pub reserved_words : List (List ℕ)
 reserved_words =
     codes "always" ∷ codes "and" ∷ codes "assign" ∷ codes "automatic" ∷ codes "begin" ∷
     codes "buf" ∷ codes "bufif0" ∷ codes "bufif1" ∷ codes "case" ∷ codes "casex" ∷ codes "casez" ∷
@@ -66,7 +66,7 @@ reserved_words =
 
 -- a name that is reserved (IEEE 1364-2005, 2.8)
 abbrev pub is_reserved : List ℕ → Bool
-is_reserved bytes = list_any (bytes_eq bytes) reserved_words
+is_reserved bytes = list_any (λ reserved. bytes_eq reserved bytes) reserved_words
 
 -- What bytes begin with: white space of one byte, a token of so many bytes, or neither (own).
 pub data Piece : Type 0 where

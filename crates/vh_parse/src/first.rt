@@ -3,6 +3,7 @@ ghost use Rattle.vh_base.specs.First.{are_declared};
 ghost use Rattle.vh_parse.specs.Meaning.{first_of};
 
 use crate::fault::FirstFault;
+use crate::{lexer, meaning, parser};
 use std::alloc::Global;
 use vh_base::First;
 
@@ -13,5 +14,7 @@ pub fn parse_first(alloc: Global, bytes: &[u8]) -> Result<First, FirstFault>
     ensures declared { IfOk result (λ design. IsTrue (are_declared design)) }
     ensures not_built { result ≡ Err FirstFault.NotBuilt → first_of bytes.now ≡ None }
 {
-    Err(FirstFault::NoMemory)
+    let tokens = lexer::tokens(alloc, bytes)?;
+    let module = parser::source(alloc, &tokens)?;
+    meaning::design(alloc, &module)
 }

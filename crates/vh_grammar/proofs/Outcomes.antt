@@ -11,18 +11,18 @@ abbrev pub Says_of : {T A : Type 0} → (A → List T → List T → Type 0) →
 Says_of I E ts (got a rest) = I a ts rest
 Says_of I E ts (stop fault left) = E fault ts left
 
-abbrev one : {T P : Type 0} (V : P → Type 0) {A : Type 0} → (T → Option A) → Part T V A
+abbrev pub one : {T P : Type 0} (V : P → Type 0) {A : Type 0} → (T → Option A) → Part T V A
 one V meaning = tok meaning
 
 abbrev pub Meets_item : {T A : Type 0} → (A → List T → List T → Type 0) → (Fault → List T → ℕ → Type 0) → (T → Bool) → Fault → List T → ℕ → Type 0
 Meets_item {T} {A} I E class fault ts left =
-    (n : ℕ) × AfterTurns (λ _ _ m r. (a : A) × I a m r) (λ _. class) (λ _ m. (next_is class m ≡ true) × E fault m left) n (tt {0}) ts
+    (n : ℕ) × AfterTurns (λ _ _ m r. (next_is class m ≡ true) × ((a : A) × I a m r)) (λ _ m. (next_is class m ≡ true) × E fault m left) n (tt {0}) ts
 
 abbrev pub Reads_turns : {T S : Type 0} → (S → S → List T → List T → Type 0) → (S → T → Bool) → S → S → List T → List T → Type 0
-Reads_turns I class s a ts rest = (n : ℕ) × AfterTurns I class (λ u m. (a ≡ u) × (rest ≡ m) × (next_is (class u) m ≡ false)) n s ts
+Reads_turns I class s a ts rest = (n : ℕ) × AfterTurns (λ u v m r. (next_is (class u) m ≡ true) × I u v m r) (λ u m. (a ≡ u) × (rest ≡ m) × (next_is (class u) m ≡ false)) n s ts
 
 abbrev pub Meets_turns : {T S : Type 0} → (S → S → List T → List T → Type 0) → (S → Fault → List T → ℕ → Type 0) → (S → T → Bool) → S → Fault → List T → ℕ → Type 0
-Meets_turns I E class s fault ts left = (n : ℕ) × AfterTurns I class (λ u m. (next_is (class u) m ≡ true) × E u fault m left) n s ts
+Meets_turns I E class s fault ts left = (n : ℕ) × AfterTurns (λ u v m r. (next_is (class u) m ≡ true) × I u v m r) (λ u m. (next_is (class u) m ≡ true) × E u fault m left) n s ts
 
 pub shorter_mid : {T A : Type 0} (ts mid : List T) (a : A) (o : Out T A) (n : ℕ) → o ≡ got a mid → Sized 1 ts o → length ts ≤ suc n → length mid ≤ n
 shorter_mid ts mid a o n e h b = let k : Sized 1 ts (got a mid) = rw e at h in omega arith
@@ -33,34 +33,34 @@ next-none class (t ∷ ts) e b = omega arith
 
 -- a repetition
 module _ {T A : Type 0} (item : List T → Out T A) (I : A → List T → List T → Type 0) (E : Fault → List T → ℕ → Type 0) (class : T → Bool) (short : (ts : List T) → Sized 1 ts (item ts)) where
-  many-sound : ((ts : List T) → Says_of I E ts (item ts)) → (n : ℕ) (ts : List T) → length ts ≤ n → Says_of (Repeats I class) (Meets_item I E class) ts (many item class n ts)
+  many-sound : ((ts : List T) → Says_of I E ts (item ts)) → (n : ℕ) (ts : List T) → length ts ≤ n → Says_of (Repeats (λ a m r. (next_is class m ≡ true) × I a m r) (λ m. next_is class m ≡ false)) (Meets_item I E class) ts (many item class n ts)
   many-sound h zero [] b = (refl, refl)
   many-sound h zero (t ∷ ts) b = absurd (omega arith)
   many-sound h (suc n) ts b = go (next_is class ts) refl (item ts) (h ts) (short ts) (λ mid l. many-sound h n mid l)
     where
-      join : (a : A) (mid : List T) → next_is class ts ≡ true → I a ts mid → (o : Out T (List A)) → Says_of (Repeats I class) (Meets_item I E class) mid o → Says_of (Repeats I class) (Meets_item I E class) ts (then_ o (λ more rest. got (a ∷ more) rest))
-      join a mid e i (got more rest) r = (e, (mid, i, r))
-      join a mid e i (stop fault left) r = (suc r.0, (e, (tt, mid, (a, i), r.1)))
-      go : (d : Bool) → next_is class ts ≡ d → (o : Out T A) → Says_of I E ts o → Sized 1 ts o → ((mid : List T) → length mid ≤ n → Says_of (Repeats I class) (Meets_item I E class) mid (many item class n mid)) → Says_of (Repeats I class) (Meets_item I E class) ts (cond d (then_ o (λ a mid. then_ (many item class n mid) (λ more rest. got (a ∷ more) rest))) (got [] ts))
+      join : (a : A) (mid : List T) → next_is class ts ≡ true → I a ts mid → (o : Out T (List A)) → Says_of (Repeats (λ a m r. (next_is class m ≡ true) × I a m r) (λ m. next_is class m ≡ false)) (Meets_item I E class) mid o → Says_of (Repeats (λ a m r. (next_is class m ≡ true) × I a m r) (λ m. next_is class m ≡ false)) (Meets_item I E class) ts (then_ o (λ more rest. got (a ∷ more) rest))
+      join a mid e i (got more rest) r = (mid, (e, i), r)
+      join a mid e i (stop fault left) r = (suc r.0, (tt, mid, (e, (a, i)), r.1))
+      go : (d : Bool) → next_is class ts ≡ d → (o : Out T A) → Says_of I E ts o → Sized 1 ts o → ((mid : List T) → length mid ≤ n → Says_of (Repeats (λ a m r. (next_is class m ≡ true) × I a m r) (λ m. next_is class m ≡ false)) (Meets_item I E class) mid (many item class n mid)) → Says_of (Repeats (λ a m r. (next_is class m ≡ true) × I a m r) (λ m. next_is class m ≡ false)) (Meets_item I E class) ts (cond d (then_ o (λ a mid. then_ (many item class n mid) (λ more rest. got (a ∷ more) rest))) (got [] ts))
       go false e o i s more = (refl, e)
       go true e (stop fault left) i s more = (0, (e, i))
       go true e (got a mid) i s more = join a mid e i (many item class n mid) (more mid (omega arith))
 
-  many-tree : ((a : A) (ts rest : List T) → I a ts rest → item ts ≡ got a rest) → (list : List A) (n : ℕ) (ts rest : List T) → length ts ≤ n → Repeats I class list ts rest → many item class n ts ≡ got list rest
+  many-tree : ((a : A) (ts rest : List T) → I a ts rest → item ts ≡ got a rest) → (list : List A) (n : ℕ) (ts rest : List T) → length ts ≤ n → Repeats (λ a m r. (next_is class m ≡ true) × I a m r) (λ m. next_is class m ≡ false) list ts rest → many item class n ts ≡ got list rest
   many-tree h [] zero ts rest b r = ap (λ (z : List T). got [] z) (sym r.0)
   many-tree h [] (suc n) ts rest b r = rw (r.1, r.0)
-  many-tree h (a ∷ more) zero ts rest b r = absurd (next-none class ts r.0 b)
+  many-tree h (a ∷ more) zero ts rest b r = absurd (next-none class ts r.1.0 b)
   many-tree h (a ∷ more) (suc n) ts rest b r =
-      let e : item ts ≡ got a r.1.0 = h a ts r.1.0 r.1.1 in
-      rw (r.0, e, many-tree h more n r.1.0 rest (shorter_mid ts r.1.0 a (item ts) n e (short ts) b) r.1.2)
+      let e : item ts ≡ got a r.0 = h a ts r.0 r.1.1 in
+      rw (r.1.0, e, many-tree h more n r.0 rest (shorter_mid ts r.0 a (item ts) n e (short ts) b) r.2)
 
-  many-fault : ((a : A) (ts rest : List T) → I a ts rest → item ts ≡ got a rest) → ((fault : Fault) (ts : List T) (left : ℕ) → E fault ts left → item ts ≡ stop fault left) → (fault : Fault) (left k n : ℕ) (ts : List T) → length ts ≤ n → AfterTurns (λ _ _ m r. (a : A) × I a m r) (λ _. class) (λ _ m. (next_is class m ≡ true) × E fault m left) k (tt {0}) ts → many item class n ts ≡ stop fault left
+  many-fault : ((a : A) (ts rest : List T) → I a ts rest → item ts ≡ got a rest) → ((fault : Fault) (ts : List T) (left : ℕ) → E fault ts left → item ts ≡ stop fault left) → (fault : Fault) (left k n : ℕ) (ts : List T) → length ts ≤ n → AfterTurns (λ _ _ m r. (next_is class m ≡ true) × ((a : A) × I a m r)) (λ _ m. (next_is class m ≡ true) × E fault m left) k (tt {0}) ts → many item class n ts ≡ stop fault left
   many-fault h f fault left zero zero ts b r = absurd (next-none class ts r.0 b)
-  many-fault h f fault left (suc k) zero ts b r = absurd (next-none class ts r.0 b)
+  many-fault h f fault left (suc k) zero ts b r = absurd (next-none class ts r.2.0 b)
   many-fault h f fault left zero (suc n) ts b r = rw (r.0, f fault ts left r.1)
   many-fault h f fault left (suc k) (suc n) ts b r =
-      let e : item ts ≡ got r.1.2.0 r.1.1 = h r.1.2.0 ts r.1.1 r.1.2.1 in
-      rw (r.0, e, many-fault h f fault left k n r.1.1 (shorter_mid ts r.1.1 r.1.2.0 (item ts) n e (short ts) b) r.1.3)
+      let e : item ts ≡ got r.2.1.0 r.1 = h r.2.1.0 ts r.1 r.2.1.1 in
+      rw (r.2.0, e, many-fault h f fault left k n r.1 (shorter_mid ts r.1 r.2.1.0 (item ts) n e (short ts) b) r.3)
 
 -- an iteration
 module _ {T S : Type 0} (turn : S → List T → Out T S) (I : S → S → List T → List T → Type 0) (E : S → Fault → List T → ℕ → Type 0) (class : S → T → Bool) (short : (s : S) (ts : List T) → Sized 1 ts (turn s ts)) where
@@ -70,28 +70,28 @@ module _ {T S : Type 0} (turn : S → List T → Out T S) (I : S → S → List 
   turns-sound h (suc n) s ts b = go (next_is (class s) ts) refl (turn s ts) (h s ts) (short s ts) (λ u mid l. turns-sound h n u mid l)
     where
       join : (u : S) (mid : List T) → next_is (class s) ts ≡ true → I s u ts mid → (o : Out T S) → Says_of (Reads_turns I class u) (Meets_turns I E class u) mid o → Says_of (Reads_turns I class s) (Meets_turns I E class s) ts o
-      join u mid e i (got v rest) r = (suc r.0, (e, (u, mid, i, r.1)))
-      join u mid e i (stop fault left) r = (suc r.0, (e, (u, mid, i, r.1)))
+      join u mid e i (got v rest) r = (suc r.0, (u, mid, (e, i), r.1))
+      join u mid e i (stop fault left) r = (suc r.0, (u, mid, (e, i), r.1))
       go : (d : Bool) → next_is (class s) ts ≡ d → (o : Out T S) → Says_of (I s) (E s) ts o → Sized 1 ts o → ((u : S) (mid : List T) → length mid ≤ n → Says_of (Reads_turns I class u) (Meets_turns I E class u) mid (turns turn class n u mid)) → Says_of (Reads_turns I class s) (Meets_turns I E class s) ts (cond d (then_ o (turns turn class n)) (got s ts))
       go false e o i z more = (0, (refl, refl, e))
       go true e (stop fault left) i z more = (0, (e, i))
       go true e (got u mid) i z more = join u mid e i (turns turn class n u mid) (more u mid (omega arith))
 
-  turns-tree : ((s u : S) (ts rest : List T) → I s u ts rest → turn s ts ≡ got u rest) → (a : S) (rest : List T) (k n : ℕ) (s : S) (ts : List T) → length ts ≤ n → AfterTurns I class (λ u m. (a ≡ u) × (rest ≡ m) × (next_is (class u) m ≡ false)) k s ts → turns turn class n s ts ≡ got a rest
+  turns-tree : ((s u : S) (ts rest : List T) → I s u ts rest → turn s ts ≡ got u rest) → (a : S) (rest : List T) (k n : ℕ) (s : S) (ts : List T) → length ts ≤ n → AfterTurns (λ u v m r. (next_is (class u) m ≡ true) × I u v m r) (λ u m. (a ≡ u) × (rest ≡ m) × (next_is (class u) m ≡ false)) k s ts → turns turn class n s ts ≡ got a rest
   turns-tree h a rest zero zero s ts b r = rw (r.0, r.1)
   turns-tree h a rest zero (suc n) s ts b r = rw (r.2, r.0, r.1)
-  turns-tree h a rest (suc k) zero s ts b r = absurd (next-none (class s) ts r.0 b)
+  turns-tree h a rest (suc k) zero s ts b r = absurd (next-none (class s) ts r.2.0 b)
   turns-tree h a rest (suc k) (suc n) s ts b r =
-      let e : turn s ts ≡ got r.1.0 r.1.1 = h s r.1.0 ts r.1.1 r.1.2 in
-      rw (r.0, e, turns-tree h a rest k n r.1.0 r.1.1 (shorter_mid ts r.1.1 r.1.0 (turn s ts) n e (short s ts) b) r.1.3)
+      let e : turn s ts ≡ got r.0 r.1 = h s r.0 ts r.1 r.2.1 in
+      rw (r.2.0, e, turns-tree h a rest k n r.0 r.1 (shorter_mid ts r.1 r.0 (turn s ts) n e (short s ts) b) r.3)
 
-  turns-fault : ((s u : S) (ts rest : List T) → I s u ts rest → turn s ts ≡ got u rest) → ((s : S) (fault : Fault) (ts : List T) (left : ℕ) → E s fault ts left → turn s ts ≡ stop fault left) → (fault : Fault) (left k n : ℕ) (s : S) (ts : List T) → length ts ≤ n → AfterTurns I class (λ u m. (next_is (class u) m ≡ true) × E u fault m left) k s ts → turns turn class n s ts ≡ stop fault left
+  turns-fault : ((s u : S) (ts rest : List T) → I s u ts rest → turn s ts ≡ got u rest) → ((s : S) (fault : Fault) (ts : List T) (left : ℕ) → E s fault ts left → turn s ts ≡ stop fault left) → (fault : Fault) (left k n : ℕ) (s : S) (ts : List T) → length ts ≤ n → AfterTurns (λ u v m r. (next_is (class u) m ≡ true) × I u v m r) (λ u m. (next_is (class u) m ≡ true) × E u fault m left) k s ts → turns turn class n s ts ≡ stop fault left
   turns-fault h f fault left zero zero s ts b r = absurd (next-none (class s) ts r.0 b)
-  turns-fault h f fault left (suc k) zero s ts b r = absurd (next-none (class s) ts r.0 b)
+  turns-fault h f fault left (suc k) zero s ts b r = absurd (next-none (class s) ts r.2.0 b)
   turns-fault h f fault left zero (suc n) s ts b r = rw (r.0, f s fault ts left r.1)
   turns-fault h f fault left (suc k) (suc n) s ts b r =
-      let e : turn s ts ≡ got r.1.0 r.1.1 = h s r.1.0 ts r.1.1 r.1.2 in
-      rw (r.0, e, turns-fault h f fault left k n r.1.0 r.1.1 (shorter_mid ts r.1.1 r.1.0 (turn s ts) n e (short s ts) b) r.1.3)
+      let e : turn s ts ≡ got r.0 r.1 = h s r.0 ts r.1 r.2.1 in
+      rw (r.2.0, e, turns-fault h f fault left k n r.0 r.1 (shorter_mid ts r.1 r.0 (turn s ts) n e (short s ts) b) r.3)
 
 module _ {T P : Type 0} {V : P → Type 0} (R : (p : P) → List T → Out T (V p)) (N : (p : P) → V p → List T → List T → Type 0) (M : (p : P) → Fault → List T → ℕ → Type 0) (each : (p : P) (ts : List T) → Sized 1 ts (R p ts)) where
   short-run : {A : Type 0} (p : Part T V A) → eats p ≡ true → (ts : List T) → Sized 1 ts (run R p ts)
@@ -131,7 +131,7 @@ module _ {T P : Type 0} {V : P → Type 0} (R : (p : P) → List T → Out T (V 
         go : (o : Out T A) → Says_of (Reads N p) (Meets N M p) ts o → Says_of (Reads N (act f p)) (Meets N M (act f p)) ts (then_ o (λ a rest. got (f a) rest))
         go (got a rest) i = (a, refl, i)
         go (stop fault left) i = i
-    run-sound (alt {A} class p q) v ts = go (next_is class ts) refl (run R p ts) (run R q ts) (run-sound p v.0 ts) (run-sound q v.1 ts)
+    run-sound (alt {A} class p q) v ts = go (next_is class ts) refl (run R p ts) (run R q ts) (run-sound p v.1 ts) (run-sound q v.2 ts)
       where
         go : (d : Bool) → next_is class ts ≡ d → (o o' : Out T A) → Says_of (Reads N p) (Meets N M p) ts o → Says_of (Reads N q) (Meets N M q) ts o' → Says_of (Reads N (alt class p q)) (Meets N M (alt class p q)) ts (cond d o o')
         go true e (got a rest) o' i j = inl (e, i)
@@ -164,8 +164,8 @@ module _ {T P : Type 0} {V : P → Type 0} (R : (p : P) → List T → Out T (V 
     run-tree (seq p q) v a ts rest h = rw (run-tree p v.0 a.0 ts h.0 h.1, run-tree q v.1 a.1 h.0 rest h.2)
     run-tree (bind p q) v b ts rest h = rw (run-tree p v.0 h.0 ts h.1 h.2, run-tree (q h.0) (v.1 h.0) b h.1 rest h.3)
     run-tree (act f p) v b ts rest h = rw (run-tree p v h.0 ts rest h.2, h.1)
-    run-tree (alt class p q) v a ts rest (inl h) = rw (h.0, run-tree p v.0 a ts rest h.1)
-    run-tree (alt class p q) v a ts rest (inr h) = rw (h.0, run-tree q v.1 a ts rest h.1)
+    run-tree (alt class p q) v a ts rest (inl h) = rw (h.0, run-tree p v.1 a ts rest h.1)
+    run-tree (alt class p q) v a ts rest (inr h) = rw (h.0, run-tree q v.2 a ts rest h.1)
     run-tree (rep class p) v a ts rest h = many-tree (run R p) (Reads N p) (Meets N M p) class (short-run p v.0) (run-tree p v.1) a (length ts) ts rest (omega arith) h
     run-tree (iter class part s) v a ts rest h = turns-tree (λ u. run R (part u)) (λ u. Reads N (part u)) (λ u. Meets N M (part u)) class (λ u. short-run (part u) (v u).0) (λ u w m r. run-tree (part u) (v u).1 w m r) a rest h.0 (length ts) s ts (omega arith) h.1
     run-tree (nested p) v a ts rest h = nested-tree p a ts rest h
@@ -185,8 +185,8 @@ module _ {T P : Type 0} {V : P → Type 0} (R : (p : P) → List T → Out T (V 
       run-fault (bind p q) v fault ts left (inl h) = rw (run-fault p v.0 fault ts left h)
       run-fault (bind p q) v fault ts left (inr h) = rw (run-tree p v.0 h.0 ts h.1 h.2, run-fault (q h.0) (v.1 h.0) fault h.1 left h.3)
       run-fault (act f p) v fault ts left h = rw (run-fault p v fault ts left h)
-      run-fault (alt class p q) v fault ts left (inl h) = rw (h.0, run-fault p v.0 fault ts left h.1)
-      run-fault (alt class p q) v fault ts left (inr h) = rw (h.0, run-fault q v.1 fault ts left h.1)
+      run-fault (alt class p q) v fault ts left (inl h) = rw (h.0, run-fault p v.1 fault ts left h.1)
+      run-fault (alt class p q) v fault ts left (inr h) = rw (h.0, run-fault q v.2 fault ts left h.1)
       run-fault (rep class p) v fault ts left h = many-fault (run R p) (Reads N p) (Meets N M p) class (short-run p v.0) (run-tree p v.1) (run-fault p v.1) fault left h.0 (length ts) ts (omega arith) h.1
       run-fault (iter class part s) v fault ts left h = turns-fault (λ u. run R (part u)) (λ u. Reads N (part u)) (λ u. Meets N M (part u)) class (λ u. short-run (part u) (v u).0) (λ u w m r. run-tree (part u) (v u).1 w m r) (λ u f m l. run-fault (part u) (v u).1 f m l) fault left h.0 (length ts) s ts (omega arith) h.1
       run-fault (nested p) v fault ts left h = nested-fault p fault ts left h

@@ -1,0 +1,22 @@
+-- A level is taken off, and a chain's loop goes on by a link.
+use Rattle.std.proofs.Common.{◌≡◌, ℕ, suc, ◌-◌, List, ◌∷◌, ◌++◌, map, sym, ap, ◌∙◌, arith}
+use Rattle.std.proofs.lemmas.List.{map-append}
+use Rattle.vh_grammar.specs.Says.{Says}
+use Rattle.vh_grammar_demo.specs.Views.{expr_tree}
+use Rattle.vh_grammar_demo.specs.Grammar.{reads, chain_at, expression, grammar, expr}
+use Rattle.vh_grammar_demo.proofs.Loops.{links_turn, links_end, link_less}
+use Rattle.vh_grammar_demo.proofs.parser.+expression.Goals as goal
+
+pub chain-returns : goal.chain-returns
+chain-returns t c = let e : c.args.level ≡ suc (c.args.level - 1) = omega arith in rw e c.chained.ensures
+
+pub nested_expression-returns : goal.nested_expression-returns
+nested_expression-returns t c = let e : c.args.depth ≡ suc (c.args.depth - 1) = omega arith in rw e c.expression.ensures
+
+pub links-links-smaller : goal.links-links-smaller
+links-links-smaller t c = link_less _ _ _ _ _ c.in_ok-operator.ensures
+
+pub links-links-preserved : goal.links-links-preserved
+links-links-preserved t c =
+    rw (c.in_ok-push.ensures.items, c.in_ok-push-2.ensures.items, map-append)
+    (c.links.invariant ∙ links_turn _ _ _ _ _ _ _ _ (sym c.links-test.ensures) c.in_ok-operator.ensures)

@@ -1,0 +1,8 @@
+pub mod Cutting
+pub mod Turns
+pub mod Loops
+pub mod Rows
+pub mod Numbers
+pub mod Each
+pub mod Registers
+pub mod Designs

@@ -1,0 +1,10 @@
+use Rattle.std.proofs.Common.{◌≡◌, drop, flat_map}
+use Rattle.vh_parse.specs.Meaning.{each, code_of, blocks_in}
+use Rattle.vh_parse.specs.Seen.{names_seen, items_seen}
+use Rattle.vh_parse.proofs.Each.{onto}
+use Rattle.vh_parse.proofs.meaning.blocks.Given as goal
+
+abbrev pub invariant-loop-item : goal.invariant-loop-item
+invariant-loop-item l =
+    onto l.found.items (each (each (code_of (names_seen l.registers.keys))) (flat_map blocks_in (items_seen (drop l.item-index l.items))))
+    ≡ each (each (code_of (names_seen l.registers.keys))) (flat_map blocks_in (items_seen l.items))

@@ -1,0 +1,9 @@
+use Rattle.std.proofs.Common.{◌≡◌, drop}
+use Rattle.vh_parse.specs.Meaning.{each, code_of}
+use Rattle.vh_parse.specs.Seen.{names_seen, steps_seen}
+use Rattle.vh_parse.proofs.Each.{onto}
+use Rattle.vh_parse.proofs.meaning.code.Given as goal
+
+abbrev pub invariant-loop-step : goal.invariant-loop-step
+invariant-loop-step l =
+    onto l.found.items (each (code_of (names_seen l.registers.keys)) (steps_seen (drop l.step-index l.steps))) ≡ each (code_of (names_seen l.registers.keys)) (steps_seen l.steps)

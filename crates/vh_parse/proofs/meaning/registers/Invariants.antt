@@ -1,0 +1,9 @@
+use Rattle.std.proofs.Common.{◌≡◌, ◌++◌, true, drop, flat_map}
+use Rattle.vh_parse.specs.Meaning.{all_differ, names_in}
+use Rattle.vh_parse.specs.Seen.{names_seen, items_seen}
+use Rattle.vh_parse.proofs.meaning.registers.Given as goal
+
+abbrev pub invariant-loop-item : goal.invariant-loop-item
+invariant-loop-item l =
+    (names_seen l.registers.keys ++ flat_map names_in (items_seen (drop l.item-index l.items)) ≡ flat_map names_in (items_seen l.items))
+    × (all_differ (names_seen l.registers.keys) ≡ true)
