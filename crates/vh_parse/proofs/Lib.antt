@@ -6,3 +6,4 @@ pub mod Numbers
 pub mod Each
 pub mod Registers
 pub mod Designs
+pub mod Declared

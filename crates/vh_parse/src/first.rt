@@ -14,6 +14,14 @@ pub fn parse_first(alloc: Global, bytes: &[u8]) -> Result<First, FirstFault>
     ensures declared { IfOk result (λ design. IsTrue (are_declared design)) }
     ensures not_built { result ≡ Err FirstFault.NotBuilt → first_of bytes.now ≡ None }
 {
+    read_design(alloc, bytes)
+}
+
+// The design, without what follows from its meaning.
+fn read_design(alloc: Global, bytes: &[u8]) -> Result<First, FirstFault>
+    ensures built { IfOk result (λ design. first_of bytes.now ≡ Some design) }
+    ensures not_built { result ≡ Err FirstFault.NotBuilt → first_of bytes.now ≡ None }
+{
     let tokens = lexer::tokens(alloc, bytes)?;
     let module = parser::source(alloc, &tokens)?;
     meaning::design(alloc, &module)
