@@ -9,6 +9,7 @@
 
 mod faults;
 mod first;
+mod format;
 mod memory_files;
 mod memory_sink;
 mod numbers;
@@ -21,6 +22,7 @@ mod tests;
 
 pub use faults::{AppFault, Cause, DesignFault, Fault, NoMemory};
 pub use first::{First, FirstBit, FirstBlocks, FirstCode, FirstNames};
+pub use format::Format;
 pub use memory_files::MemoryFiles;
 pub use memory_sink::MemorySink;
 pub use numbers::{ProcId, Serial};
