@@ -1,6 +1,6 @@
 -- What reading means, with no word of how it is done: which tokens a part spells, with which tokens it
 -- begins, and where it meets a fault. Each is by cases on parts.
-use Rattle.std.specs.Prelude.{◌≡◌, ℕ, zero, suc, Bool, true, false, Option, Some, None, List, [], ◌∷◌, length, ◌⊎◌}
+use Rattle.std.specs.Prelude.{◌≡◌, ℕ, zero, suc, true, false, Option, Some, None, List, [], ◌∷◌, length, ◌⊎◌}
 use Rattle.vh_grammar.specs.Part.{Part, done, tok, seq, bind, act, alt, rep, iter, nested, unless, barred}
 use Rattle.vh_grammar.specs.Reading.{Fault, lost, deep, left_out, next_is}
 

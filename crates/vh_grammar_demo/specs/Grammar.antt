@@ -1,6 +1,6 @@
 -- The grammar of the small language.
-use Rattle.std.specs.Prelude.{◌≡◌, ℕ, zero, suc, Bool, true, false, not, ◌&&◌, ◌||◌, is_some, List, [], ◌∷◌, ◌++◌, map, Option, Some, None, refl}
-use Rattle.vh_grammar.specs.Part.{Part, done, tok, seq, bind, act, alt, rep, iter, nested, unless, barred, only, opt, two, after, before}
+use Rattle.std.specs.Prelude.{ℕ, zero, suc, Bool, true, false, not, ◌&&◌, ◌||◌, is_some, List, [], ◌∷◌, ◌++◌, map, Option, Some, None}
+use Rattle.vh_grammar.specs.Part.{Part, tok, seq, bind, act, alt, rep, iter, nested, unless, barred, only, opt, two, after, before}
 use Rattle.vh_grammar.specs.Reading.{Out, got, then_, read}
 use Rattle.vh_grammar_demo.specs.declared.token.Sign.{Sign}
 use Rattle.vh_grammar_demo.specs.declared.token.Sign.TheVariants as sign

@@ -1,5 +1,5 @@
 -- The classes of the small language's tokens.
-use Rattle.std.specs.Prelude.{ℕ, zero, suc, Bool, true, false, nat_eq, is_some, Option, Some, None, List, [], ◌∷◌}
+use Rattle.std.specs.Prelude.{ℕ, zero, suc, Bool, false, nat_eq, is_some, Option, Some, None, List, [], ◌∷◌}
 use Rattle.vh_grammar_demo.specs.declared.token.Sign.{Sign}
 use Rattle.vh_grammar_demo.specs.declared.token.Sign.TheVariants.{Plus, Minus, Times, Assign, Open, Close, OpenBrace, CloseBrace, OpenBracket, CloseBracket, Dot, Semicolon, If, Else, While}
 use Rattle.vh_grammar_demo.specs.declared.token.Kind.{Kind}

@@ -24,6 +24,7 @@ mutual
     number : ℕ → ℕ → ExprTree
     place : PathTree → ExprTree
     chain : ExprTree → List Operator → Exprs → ExprTree
+
   pub data Exprs : Type 0 where
     no_expr : Exprs
     one_expr : ExprTree → Exprs → Exprs
@@ -35,6 +36,7 @@ mutual
     assign : PathTree → ExprTree → StmtTree
     conditional : ExprTree → Stmts → StmtTree
     block : Stmts → StmtTree
+
   pub data Stmts : Type 0 where
     no_stmt : Stmts
     one_stmt : StmtTree → Stmts → Stmts

@@ -1,9 +1,7 @@
 //! Texts with what reading them answers: each byte is a token.
 
 use super::*;
-
 use std::alloc::{AllocError, Global};
-
 use vh_grammar::Stop;
 
 // A byte as a token: `I`, `E` and `W` are the words.
@@ -94,7 +92,11 @@ fn answers(rt: HostRuntime) {
         (0, "W", Err(Stop::LeftOut(1))),
     ];
     for (levels, text, wanted) in rows {
-        assert_eq!(rt; answer(rt.alloc(), levels, text), wanted, "{text} on {levels}");
+        assert_eq!(rt;
+            answer(rt.alloc(), levels, text),
+            wanted,
+            "{text} on {levels}"
+        );
     }
 }
 
@@ -109,7 +111,10 @@ fn trees(rt: HostRuntime) -> Result<(), Stop> {
             target.place == 0
                 && matches!(**first, Expr::Number(2, 1))
                 && matches!(operators.as_slice(), [Operator::Add, Operator::Subtract])
-                && matches!(operands.as_slice(), [Expr::Chain(..), Expr::Place(Path { place: 8, .. })])
+                && matches!(
+                    operands.as_slice(),
+                    [Expr::Chain(..), Expr::Place(Path { place: 8, .. })]
+                )
         }
         _ => false,
     };
