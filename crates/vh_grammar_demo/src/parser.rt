@@ -6,7 +6,7 @@ ghost use Rattle.vh_grammar.specs.Table.{source, IsSource};
 ghost use Rattle.vh_grammar_demo.specs.Table.{arithmetic};
 ghost use Rattle.vh_grammar.specs.Reading.{next_is, whole};
 ghost use Rattle.vh_grammar.specs.Says.{Says, Passes, Accepts};
-ghost use Rattle.vh_grammar_demo.specs.Token.{is_sign, is_operator, operator_next};
+ghost use Rattle.vh_grammar_demo.specs.Token.{is_sign, is_operator, operator_at, operator_next};
 ghost use Rattle.vh_grammar_demo.specs.Views.{path_tree, expr_tree, link_tree, links_tree, stmt_tree, stmt_trees};
 ghost use Rattle.vh_grammar_demo.specs.Grammar.{reads, the, a_number, a_name, goes_on, path_start, steps, dotted, bracketed, one_step, path, place_only, operand, chain_at, link_with, links_with, expression, inner, otherwise, if_statement, statements, block_statement, assignment, statement, begins_statement, expr, stmt, grammar};
 
@@ -161,30 +161,25 @@ fn place(alloc: Global, depth: usize, tokens: &[Token]) -> Result<(Path, &[Token
     Ok((path, rest))
 }
 
+// A token of this kind as an operator of the level.
+fn operator_of(level: usize, kind: Kind) -> Option<Operator>
+    ensures { result ≡ operator_at level kind }
+{
+    match kind {
+        Kind::Fixed(Sign::Times) if level == 0 => Some(Operator::Multiply),
+        Kind::Fixed(Sign::Plus) if level > 0 => Some(Operator::Add),
+        Kind::Fixed(Sign::Minus) if level > 0 => Some(Operator::Subtract),
+        _ => None,
+    }
+}
+
 // The operator of the level that is next, if one is.
 fn operator(level: usize, tokens: &[Token]) -> Option<Operator>
     ensures { result ≡ operator_next level tokens.now }
 {
-    let [first, ..] = tokens else {
-        return None;
-    };
-    let Kind::Fixed(sign) = first.kind else {
-        return None;
-    };
-    if level == 0 {
-        return if token::is(first.kind, Sign::Times) {
-            Some(Operator::Multiply)
-        } else {
-            None
-        };
-    }
-    if token::is(first.kind, Sign::Plus) {
-        return Some(Operator::Add);
-    }
-    if token::is(first.kind, Sign::Minus) {
-        Some(Operator::Subtract)
-    } else {
-        None
+    match tokens {
+        [] => None,
+        [first, ..] => operator_of(level, first.kind),
     }
 }
 
