@@ -1,9 +1,9 @@
 -- Where each choice is made right at each token, the classes add nothing to the grammar: they are the
 -- first tokens of what is chosen, and without them the same tokens are spelled and begun.
-use Rattle.std.proofs.Common.{◌≡◌, ℕ, zero, suc, ◌+◌, ◌<◌, ◌≤◌, Bool, true, false, cond, ◌&&◌, ◌||◌, Option, Some, None, List, [], ◌∷◌, ◌++◌, length, ◌⊎◌, inl, inr, ◌↔◌, refl, sym, ap, ◌∙◌, arith, add_comm, length-append}
+use Rattle.std.proofs.Common.{◌≡◌, ℕ, zero, suc, ◌+◌, ◌≤◌, Bool, true, false, ◌&&◌, List, [], ◌∷◌, ◌++◌, length, ◌⊎◌, inl, inr, ◌↔◌, refl, sym, ap, ◌∙◌, arith, add_comm, length-append}
 use Rattle.vh_grammar.specs.Part.{Part, done, tok, seq, bind, act, alt, rep, iter, nested, unless, barred}
-use Rattle.vh_grammar.specs.Reading.{Fault, lost, deep, left_out, Out, got, stop, next_is, run, reader}
-use Rattle.vh_grammar.specs.Sentences.{Repeats, AfterTurns, Reads, Begins, Meets, ReadsAt, BeginsAt, MeetsAt}
+use Rattle.vh_grammar.specs.Reading.{lost, deep, left_out, Out, got, stop, next_is, run, reader}
+use Rattle.vh_grammar.specs.Sentences.{Repeats, AfterTurns, Meets, ReadsAt, BeginsAt, MeetsAt}
 use Rattle.vh_grammar.specs.Conditions.{eats, Advances}
 use Rattle.vh_grammar.specs.Language.{not_refused, can_begin, Spells, Opens, SpellsAt, OpensAt}
 use Rattle.vh_grammar.specs.Choices.{is_settled, Heeds, IsFirst, ChoosesByFirsts}
@@ -11,7 +11,7 @@ use Rattle.vh_grammar.proofs.Size.{weight, Sized}
 use Rattle.vh_grammar.proofs.Places.{Cut}
 use Rattle.vh_grammar.proofs.Starts.{Ended}
 use Rattle.vh_grammar.proofs.Levels.{Below, ended-below}
-use Rattle.vh_grammar.proofs.Parts.{On, Begun, Met, size-part, cut-part, tree-part, fault-part, sound-part, begins-part, ended-part, begins-none, below-part}
+use Rattle.vh_grammar.proofs.Parts.{On, Begun, size-part, cut-part, tree-part, fault-part, sound-part, begins-part, ended-part, begins-none, below-part}
 
 -- what a reading of one token alone says, from a reading of more
 one-tree : {T A : Type 0} (m rest : List T) (t : T) (a : A) (o' o : Out T A) → Cut m o' o → o ≡ got a rest → suc (length rest) ≤ suc (length m) → Ended o'
@@ -57,6 +57,7 @@ left-can {T} {A} x y z k b d e = go x b (of y d e)
     of (stop lost j) d e = d ∙ e
     of (stop deep j) d e = cc
     of (stop left_out j) d e = d ∙ e
+
     go : (x : Out T A) → Below x z → z ≡ stop left_out k → not_refused x ≡ true
     go (got c r) b e = cc
     go (stop lost j) b e = cc
@@ -119,6 +120,7 @@ module _ {T P : Type 0} {V : P → Type 0} (grammar : (p : P) → Part T V (V p)
       which : Ended (run (reader grammar reach) p (t ∷ [])) ⊎ (run (reader grammar reach) p (t ∷ []) ≡ stop left_out 1) → Begun grammar reach p (t ∷ []) ⊎ Meets (ReadsAt grammar reach) (MeetsAt grammar reach) p left_out (t ∷ []) 1
       which (inl e) = inl (begins-part grammar eating advancing reach p v (t ∷ []) e)
       which (inr e) = inr (rw e at (sound-part grammar eating advancing reach p v (t ∷ [])))
+
       back : (n : ℕ) → Begun grammar n p (t ∷ []) ⊎ Meets (ReadsAt grammar n) (MeetsAt grammar n) p left_out (t ∷ []) 1 → can_begin (reader grammar reach) p t ≡ true
       back n (inl b) = next-begun n p v t [] b
       back n (inr b) = left-first n 1 p t (fault-part grammar eating advancing n p v left_out (t ∷ []) 1 b)
@@ -159,13 +161,14 @@ module _ {T P : Type 0} {V : P → Type 0} (grammar : (p : P) → Part T V (V p)
           (λ a m r i. let k : On grammar n p a m r = to-reads p v.1 (λ t. (h t).2) a m r i in (next-same class (can_begin (reader grammar reach) p) (λ t. (h t).0) m ∙ next-tree n p v.1 v.0 a m r k, k))
           (λ m e. next-same class (can_begin (reader grammar reach) p) (λ t. (h t).0) m ∙ e)
           list ts rest s
-      to-reads (iter class part s0) v h a ts rest s =
-          (s.0,
-           turns-map (λ u w m r. Spelled (part u) w m r) (λ u w m r. (next_is (class u) m ≡ true) × On grammar n (part u) w m r)
-           (λ u m. (a ≡ u) × (rest ≡ m) × (next_is (can_begin (reader grammar reach) (part u)) m ≡ false)) (λ u m. (a ≡ u) × (rest ≡ m) × (next_is (class u) m ≡ false))
-           (λ u w m r i. let k : On grammar n (part u) w m r = to-reads (part u) (v u).1 (λ t. (h t u).2) w m r i in (next-same (class u) (can_begin (reader grammar reach) (part u)) (λ t. (h t u).0) m ∙ next-tree n (part u) (v u).1 (v u).0 w m r k, k))
-           (λ u m e. (e.0, e.1, next-same (class u) (can_begin (reader grammar reach) (part u)) (λ t. (h t u).0) m ∙ e.2))
-           s.0 s0 ts s.1)
+      to-reads (iter class part s0) v h a ts rest s = (
+        s.0,
+        turns-map (λ u w m r. Spelled (part u) w m r) (λ u w m r. (next_is (class u) m ≡ true) × On grammar n (part u) w m r)
+            (λ u m. (a ≡ u) × (rest ≡ m) × (next_is (can_begin (reader grammar reach) (part u)) m ≡ false)) (λ u m. (a ≡ u) × (rest ≡ m) × (next_is (class u) m ≡ false))
+            (λ u w m r i. let k : On grammar n (part u) w m r = to-reads (part u) (v u).1 (λ t. (h t u).2) w m r i in (next-same (class u) (can_begin (reader grammar reach) (part u)) (λ t. (h t u).0) m ∙ next-tree n (part u) (v u).1 (v u).0 w m r k, k))
+            (λ u m e. (e.0, e.1, next-same (class u) (can_begin (reader grammar reach) (part u)) (λ t. (h t u).0) m ∙ e.2))
+            s.0 s0 ts s.1,
+      )
       to-reads (nested p) v h a ts rest s = nested-reads p a ts rest s
       to-reads (unless class p) v h a ts rest s = (s.0, to-reads p v h a ts rest s.1)
       to-reads (barred class p) v h a ts rest s = (to-reads p v h a ts rest s.0, s.1)
@@ -184,13 +187,14 @@ module _ {T P : Type 0} {V : P → Type 0} (grammar : (p : P) → Part T V (V p)
           (λ a m r i. from-reads p v.1 (λ t. (h t).2) a m r i.1)
           (λ m e. sym (next-same class (can_begin (reader grammar reach) p) (λ t. (h t).0) m) ∙ e)
           list ts rest s
-      from-reads (iter class part s0) v h a ts rest s =
-          (s.0,
-           turns-map (λ u w m r. (next_is (class u) m ≡ true) × On grammar n (part u) w m r) (λ u w m r. Spelled (part u) w m r)
-           (λ u m. (a ≡ u) × (rest ≡ m) × (next_is (class u) m ≡ false)) (λ u m. (a ≡ u) × (rest ≡ m) × (next_is (can_begin (reader grammar reach) (part u)) m ≡ false))
-           (λ u w m r i. from-reads (part u) (v u).1 (λ t. (h t u).2) w m r i.1)
-           (λ u m e. (e.0, e.1, sym (next-same (class u) (can_begin (reader grammar reach) (part u)) (λ t. (h t u).0) m) ∙ e.2))
-           s.0 s0 ts s.1)
+      from-reads (iter class part s0) v h a ts rest s = (
+        s.0,
+        turns-map (λ u w m r. (next_is (class u) m ≡ true) × On grammar n (part u) w m r) (λ u w m r. Spelled (part u) w m r)
+            (λ u m. (a ≡ u) × (rest ≡ m) × (next_is (class u) m ≡ false)) (λ u m. (a ≡ u) × (rest ≡ m) × (next_is (can_begin (reader grammar reach) (part u)) m ≡ false))
+            (λ u w m r i. from-reads (part u) (v u).1 (λ t. (h t u).2) w m r i.1)
+            (λ u m e. (e.0, e.1, sym (next-same (class u) (can_begin (reader grammar reach) (part u)) (λ t. (h t u).0) m) ∙ e.2))
+            s.0 s0 ts s.1,
+      )
       from-reads (nested p) v h a ts rest s = nested-spells p a ts rest s
       from-reads (unless class p) v h a ts rest s = (s.0, from-reads p v h a ts rest s.1)
       from-reads (barred class p) v h a ts rest s = (from-reads p v h a ts rest s.0, s.1)
@@ -218,18 +222,20 @@ module _ {T P : Type 0} {V : P → Type 0} (grammar : (p : P) → Part T V (V p)
       to-begins (act f p) v h ts o = to-begins p v h ts o
       to-begins (alt class p q) v h ts (inl o) = alt-first class p q v h ts (to-begins p v.1 (λ t. (h t).3) ts o)
       to-begins (alt class p q) v h ts (inr o) = alt-second class p q v h ts (to-begins q v.2 (λ t. (h t).4) ts o)
-      to-begins (rep {A} class p) v h ts o =
-          (o.0,
-           turns-map {S = Unit {0}} (λ _ _ m r. (a : A) × Spelled p a m r) (λ _ _ m r. (next_is class m ≡ true) × ((a : A) × On grammar n p a m r)) (λ _ m. (m ≡ []) ⊎ Opened p m) (λ _ m. (m ≡ []) ⊎ ((next_is class m ≡ true) × Begun grammar n p m))
-           (λ _ _ m r i. let k : On grammar n p i.0 m r = to-reads nested-reads p v.1 (λ t. (h t).2) i.0 m r i.1 in (next-same class (can_begin (reader grammar reach) p) (λ t. (h t).0) m ∙ next-tree n p v.1 v.0 i.0 m r k, (i.0, k)))
-           (λ _ m e. elim e [ inl z ↦ inl z | inr z ↦ turn-end class p v.1 (λ t. (h t).0) m (to-begins p v.1 (λ t. (h t).2) m z) ])
-           o.0 tt ts o.1)
-      to-begins (iter class part s0) v h ts o =
-          (o.0,
-           turns-map (λ u w m r. Spelled (part u) w m r) (λ u w m r. (next_is (class u) m ≡ true) × On grammar n (part u) w m r) (λ u m. (m ≡ []) ⊎ Opened (part u) m) (λ u m. (m ≡ []) ⊎ ((next_is (class u) m ≡ true) × Begun grammar n (part u) m))
-           (λ u w m r i. let k : On grammar n (part u) w m r = to-reads nested-reads (part u) (v u).1 (λ t. (h t u).2) w m r i in (next-same (class u) (can_begin (reader grammar reach) (part u)) (λ t. (h t u).0) m ∙ next-tree n (part u) (v u).1 (v u).0 w m r k, k))
-           (λ u m e. elim e [ inl z ↦ inl z | inr z ↦ turn-end (class u) (part u) (v u).1 (λ t. (h t u).0) m (to-begins (part u) (v u).1 (λ t. (h t u).2) m z) ])
-           o.0 s0 ts o.1)
+      to-begins (rep {A} class p) v h ts o = (
+        o.0,
+        turns-map {S = Unit {0}} (λ _ _ m r. (a : A) × Spelled p a m r) (λ _ _ m r. (next_is class m ≡ true) × ((a : A) × On grammar n p a m r)) (λ _ m. (m ≡ []) ⊎ Opened p m) (λ _ m. (m ≡ []) ⊎ ((next_is class m ≡ true) × Begun grammar n p m))
+            (λ _ _ m r i. let k : On grammar n p i.0 m r = to-reads nested-reads p v.1 (λ t. (h t).2) i.0 m r i.1 in (next-same class (can_begin (reader grammar reach) p) (λ t. (h t).0) m ∙ next-tree n p v.1 v.0 i.0 m r k, (i.0, k)))
+            (λ _ m e. elim e [ inl z ↦ inl z | inr z ↦ turn-end class p v.1 (λ t. (h t).0) m (to-begins p v.1 (λ t. (h t).2) m z) ])
+            o.0 tt ts o.1,
+      )
+      to-begins (iter class part s0) v h ts o = (
+        o.0,
+        turns-map (λ u w m r. Spelled (part u) w m r) (λ u w m r. (next_is (class u) m ≡ true) × On grammar n (part u) w m r) (λ u m. (m ≡ []) ⊎ Opened (part u) m) (λ u m. (m ≡ []) ⊎ ((next_is (class u) m ≡ true) × Begun grammar n (part u) m))
+            (λ u w m r i. let k : On grammar n (part u) w m r = to-reads nested-reads (part u) (v u).1 (λ t. (h t u).2) w m r i in (next-same (class u) (can_begin (reader grammar reach) (part u)) (λ t. (h t u).0) m ∙ next-tree n (part u) (v u).1 (v u).0 w m r k, k))
+            (λ u m e. elim e [ inl z ↦ inl z | inr z ↦ turn-end (class u) (part u) (v u).1 (λ t. (h t u).0) m (to-begins (part u) (v u).1 (λ t. (h t u).2) m z) ])
+            o.0 s0 ts o.1,
+      )
       to-begins (nested p) v h ts o = nested-begins p ts o
       to-begins (unless class p) v h ts o = (o.0, to-begins p v h ts o.1)
       to-begins (barred class p) v h ts o = to-begins p v h ts o
@@ -245,18 +251,20 @@ module _ {T P : Type 0} {V : P → Type 0} (grammar : (p : P) → Part T V (V p)
       from-begins (act f p) v h ts b = from-begins p v h ts b
       from-begins (alt class p q) v h ts (inl b) = inl (from-begins p v.1 (λ t. (h t).3) ts b.1)
       from-begins (alt class p q) v h ts (inr b) = inr (from-begins q v.2 (λ t. (h t).4) ts b.1)
-      from-begins (rep {A} class p) v h ts b =
-          (b.0,
-           turns-map {S = Unit {0}} (λ _ _ m r. (next_is class m ≡ true) × ((a : A) × On grammar n p a m r)) (λ _ _ m r. (a : A) × Spelled p a m r) (λ _ m. (m ≡ []) ⊎ ((next_is class m ≡ true) × Begun grammar n p m)) (λ _ m. (m ≡ []) ⊎ Opened p m)
-           (λ _ _ m r i. (i.1.0, from-reads nested-spells p v.1 (λ t. (h t).2) i.1.0 m r i.1.1))
-           (λ _ m e. elim e [ inl z ↦ inl z | inr z ↦ inr (from-begins p v.1 (λ t. (h t).2) m z.1) ])
-           b.0 tt ts b.1)
-      from-begins (iter class part s0) v h ts b =
-          (b.0,
-           turns-map (λ u w m r. (next_is (class u) m ≡ true) × On grammar n (part u) w m r) (λ u w m r. Spelled (part u) w m r) (λ u m. (m ≡ []) ⊎ ((next_is (class u) m ≡ true) × Begun grammar n (part u) m)) (λ u m. (m ≡ []) ⊎ Opened (part u) m)
-           (λ u w m r i. from-reads nested-spells (part u) (v u).1 (λ t. (h t u).2) w m r i.1)
-           (λ u m e. elim e [ inl z ↦ inl z | inr z ↦ inr (from-begins (part u) (v u).1 (λ t. (h t u).2) m z.1) ])
-           b.0 s0 ts b.1)
+      from-begins (rep {A} class p) v h ts b = (
+        b.0,
+        turns-map {S = Unit {0}} (λ _ _ m r. (next_is class m ≡ true) × ((a : A) × On grammar n p a m r)) (λ _ _ m r. (a : A) × Spelled p a m r) (λ _ m. (m ≡ []) ⊎ ((next_is class m ≡ true) × Begun grammar n p m)) (λ _ m. (m ≡ []) ⊎ Opened p m)
+            (λ _ _ m r i. (i.1.0, from-reads nested-spells p v.1 (λ t. (h t).2) i.1.0 m r i.1.1))
+            (λ _ m e. elim e [ inl z ↦ inl z | inr z ↦ inr (from-begins p v.1 (λ t. (h t).2) m z.1) ])
+            b.0 tt ts b.1,
+      )
+      from-begins (iter class part s0) v h ts b = (
+        b.0,
+        turns-map (λ u w m r. (next_is (class u) m ≡ true) × On grammar n (part u) w m r) (λ u w m r. Spelled (part u) w m r) (λ u m. (m ≡ []) ⊎ ((next_is (class u) m ≡ true) × Begun grammar n (part u) m)) (λ u m. (m ≡ []) ⊎ Opened (part u) m)
+            (λ u w m r i. from-reads nested-spells (part u) (v u).1 (λ t. (h t u).2) w m r i.1)
+            (λ u m e. elim e [ inl z ↦ inl z | inr z ↦ inr (from-begins (part u) (v u).1 (λ t. (h t u).2) m z.1) ])
+            b.0 s0 ts b.1,
+      )
       from-begins (nested p) v h ts b = nested-opens p ts b
       from-begins (unless class p) v h ts b = (b.0, from-begins p v h ts b.1)
       from-begins (barred class p) v h ts b = from-begins p v h ts b

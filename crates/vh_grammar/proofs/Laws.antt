@@ -1,9 +1,9 @@
 -- The laws of reading, from the lemmas on each.
-use Rattle.std.proofs.Common.{◌≡◌, ℕ, zero, suc, ◌+◌, ◌-◌, ◌<◌, ◌≤◌, Bool, true, false, cond, List, [], ◌∷◌, ◌++◌, length, take, drop, ◌⊎◌, inl, inr, ◌↔◌, refl, sym, ap, ◌∙◌, subst, arith, length-append, append_assoc, append-nil, take-append-drop, length-drop, add_comm}
+use Rattle.std.proofs.Common.{◌≡◌, ℕ, zero, suc, ◌+◌, ◌-◌, ◌≤◌, List, [], ◌∷◌, ◌++◌, length, take, drop, inl, inr, refl, sym, ap, ◌∙◌, arith, length-append, append_assoc, take-append-drop, length-drop, add_comm}
 use Rattle.vh_grammar.specs.Reading.{Fault, lost, deep, left_out, Out, got, stop, read, whole}
 use Rattle.vh_grammar.specs.Language.{SpellsAt, OpensAt}
 use Rattle.vh_grammar.specs.Conditions.{eats}
-use Rattle.vh_grammar.specs.Table.{Table, source, IsSource, BeginsSource, MeetsFault}
+use Rattle.vh_grammar.specs.Table.{Table, BeginsSource, MeetsFault}
 use Rattle.vh_grammar.specs.Laws.{ReadsWhatIsSpelled, RefusesWhatIsMet, HasOneTree, AcceptsSources, LeavesNothing, HasOneSource, EndsTooSoon, FrontBegins, FaultIsFirst, RefusedAt, FirstIsRefused, IsTooDeep, IsLeftOut, OnlyDepthNeedsLevels, PlacesAreInside, ClassesAreFirsts, SpellsWithoutClasses, BeginsWithoutClasses}
 use Rattle.vh_grammar.proofs.Size.{weight, Sized}
 use Rattle.vh_grammar.proofs.Outcomes.{Says_of, reader-sound, reader-tree, reader-fault}
@@ -128,6 +128,7 @@ refused-here {T} {A} w front next more o'' (got a (t ∷ ts)) o e c s n d = go o
     none : (ts : List T) → length ts ≤ 0 → ts ≡ []
     none [] l = refl
     none (x ∷ xs) l = absurd (omega arith)
+
     go : (x : Out T A) → Ended x → Cut (next ∷ []) x (got a (t ∷ ts)) → RefusedAt (suc (length more)) (whole o)
     go (got b []) e c = let l : length ts ≤ 0 = omega arith in let k : ts ≡ [] = none ts l in inl (rw (d, k))
     go (got b (x ∷ xs)) e c = absurd (cons_nil e)
@@ -143,6 +144,7 @@ refused-here {T} {A} w front next more o'' (stop lost (suc k)) o e c s n d = go 
   where
     at : suc k ≤ 1 → RefusedAt (suc (length more)) (whole o)
     at l = let q : suc k + length more ≡ suc (length more) = omega arith in inl (rw (d, q))
+
     go : (x : Out T A) → Ended x → Cut (next ∷ []) x (stop lost (suc k)) → RefusedAt (suc (length more)) (whole o)
     go (got b []) e c = at c
     go (got b (x ∷ xs)) e c = cc
@@ -154,6 +156,7 @@ refused-here {T} {A} w front next more o'' (stop deep k) o e c s n d = go o'' e 
   where
     at : k ≤ 1 → RefusedAt (suc (length more)) (whole o)
     at l = let q : k + length more ≡ suc (length more) = omega arith in inr (inl (rw (d, q)))
+
     go : (x : Out T A) → Ended x → Cut (next ∷ []) x (stop deep k) → RefusedAt (suc (length more)) (whole o)
     go (got b []) e c = at c
     go (got b (x ∷ xs)) e c = cc
@@ -222,21 +225,25 @@ module _ (t : Table) where
   has_one_source n a b ts h k = (got-parts a b [] [] (sym (tree n a ts [] h) ∙ tree n b ts [] k)).0
 
   pub ends_too_soon : EndsTooSoon t
-  ends_too_soon n ts =
-      (λ e. (begins n ts (whole-ended (read t.grammar n t.start ts) e),
-             λ a h. let k : whole (read t.grammar n t.start ts) ≡ got a [] = rw (tree n a ts [] h) in lost-got 0 a [] (sym e ∙ k)),
-       λ h. ended-whole (read t.grammar n t.start ts) (ended n ts h.0) (λ a e. h.1 a (says n ts (got a []) e)))
+  ends_too_soon n ts = (
+    λ e. (
+      begins n ts (whole-ended (read t.grammar n t.start ts) e),
+      λ a h. let k : whole (read t.grammar n t.start ts) ≡ got a [] = rw (tree n a ts [] h) in lost-got 0 a [] (sym e ∙ k),
+    ),
+    λ h. ended-whole (read t.grammar n t.start ts) (ended n ts h.0) (λ a e. h.1 a (says n ts (got a []) e)),
+  )
 
   first-of : (n : ℕ) (front rest : List t.Token) → LostAt (length rest) (read t.grammar n t.start (front ++ rest)) → BeginsSource t n front × ((next : t.Token) (more : List t.Token) → rest ≡ next ∷ more → (any : ℕ) → BeginsSource t any (front ++ next ∷ []) → ⊥)
-  first-of n front rest h =
-      (begins n front (lost-front rest (read t.grammar n t.start front) (read t.grammar n t.start (front ++ rest)) h (cut n front rest)),
-       λ next more e any b.
-         let h' : LostAt (suc (length more)) (read t.grammar n t.start (front ++ (next ∷ more))) = rw e at h in
-         let h'' : LostAt (suc (length more)) (read t.grammar n t.start ((front ++ next ∷ []) ++ more)) = rw append_assoc h' in
-         let x : Ended (read t.grammar any t.start (front ++ next ∷ [])) = ended any (front ++ next ∷ []) b in
-         let y : Ended (read t.grammar (n + any) t.start (front ++ next ∷ [])) = ended-below (read t.grammar any t.start (front ++ next ∷ [])) (read t.grammar (n + any) t.start (front ++ next ∷ [])) (below any n (front ++ next ∷ [])) x in
-         let z : Ended (read t.grammar (any + n) t.start (front ++ next ∷ [])) = rw (add_comm n any) at y in
-         lost-any more (read t.grammar n t.start (front ++ next ∷ [])) (read t.grammar n t.start ((front ++ next ∷ []) ++ more)) (read t.grammar (any + n) t.start (front ++ next ∷ [])) h'' (cut n (front ++ next ∷ []) more) (below n any (front ++ next ∷ [])) z)
+  first-of n front rest h = (
+    begins n front (lost-front rest (read t.grammar n t.start front) (read t.grammar n t.start (front ++ rest)) h (cut n front rest)),
+    λ next more e any b.
+        let h' : LostAt (suc (length more)) (read t.grammar n t.start (front ++ (next ∷ more))) = rw e at h in
+        let h'' : LostAt (suc (length more)) (read t.grammar n t.start ((front ++ next ∷ []) ++ more)) = rw append_assoc h' in
+        let x : Ended (read t.grammar any t.start (front ++ next ∷ [])) = ended any (front ++ next ∷ []) b in
+        let y : Ended (read t.grammar (n + any) t.start (front ++ next ∷ [])) = ended-below (read t.grammar any t.start (front ++ next ∷ [])) (read t.grammar (n + any) t.start (front ++ next ∷ [])) (below any n (front ++ next ∷ [])) x in
+        let z : Ended (read t.grammar (any + n) t.start (front ++ next ∷ [])) = rw (add_comm n any) at y in
+        lost-any more (read t.grammar n t.start (front ++ next ∷ [])) (read t.grammar n t.start ((front ++ next ∷ []) ++ more)) (read t.grammar (any + n) t.start (front ++ next ∷ [])) h'' (cut n (front ++ next ∷ []) more) (below n any (front ++ next ∷ [])) z,
+  )
 
   pub front_begins : FrontBegins t
   front_begins n ts f left e =
@@ -264,12 +271,12 @@ module _ (t : Table) where
   first_is_refused n front next more h k =
       let o : List t.Token → Out t.Token t.Source = read t.grammar n t.start in
       let r : RefusedAt (suc (length more)) (whole (o ((front ++ next ∷ []) ++ more))) =
-        refused-here (weight (eats t.start)) (front ++ next ∷ []) next more (o front) (o (front ++ next ∷ [])) (o ((front ++ next ∷ []) ++ more))
-        (ended n front h)
-        (cut n front (next ∷ []))
-        (size n (front ++ next ∷ []))
-        (λ e. k (begins n (front ++ next ∷ []) e))
-        (cut n (front ++ next ∷ []) more) in
+      refused-here (weight (eats t.start)) (front ++ next ∷ []) next more (o front) (o (front ++ next ∷ [])) (o ((front ++ next ∷ []) ++ more))
+      (ended n front h)
+      (cut n front (next ∷ []))
+      (size n (front ++ next ∷ []))
+      (λ e. k (begins n (front ++ next ∷ []) e))
+      (cut n (front ++ next ∷ []) more) in
       rw append_assoc at r
 
   pub is_too_deep : IsTooDeep t
@@ -292,16 +299,19 @@ module _ (t : Table) where
 
   -- the choices
   pub classes_are_firsts : ClassesAreFirsts t
-  classes_are_firsts =
-      (λ p. chooses t.grammar t.eating t.advancing t.reach (t.grammar p) (t.advancing p) (t.heeding p),
-       chooses t.grammar t.eating t.advancing t.reach t.start t.start_advancing t.start_heeding)
+  classes_are_firsts = (
+    λ p. chooses t.grammar t.eating t.advancing t.reach (t.grammar p) (t.advancing p) (t.heeding p),
+    chooses t.grammar t.eating t.advancing t.reach t.start t.start_advancing t.start_heeding,
+  )
 
   pub spells_without_classes : SpellsWithoutClasses t
-  spells_without_classes n a ts =
-      (λ s. to-reads t.grammar t.eating t.advancing t.reach n (SpellsAt t.grammar t.reach n) (OpensAt t.grammar t.reach n) (spells-reads t.grammar t.eating t.advancing t.reach t.heeding n) t.start t.start_advancing t.start_heeding a ts [] s,
-       λ s. from-reads t.grammar t.eating t.advancing t.reach n (SpellsAt t.grammar t.reach n) (OpensAt t.grammar t.reach n) (reads-spells t.grammar t.eating t.advancing t.reach t.heeding n) t.start t.start_advancing t.start_heeding a ts [] s)
+  spells_without_classes n a ts = (
+    λ s. to-reads t.grammar t.eating t.advancing t.reach n (SpellsAt t.grammar t.reach n) (OpensAt t.grammar t.reach n) (spells-reads t.grammar t.eating t.advancing t.reach t.heeding n) t.start t.start_advancing t.start_heeding a ts [] s,
+    λ s. from-reads t.grammar t.eating t.advancing t.reach n (SpellsAt t.grammar t.reach n) (OpensAt t.grammar t.reach n) (reads-spells t.grammar t.eating t.advancing t.reach t.heeding n) t.start t.start_advancing t.start_heeding a ts [] s,
+  )
 
   pub begins_without_classes : BeginsWithoutClasses t
-  begins_without_classes n ts =
-      (λ o. to-begins t.grammar t.eating t.advancing t.reach n (SpellsAt t.grammar t.reach n) (OpensAt t.grammar t.reach n) (spells-reads t.grammar t.eating t.advancing t.reach t.heeding n) (opens-begins t.grammar t.eating t.advancing t.reach t.heeding n) t.start t.start_advancing t.start_heeding ts o,
-       λ b. from-begins t.grammar t.eating t.advancing t.reach n (SpellsAt t.grammar t.reach n) (OpensAt t.grammar t.reach n) (reads-spells t.grammar t.eating t.advancing t.reach t.heeding n) (begins-opens t.grammar t.eating t.advancing t.reach t.heeding n) t.start t.start_advancing t.start_heeding ts b)
+  begins_without_classes n ts = (
+    λ o. to-begins t.grammar t.eating t.advancing t.reach n (SpellsAt t.grammar t.reach n) (OpensAt t.grammar t.reach n) (spells-reads t.grammar t.eating t.advancing t.reach t.heeding n) (opens-begins t.grammar t.eating t.advancing t.reach t.heeding n) t.start t.start_advancing t.start_heeding ts o,
+    λ b. from-begins t.grammar t.eating t.advancing t.reach n (SpellsAt t.grammar t.reach n) (OpensAt t.grammar t.reach n) (reads-spells t.grammar t.eating t.advancing t.reach t.heeding n) (begins-opens t.grammar t.eating t.advancing t.reach t.heeding n) t.start t.start_advancing t.start_heeding ts b,
+  )

@@ -1,7 +1,7 @@
 -- On more levels nothing changes but what was too deep.
-use Rattle.std.proofs.Common.{◌≡◌, ℕ, zero, suc, ◌+◌, ◌<◌, ◌≤◌, Bool, true, false, cond, ◌&&◌, ◌||◌, Option, Some, None, List, [], ◌∷◌, length, refl, sym, ap, ◌∙◌, arith, suc-add, zero-add}
+use Rattle.std.proofs.Common.{◌≡◌, ℕ, zero, suc, ◌+◌, Bool, true, false, cond, List, [], ◌∷◌, length, refl, ap, arith, suc-add, zero-add}
 use Rattle.vh_grammar.specs.Part.{Part, done, tok, seq, bind, act, alt, rep, iter, nested, unless, barred}
-use Rattle.vh_grammar.specs.Reading.{Fault, lost, deep, left_out, Out, got, stop, then_, next_is, taken, token_of, refused, past_levels, many, turns, run, reader}
+use Rattle.vh_grammar.specs.Reading.{lost, deep, left_out, Out, got, stop, then_, next_is, token_of, refused, many, turns, run, reader}
 use Rattle.vh_grammar.specs.Conditions.{eats}
 use Rattle.vh_grammar.proofs.Size.{Sized, size-reader}
 use Rattle.vh_grammar.proofs.Starts.{Ended}
@@ -41,7 +41,7 @@ below-many {T} {A} item item' class h (suc n) ts =
     let put : A → List A → List T → Out T (List A) = λ a more rest. got (a ∷ more) rest in
     below-cond (next_is class ts) (then_ (item ts) (λ a mid. then_ (many item class n mid) (put a))) (then_ (item' ts) (λ a mid. then_ (many item' class n mid) (put a))) (got [] ts) (got [] ts)
     (below-then (item ts) (item' ts) (λ a mid. then_ (many item class n mid) (put a)) (λ a mid. then_ (many item' class n mid) (put a)) (h ts)
-     (λ a mid. below-then (many item class n mid) (many item' class n mid) (put a) (put a) (below-many item item' class h n mid) (λ more rest. refl)))
+    (λ a mid. below-then (many item class n mid) (many item' class n mid) (put a) (put a) (below-many item item' class h n mid) (λ more rest. refl)))
     refl
 
 below-turns : {T S : Type 0} (turn turn' : S → List T → Out T S) (class : S → T → Bool) → ((s : S) (ts : List T) → Below (turn s ts) (turn' s ts)) → (n : ℕ) (s : S) (ts : List T) → Below (turns turn class n s ts) (turns turn' class n s ts)

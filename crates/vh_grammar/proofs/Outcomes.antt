@@ -1,10 +1,10 @@
 -- Reading gives a tree exactly where the tokens spell the part, and a fault exactly where one is met.
-use Rattle.std.proofs.Common.{◌≡◌, ℕ, zero, suc, ◌+◌, ◌<◌, ◌≤◌, Bool, true, false, cond, ◌&&◌, ◌||◌, Option, Some, None, List, [], ◌∷◌, length, ◌⊎◌, inl, inr, refl, sym, ap, ◌∙◌, arith}
+use Rattle.std.proofs.Common.{◌≡◌, ℕ, zero, suc, ◌≤◌, Bool, true, false, cond, Option, Some, None, List, [], ◌∷◌, length, inl, inr, refl, sym, ap, arith}
 use Rattle.vh_grammar.specs.Part.{Part, done, tok, seq, bind, act, alt, rep, iter, nested, unless, barred}
-use Rattle.vh_grammar.specs.Reading.{Fault, lost, deep, left_out, Out, got, stop, then_, next_is, taken, token_of, refused, past_levels, many, turns, run, reader}
-use Rattle.vh_grammar.specs.Sentences.{Repeats, AfterTurns, NoToken, Reads, Meets, MeetsPast, ReadsAt, MeetsAt}
+use Rattle.vh_grammar.specs.Reading.{Fault, Out, got, stop, then_, next_is, taken, token_of, refused, past_levels, many, turns, run, reader}
+use Rattle.vh_grammar.specs.Sentences.{Repeats, AfterTurns, Reads, Meets, MeetsPast, ReadsAt, MeetsAt}
 use Rattle.vh_grammar.specs.Conditions.{eats, Advances}
-use Rattle.vh_grammar.proofs.Size.{weight, Sized, size-run, size-reader}
+use Rattle.vh_grammar.proofs.Size.{Sized, size-run, size-reader}
 
 -- what an outcome says, by a relation for trees and one for faults
 abbrev pub Says_of : {T A : Type 0} → (A → List T → List T → Type 0) → (Fault → List T → ℕ → Type 0) → List T → Out T A → Type 0
@@ -41,6 +41,7 @@ module _ {T A : Type 0} (item : List T → Out T A) (I : A → List T → List T
       join : (a : A) (mid : List T) → next_is class ts ≡ true → I a ts mid → (o : Out T (List A)) → Says_of (Repeats (λ a m r. (next_is class m ≡ true) × I a m r) (λ m. next_is class m ≡ false)) (Meets_item I E class) mid o → Says_of (Repeats (λ a m r. (next_is class m ≡ true) × I a m r) (λ m. next_is class m ≡ false)) (Meets_item I E class) ts (then_ o (λ more rest. got (a ∷ more) rest))
       join a mid e i (got more rest) r = (mid, (e, i), r)
       join a mid e i (stop fault left) r = (suc r.0, (tt, mid, (e, (a, i)), r.1))
+
       go : (d : Bool) → next_is class ts ≡ d → (o : Out T A) → Says_of I E ts o → Sized 1 ts o → ((mid : List T) → length mid ≤ n → Says_of (Repeats (λ a m r. (next_is class m ≡ true) × I a m r) (λ m. next_is class m ≡ false)) (Meets_item I E class) mid (many item class n mid)) → Says_of (Repeats (λ a m r. (next_is class m ≡ true) × I a m r) (λ m. next_is class m ≡ false)) (Meets_item I E class) ts (cond d (then_ o (λ a mid. then_ (many item class n mid) (λ more rest. got (a ∷ more) rest))) (got [] ts))
       go false e o i s more = (refl, e)
       go true e (stop fault left) i s more = (0, (e, i))
@@ -72,6 +73,7 @@ module _ {T S : Type 0} (turn : S → List T → Out T S) (I : S → S → List 
       join : (u : S) (mid : List T) → next_is (class s) ts ≡ true → I s u ts mid → (o : Out T S) → Says_of (Reads_turns I class u) (Meets_turns I E class u) mid o → Says_of (Reads_turns I class s) (Meets_turns I E class s) ts o
       join u mid e i (got v rest) r = (suc r.0, (u, mid, (e, i), r.1))
       join u mid e i (stop fault left) r = (suc r.0, (u, mid, (e, i), r.1))
+
       go : (d : Bool) → next_is (class s) ts ≡ d → (o : Out T S) → Says_of (I s) (E s) ts o → Sized 1 ts o → ((u : S) (mid : List T) → length mid ≤ n → Says_of (Reads_turns I class u) (Meets_turns I E class u) mid (turns turn class n u mid)) → Says_of (Reads_turns I class s) (Meets_turns I E class s) ts (cond d (then_ o (turns turn class n)) (got s ts))
       go false e o i z more = (0, (refl, refl, e))
       go true e (stop fault left) i z more = (0, (e, i))
@@ -115,6 +117,7 @@ module _ {T P : Type 0} {V : P → Type 0} (R : (p : P) → List T → Out T (V 
         join : (a : A) (mid : List T) → Reads N p a ts mid → (o : Out T B) → Says_of (Reads N q) (Meets N M q) mid o → Says_of (Reads N (seq p q)) (Meets N M (seq p q)) ts (then_ o (λ b rest. got (a, b) rest))
         join a mid i (got b rest) r = (mid, i, r)
         join a mid i (stop fault left) r = inr (a, mid, i, r)
+
         go : (o : Out T A) → Says_of (Reads N p) (Meets N M p) ts o → ((mid : List T) → Says_of (Reads N q) (Meets N M q) mid (run R q mid)) → Says_of (Reads N (seq p q)) (Meets N M (seq p q)) ts (then_ o (λ a mid. then_ (run R q mid) (λ b rest. got (a, b) rest)))
         go (got a mid) i h = join a mid i (run R q mid) (h mid)
         go (stop fault left) i h = inl i
@@ -123,6 +126,7 @@ module _ {T P : Type 0} {V : P → Type 0} (R : (p : P) → List T → Out T (V 
         join : (a : A) (mid : List T) → Reads N p a ts mid → (o : Out T B) → Says_of (Reads N (q a)) (Meets N M (q a)) mid o → Says_of (Reads N (bind p q)) (Meets N M (bind p q)) ts o
         join a mid i (got b rest) r = (a, mid, i, r)
         join a mid i (stop fault left) r = inr (a, mid, i, r)
+
         go : (o : Out T A) → Says_of (Reads N p) (Meets N M p) ts o → ((a : A) (mid : List T) → Says_of (Reads N (q a)) (Meets N M (q a)) mid (run R (q a) mid)) → Says_of (Reads N (bind p q)) (Meets N M (bind p q)) ts (then_ o (λ a mid. run R (q a) mid))
         go (got a mid) i h = join a mid i (run R (q a) mid) (h a mid)
         go (stop fault left) i h = inl i
@@ -152,6 +156,7 @@ module _ {T P : Type 0} {V : P → Type 0} (R : (p : P) → List T → Out T (V 
         test : (a : A) (rest : List T) → Reads N p a ts rest → (d : Bool) → next_is (class a) rest ≡ d → Says_of (Reads N (barred class p)) (Meets N M (barred class p)) ts (cond d (refused ts) (got a rest))
         test a rest i true e = inr (a, rest, i, e, refl, refl)
         test a rest i false e = (i, e)
+
         go : (o : Out T A) → Says_of (Reads N p) (Meets N M p) ts o → Says_of (Reads N (barred class p)) (Meets N M (barred class p)) ts (then_ o (λ a rest. cond (next_is (class a) rest) (refused ts) (got a rest)))
         go (got a rest) i = test a rest i (next_is (class a) rest) refl
         go (stop fault left) i = inl i

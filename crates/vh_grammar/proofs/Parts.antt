@@ -1,7 +1,7 @@
 -- What is known of a reading, of a part with so many levels left below it.
 use Rattle.std.proofs.Common.{◌≡◌, ℕ, ◌+◌, true, List, [], ◌++◌}
 use Rattle.vh_grammar.specs.Part.{Part}
-use Rattle.vh_grammar.specs.Reading.{Fault, Out, got, stop, reader, read}
+use Rattle.vh_grammar.specs.Reading.{Fault, got, stop, reader, read}
 use Rattle.vh_grammar.specs.Sentences.{Reads, Begins, Meets, ReadsAt, BeginsAt, MeetsAt}
 use Rattle.vh_grammar.specs.Conditions.{eats, Advances}
 use Rattle.vh_grammar.proofs.Size.{weight, Sized, size-run, size-reader}

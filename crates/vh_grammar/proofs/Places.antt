@@ -1,8 +1,8 @@
 -- Further tokens change nothing of a reading that has come to a token that it leaves or refuses; and a
 -- reading that has come to the end of some tokens goes on behind them.
-use Rattle.std.proofs.Common.{◌≡◌, ℕ, zero, suc, ◌+◌, ◌<◌, ◌≤◌, Bool, true, false, cond, ◌&&◌, ◌||◌, Option, Some, None, List, [], ◌∷◌, ◌++◌, length, refl, sym, ap, ◌∙◌, arith, length-append, suc-add}
+use Rattle.std.proofs.Common.{◌≡◌, ℕ, zero, suc, ◌+◌, ◌≤◌, Bool, true, false, cond, Option, Some, None, List, [], ◌∷◌, ◌++◌, length, refl, ap, arith, length-append}
 use Rattle.vh_grammar.specs.Part.{Part, done, tok, seq, bind, act, alt, rep, iter, nested, unless, barred}
-use Rattle.vh_grammar.specs.Reading.{Fault, lost, deep, left_out, Out, got, stop, then_, next_is, taken, token_of, refused, past_levels, many, turns, run, reader}
+use Rattle.vh_grammar.specs.Reading.{lost, deep, left_out, Out, got, stop, then_, next_is, taken, token_of, refused, past_levels, many, turns, run, reader}
 use Rattle.vh_grammar.specs.Conditions.{eats, Advances}
 use Rattle.vh_grammar.proofs.Size.{weight, Sized, size-then, size-less, size-many, size-turns, size-run, size-past, size-reader}
 
@@ -105,11 +105,11 @@ cut-many {T} {A} item class short zs h (suc n) (suc m) (t ∷ us) b d =
     let sized : (a : A) (k : ℕ) (ts : List T) → Sized 0 ts (then_ (many item class k ts) (put a)) = λ a k ts. size-then 0 0 0 ts (many item class k ts) (put a) (size-many item class k ts small) (λ more rest. omega arith) (omega arith) in
     cut-cond zs (class t) (then_ (item (t ∷ us)) (λ a mid. then_ (many item class n mid) (put a))) (then_ (item (t ∷ (us ++ zs))) (λ a mid. then_ (many item class m mid) (put a))) (got [] (t ∷ us)) (got [] (t ∷ (us ++ zs)))
     (cut-then 1 (t ∷ us) zs (item (t ∷ us)) (item (t ∷ (us ++ zs))) (λ a mid. then_ (many item class n mid) (put a)) (λ a mid. then_ (many item class m mid) (put a)) (h (t ∷ us)) (short (t ∷ us))
-     (λ a. sized a n [])
-     (λ a mid l. late-of 0 zs mid (then_ (many item class m mid) (put a)) l (sized a m mid))
-     (λ a v mid l. cut-then 0 (v ∷ mid) zs (many item class n (v ∷ mid)) (many item class m (v ∷ (mid ++ zs))) (put a) (put a)
-       (cut-many item class short zs h n m (v ∷ mid) (omega arith) (omega (arith, length-append us zs, length-append mid zs)))
-       (size-many item class n (v ∷ mid) small) (λ more. omega arith) (λ more rest e. e) (λ more x rest e. refl)))
+    (λ a. sized a n [])
+    (λ a mid l. late-of 0 zs mid (then_ (many item class m mid) (put a)) l (sized a m mid))
+    (λ a v mid l. cut-then 0 (v ∷ mid) zs (many item class n (v ∷ mid)) (many item class m (v ∷ (mid ++ zs))) (put a) (put a)
+    (cut-many item class short zs h n m (v ∷ mid) (omega arith) (omega (arith, length-append us zs, length-append mid zs)))
+    (size-many item class n (v ∷ mid) small) (λ more. omega arith) (λ more rest e. e) (λ more x rest e. refl)))
     refl
 
 cut-turns : {T S : Type 0} (turn : S → List T → Out T S) (class : S → T → Bool) → ((s : S) (ts : List T) → Sized 1 ts (turn s ts)) → (zs : List T) → ((s : S) (us : List T) → Cut zs (turn s us) (turn s (us ++ zs))) → (n m : ℕ) (s : S) (us : List T) → length us ≤ n → length (us ++ zs) ≤ m → Cut zs (turns turn class n s us) (turns turn class m s (us ++ zs))
@@ -121,9 +121,9 @@ cut-turns {T} {S} turn class short zs h (suc n) (suc m) s (t ∷ us) b d =
     let small : (u : S) (ts : List T) → Sized 0 ts (turn u ts) = λ u ts. size-less 1 0 ts (turn u ts) (omega arith) (short u ts) in
     cut-cond zs (class s t) (then_ (turn s (t ∷ us)) (turns turn class n)) (then_ (turn s (t ∷ (us ++ zs))) (turns turn class m)) (got s (t ∷ us)) (got s (t ∷ (us ++ zs)))
     (cut-then 1 (t ∷ us) zs (turn s (t ∷ us)) (turn s (t ∷ (us ++ zs))) (turns turn class n) (turns turn class m) (h s (t ∷ us)) (short s (t ∷ us))
-     (λ a. size-turns turn class n a [] small)
-     (λ a mid l. late-of 0 zs mid (turns turn class m a mid) l (size-turns turn class m a mid small))
-     (λ a v mid l. cut-turns turn class short zs h n m a (v ∷ mid) (omega arith) (omega (arith, length-append us zs, length-append mid zs))))
+    (λ a. size-turns turn class n a [] small)
+    (λ a mid l. late-of 0 zs mid (turns turn class m a mid) l (size-turns turn class m a mid small))
+    (λ a v mid l. cut-turns turn class short zs h n m a (v ∷ mid) (omega arith) (omega (arith, length-append us zs, length-append mid zs))))
     refl
 
 module _ {T P : Type 0} {V : P → Type 0} (R : (p : P) → List T → Out T (V p)) (each : (p : P) (ts : List T) → Sized 1 ts (R p ts)) (nested-cut : (p : P) (us zs : List T) → Cut zs (R p us) (R p (us ++ zs))) where

@@ -1,8 +1,8 @@
 -- How much a reading takes: never more tokens than there are, one at least where the part eats; and a
 -- place is at a token, or for a missing token after the last.
-use Rattle.std.proofs.Common.{◌≡◌, ℕ, zero, suc, ◌+◌, ◌<◌, ◌≤◌, Bool, true, false, cond, ◌&&◌, ◌||◌, Option, Some, None, List, [], ◌∷◌, length, refl, arith}
+use Rattle.std.proofs.Common.{◌≡◌, ℕ, zero, suc, ◌+◌, ◌<◌, ◌≤◌, Bool, true, false, cond, ◌&&◌, ◌||◌, Option, Some, None, List, [], ◌∷◌, length, arith}
 use Rattle.vh_grammar.specs.Part.{Part, done, tok, seq, bind, act, alt, rep, iter, nested, unless, barred}
-use Rattle.vh_grammar.specs.Reading.{Fault, lost, deep, left_out, Out, got, stop, then_, next_is, taken, token_of, refused, past_levels, many, turns, run, reader}
+use Rattle.vh_grammar.specs.Reading.{lost, deep, left_out, Out, got, stop, then_, next_is, taken, token_of, refused, past_levels, many, turns, run, reader}
 use Rattle.vh_grammar.specs.Conditions.{eats}
 
 abbrev pub weight : Bool → ℕ

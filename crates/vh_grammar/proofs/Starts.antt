@@ -1,10 +1,10 @@
 -- Tokens begin a part exactly where reading them comes to their end.
-use Rattle.std.proofs.Common.{◌≡◌, ℕ, zero, suc, ◌+◌, ◌<◌, ◌≤◌, Bool, true, false, cond, ◌&&◌, ◌||◌, Option, Some, None, List, [], ◌∷◌, ◌++◌, length, ◌⊎◌, inl, inr, refl, sym, ap, ◌∙◌, arith}
+use Rattle.std.proofs.Common.{◌≡◌, ℕ, zero, suc, ◌≤◌, Bool, true, false, cond, Option, Some, None, List, [], ◌∷◌, length, ◌⊎◌, inl, inr, refl, ap, arith}
 use Rattle.vh_grammar.specs.Part.{Part, done, tok, seq, bind, act, alt, rep, iter, nested, unless, barred}
 use Rattle.vh_grammar.specs.Reading.{Fault, lost, deep, left_out, Out, got, stop, then_, next_is, taken, token_of, refused, past_levels, many, turns, run, reader}
-use Rattle.vh_grammar.specs.Sentences.{Repeats, AfterTurns, NoToken, Reads, Begins, Meets, ReadsAt, BeginsAt, MeetsAt}
+use Rattle.vh_grammar.specs.Sentences.{AfterTurns, Reads, Begins, Meets, ReadsAt, BeginsAt, MeetsAt}
 use Rattle.vh_grammar.specs.Conditions.{eats, Advances}
-use Rattle.vh_grammar.proofs.Size.{weight, Sized, size-less, size-many, size-turns, size-run, size-past, size-reader}
+use Rattle.vh_grammar.proofs.Size.{weight, Sized, size-less, size-many, size-turns, size-run, size-reader}
 use Rattle.vh_grammar.proofs.Outcomes.{Says_of, one, shorter_mid, next-none, run-sound, run-tree, reader-sound, reader-tree}
 
 -- a reading that comes to the end of the tokens
@@ -53,7 +53,7 @@ module _ {T A : Type 0} (item : List T → Out T A) (I : A → List T → List T
   many-begins h f (suc n) (t ∷ ts) b e = go (class t) refl (item (t ∷ ts)) (h (t ∷ ts)) (short (t ∷ ts)) (f (t ∷ ts)) (λ mid l k. many-begins h f n mid l k) e
     where
       go : (d : Bool) → class t ≡ d → (o : Out T A) → Says_of I E (t ∷ ts) o → Sized 1 (t ∷ ts) o → (Ended o → B (t ∷ ts)) → ((mid : List T) → length mid ≤ n → Ended (many item class n mid) → (k : ℕ) × Begun k mid) →
-           Ended (cond d (then_ o (λ a mid. then_ (many item class n mid) (λ more rest. got (a ∷ more) rest))) (got [] (t ∷ ts))) → (k : ℕ) × Begun k (t ∷ ts)
+          Ended (cond d (then_ o (λ a mid. then_ (many item class n mid) (λ more rest. got (a ∷ more) rest))) (got [] (t ∷ ts))) → (k : ℕ) × Begun k (t ∷ ts)
       go false c o i s q more e = absurd (cons-nil t ts e)
       go true c (got a mid) i s q more e = let r : (k : ℕ) × Begun k mid = more mid (omega arith) (ended-act (λ z. a ∷ z) (many item class n mid) e) in (suc r.0, (tt, mid, (c, (a, i)), r.1))
       go true c (stop lost left) i s q more e = (0, inr (c, q e))
@@ -65,7 +65,7 @@ module _ {T A : Type 0} (item : List T → Out T A) (I : A → List T → List T
   many-ended h f zero zero ts b (inr e) = absurd (next-none class ts e.0 b)
   many-ended h f zero (suc n) ts b (inr e) =
       rw e.0 (ended-then (item ts) (λ a mid. then_ (many item class n mid) (λ more rest. got (a ∷ more) rest)) (f ts e.1)
-       (λ a. ended-back (λ z. a ∷ z) (many item class n []) (ended-size 0 (many item class n []) (size-many item class n [] (λ m. size-less 1 0 m (item m) (omega arith) (short m))))))
+      (λ a. ended-back (λ z. a ∷ z) (many item class n []) (ended-size 0 (many item class n []) (size-many item class n [] (λ m. size-less 1 0 m (item m) (omega arith) (short m))))))
   many-ended h f (suc k) zero ts b r = absurd (next-none class ts r.2.0 b)
   many-ended h f (suc k) (suc n) ts b r =
       let e : item ts ≡ got r.2.1.0 r.1 = h r.2.1.0 ts r.1 r.2.1.1 in
@@ -82,7 +82,7 @@ module _ {T S : Type 0} (turn : S → List T → Out T S) (I : S → S → List 
   turns-begins h f (suc n) s (t ∷ ts) b e = go (class s t) refl (turn s (t ∷ ts)) (h s (t ∷ ts)) (short s (t ∷ ts)) (f s (t ∷ ts)) (λ u mid l k. turns-begins h f n u mid l k) e
     where
       go : (d : Bool) → class s t ≡ d → (o : Out T S) → Says_of (I s) (E s) (t ∷ ts) o → Sized 1 (t ∷ ts) o → (Ended o → B s (t ∷ ts)) → ((u : S) (mid : List T) → length mid ≤ n → Ended (turns turn class n u mid) → (k : ℕ) × Begun_turns k u mid) →
-           Ended (cond d (then_ o (turns turn class n)) (got s (t ∷ ts))) → (k : ℕ) × Begun_turns k s (t ∷ ts)
+          Ended (cond d (then_ o (turns turn class n)) (got s (t ∷ ts))) → (k : ℕ) × Begun_turns k s (t ∷ ts)
       go false c o i z q more e = absurd (cons-nil t ts e)
       go true c (got u mid) i z q more e = let r : (k : ℕ) × Begun_turns k u mid = more u mid (omega arith) e in (suc r.0, (u, mid, (c, i), r.1))
       go true c (stop lost left) i z q more e = (0, inr (c, q e))
@@ -151,6 +151,7 @@ module _ {T P : Type 0} {V : P → Type 0} (R : (p : P) → List T → Out T (V 
         test : (d : Bool) (a : A) (rest : List T) → Ended {A = A} (cond d (refused ts) (got a rest)) → rest ≡ []
         test true a rest e = absurd e
         test false a rest e = e
+
         go : (o : Out T A) → (Ended o → Begins N B p ts) → Ended (then_ o (λ a rest. cond (next_is (class a) rest) (refused ts) (got a rest))) → Begins N B p ts
         go (got a rest) f e = f (test (next_is (class a) rest) a rest e)
         go (stop lost left) f e = f e

@@ -1,10 +1,10 @@
 -- A repetition turn by turn, for the loops of a parser: what one turn, a fault in it and the end make of
 -- the reading.
-use Rattle.std.proofs.Common.{◌≡◌, ℕ, zero, suc, ◌+◌, ◌<◌, ◌≤◌, Bool, true, false, cond, List, [], ◌∷◌, ◌++◌, length, refl, sym, ap, ◌∙◌, arith, append_assoc, append-nil}
+use Rattle.std.proofs.Common.{◌≡◌, ℕ, zero, suc, ◌<◌, ◌≤◌, Bool, true, false, cond, List, [], ◌∷◌, ◌++◌, length, refl, sym, ap, ◌∙◌, arith, append_assoc, append-nil}
 use Rattle.vh_grammar.specs.Part.{Part, rep, iter}
-use Rattle.vh_grammar.specs.Reading.{Fault, Out, got, stop, then_, next_is, many, turns, run, reader, read, joined}
+use Rattle.vh_grammar.specs.Reading.{Fault, Out, got, stop, then_, next_is, many, turns, reader, read, joined}
 use Rattle.vh_grammar.specs.Conditions.{eats}
-use Rattle.vh_grammar.proofs.Size.{weight, Sized, size-run, size-reader}
+use Rattle.vh_grammar.proofs.Size.{Sized, size-run, size-reader}
 
 then-same : {T A B : Type 0} (ts : List T) (o : Out T A) (k k' : A → List T → Out T B) → Sized 1 ts o → ((a : A) (mid : List T) → suc (length mid) ≤ length ts → k a mid ≡ k' a mid) → then_ o k ≡ then_ o k'
 then-same ts (got a mid) k k' s h = h a mid (omega arith)
@@ -24,7 +24,7 @@ many-same {T} {A} item class short (suc n) (suc m) ts b d =
     let put : A → List A → List T → Out T (List A) = λ a more rest. got (a ∷ more) rest in
     cond-same (next_is class ts) (then_ (item ts) (λ a mid. then_ (many item class n mid) (put a))) (then_ (item ts) (λ a mid. then_ (many item class m mid) (put a))) (got [] ts)
     (then-same ts (item ts) (λ a mid. then_ (many item class n mid) (put a)) (λ a mid. then_ (many item class m mid) (put a)) (short ts)
-     (λ a mid l. ap (λ (o : Out T (List A)). then_ o (put a)) (many-same item class short n m mid (omega arith) (omega arith))))
+    (λ a mid l. ap (λ (o : Out T (List A)). then_ o (put a)) (many-same item class short n m mid (omega arith) (omega arith))))
 
 turns-same : {T S : Type 0} (turn : S → List T → Out T S) (class : S → T → Bool) → ((s : S) (ts : List T) → Sized 1 ts (turn s ts)) → (n m : ℕ) (s : S) (ts : List T) → length ts ≤ n → length ts ≤ m → turns turn class n s ts ≡ turns turn class m s ts
 turns-same turn class short zero zero s ts b d = refl

@@ -1,10 +1,9 @@
 -- The classes by which a table makes its choices: what is asked of them, token by token, and what they are.
-use Rattle.std.specs.Prelude.{◌≡◌, ℕ, zero, suc, Bool, true, false, ◌&&◌, List, [], ◌∷◌, ◌⊎◌, ◌↔◌}
+use Rattle.std.specs.Prelude.{◌≡◌, ℕ, Bool, true, false, ◌&&◌, List, [], ◌∷◌, ◌⊎◌, ◌↔◌}
 use Rattle.vh_grammar.specs.Part.{Part, done, tok, seq, bind, act, alt, rep, iter, nested, unless, barred}
-use Rattle.vh_grammar.specs.Reading.{Out, got, stop, lost, deep, left_out, run, reader}
+use Rattle.vh_grammar.specs.Reading.{Out, got, stop, lost, deep, left_out, run}
 use Rattle.vh_grammar.specs.Sentences.{Begins, Meets, ReadsAt, BeginsAt, MeetsAt}
-use Rattle.vh_grammar.specs.Conditions.{eats}
-use Rattle.vh_grammar.specs.Language.{not_refused, can_begin}
+use Rattle.vh_grammar.specs.Language.{can_begin}
 
 -- the levels were enough to read the token (own)
 abbrev pub is_settled : {T A : Type 0} → Out T A → Bool

@@ -53,11 +53,13 @@ module _ {T P : Type 0} {V : P → Type 0} (R : (p : P) → List T → Out T (V 
       Opens (barred class p) ts = Opens p ts
 
 module _ {T P : Type 0} {V : P → Type 0} (grammar : (p : P) → Part T V (V p)) (reach : ℕ) where
-  -- the same of a production, with so many levels left; a token alone is read with `reach` levels (own)
+  -- the tokens are spelled by a production, with so many levels left; a token alone is read on `reach`
+  -- levels (own)
   abbrev pub SpellsAt : ℕ → (p : P) → V p → List T → List T → Type 0
   SpellsAt zero p a ts rest = ⊥
   SpellsAt (suc levels) p a ts rest = Spells (reader grammar reach) (SpellsAt levels) (grammar p) a ts rest
 
+  -- the tokens begin a production, with so many levels left (own)
   abbrev pub OpensAt : ℕ → (p : P) → List T → Type 0
   OpensAt zero p ts = ts ≡ []
   OpensAt (suc levels) p ts = Opens (reader grammar reach) (SpellsAt levels) (OpensAt levels) (grammar p) ts

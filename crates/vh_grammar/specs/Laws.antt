@@ -1,6 +1,6 @@
 -- The laws of reading, each for a table that meets the conditions, for each number of levels and each list
 -- of tokens.
-use Rattle.std.specs.Prelude.{◌≡◌, ℕ, zero, suc, ◌+◌, ◌<◌, ◌≤◌, List, [], ◌∷◌, ◌++◌, length, ◌⊎◌, ◌↔◌}
+use Rattle.std.specs.Prelude.{◌≡◌, ℕ, suc, ◌+◌, ◌≤◌, List, [], ◌∷◌, ◌++◌, length, ◌⊎◌, ◌↔◌}
 use Rattle.vh_grammar.specs.Reading.{Fault, lost, deep, left_out, Out, got, stop, reader}
 use Rattle.vh_grammar.specs.Sentences.{ReadsAt, MeetsAt}
 use Rattle.vh_grammar.specs.Choices.{ChoosesByFirsts}
@@ -52,7 +52,7 @@ abbrev pub FaultIsFirst : Table → Type 0
 FaultIsFirst t =
     (levels : ℕ) (ts : List t.Token) (left : ℕ) → source t levels ts ≡ stop lost left →
     (front : List t.Token) × (rest : List t.Token) × (ts ≡ front ++ rest) × (length rest ≡ left) × BeginsSource t levels front ×
-      ((next : t.Token) (more : List t.Token) → rest ≡ next ∷ more → (any : ℕ) → BeginsSource t any (front ++ next ∷ []) → ⊥)
+    ((next : t.Token) (more : List t.Token) → rest ≡ next ∷ more → (any : ℕ) → BeginsSource t any (front ++ next ∷ []) → ⊥)
 
 -- the refusal stands there, or is of a construct that is left out and begins before or there (own)
 abbrev pub RefusedAt : {T A : Type 0} → ℕ → Out T A → Type 0

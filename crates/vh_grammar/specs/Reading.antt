@@ -1,6 +1,6 @@
 -- Reading: one total function from a part and a list of tokens to a tree with the tokens that are left,
 -- or to a fault with its place.
-use Rattle.std.specs.Prelude.{ℕ, zero, suc, Bool, true, false, cond, Option, Some, None, List, [], ◌∷◌, ◌++◌, length}
+use Rattle.std.specs.Prelude.{ℕ, zero, suc, Bool, false, cond, Option, Some, None, List, [], ◌∷◌, ◌++◌, length}
 use Rattle.vh_grammar.specs.Part.{Part, done, tok, seq, bind, act, alt, rep, iter, nested, unless, barred}
 
 -- Why tokens are refused (own).

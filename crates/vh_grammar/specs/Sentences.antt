@@ -1,6 +1,6 @@
 -- What reading means, with no word of how it is done: which tokens a part spells, with which tokens it
 -- begins, and where it meets a fault. Each is by cases on parts.
-use Rattle.std.specs.Prelude.{◌≡◌, ℕ, zero, suc, Bool, true, false, Option, Some, None, List, [], ◌∷◌, length, ◌⊎◌}
+use Rattle.std.specs.Prelude.{◌≡◌, ℕ, zero, suc, true, false, Option, Some, None, List, [], ◌∷◌, length, ◌⊎◌}
 use Rattle.vh_grammar.specs.Part.{Part, done, tok, seq, bind, act, alt, rep, iter, nested, unless, barred}
 use Rattle.vh_grammar.specs.Reading.{Fault, lost, deep, left_out, next_is}
 
@@ -82,15 +82,17 @@ MeetsPast fault [] left = (fault ≡ lost) × (left ≡ 0)
 MeetsPast fault (t ∷ ts) left = (fault ≡ deep) × (left ≡ suc (length ts))
 
 module _ {T P : Type 0} {V : P → Type 0} (grammar : (p : P) → Part T V (V p)) where
-  -- the same of a production, with so many levels left (own)
+  -- the tokens are spelled by a production, with so many levels left; with none there is no tree (own)
   abbrev pub ReadsAt : ℕ → (p : P) → V p → List T → List T → Type 0
   ReadsAt zero p a ts rest = ⊥
   ReadsAt (suc levels) p a ts rest = Reads (ReadsAt levels) (grammar p) a ts rest
 
+  -- the tokens begin a production, with so many levels left; with none only the empty list does (own)
   abbrev pub BeginsAt : ℕ → (p : P) → List T → Type 0
   BeginsAt zero p ts = ts ≡ []
   BeginsAt (suc levels) p ts = Begins (ReadsAt levels) (BeginsAt levels) (grammar p) ts
 
+  -- going on as a production does meets this fault, with so many levels left (own)
   abbrev pub MeetsAt : ℕ → (p : P) → Fault → List T → ℕ → Type 0
   MeetsAt zero p fault ts left = MeetsPast fault ts left
   MeetsAt (suc levels) p fault ts left = Meets (ReadsAt levels) (MeetsAt levels) (grammar p) fault ts left

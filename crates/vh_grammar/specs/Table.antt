@@ -1,6 +1,6 @@
 -- A grammar as a table: what its tokens, its productions and their trees are, a part for each production,
 -- and one for a whole source.
-use Rattle.std.specs.Prelude.{◌≡◌, ℕ, Bool, true, List, []}
+use Rattle.std.specs.Prelude.{◌≡◌, ℕ, true, List, []}
 use Rattle.vh_grammar.specs.Part.{Part}
 use Rattle.vh_grammar.specs.Reading.{Fault, Out, reader, read, whole}
 use Rattle.vh_grammar.specs.Sentences.{Reads, Begins, Meets, ReadsAt, BeginsAt, MeetsAt}

@@ -46,5 +46,4 @@ pub fn exact<G: Grammar>()
     ensures firsts { ClassesAreFirsts G.table }
     ensures spelled { SpellsWithoutClasses G.table }
     ensures begun { BeginsWithoutClasses G.table }
-{
-}
+{}

@@ -25,7 +25,7 @@ links_turn depth level operators operands o e ts mid c r =
     ∙ go (reads depth (rep (is_operator level) (link_with level (chain_at level))) mid)
   where
     go : (x : Out Token (List (Operator × ExprTree))) →
-         links_joined operators operands (then_ (then_ x (λ more rest. got ((o, e) ∷ more) rest)) (λ a rest. got (halves a) rest)) ≡ links_joined (operators ++ o ∷ []) (operands ++ e ∷ []) (then_ x (λ a rest. got (halves a) rest))
+        links_joined operators operands (then_ (then_ x (λ more rest. got ((o, e) ∷ more) rest)) (λ a rest. got (halves a) rest)) ≡ links_joined (operators ++ o ∷ []) (operands ++ e ∷ []) (then_ x (λ a rest. got (halves a) rest))
     go (got more rest) = ap₂ (λ (y : List Operator) (z : List ExprTree). got (y, z) rest) (sym (append_assoc operators (o ∷ []) (halves more).0)) (sym (append_assoc operands (e ∷ []) (halves more).1))
     go (stop fault left) = refl
 

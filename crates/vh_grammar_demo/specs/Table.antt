@@ -1,20 +1,18 @@
 -- The grammar of the small language as a table, with the proofs that it meets the conditions. Each is
 -- computed: production by production, and for the choices token by token.
 use Rattle.std.specs.Prelude.{◌≡◌, ℕ, zero, suc, Bool, true, false, ◌||◌, is_some, List, [], ◌∷◌, refl}
-use Rattle.vh_grammar.specs.Part.{Part}
 use Rattle.vh_grammar.specs.Reading.{Out, run, reader}
 use Rattle.vh_grammar.specs.Conditions.{eats, Advances}
 use Rattle.vh_grammar.specs.Language.{can_begin}
 use Rattle.vh_grammar.specs.Choices.{is_settled, Heeds}
 use Rattle.vh_grammar.specs.Table.{Table}
-use Rattle.vh_grammar_demo.specs.declared.token.Sign.{Sign}
 use Rattle.vh_grammar_demo.specs.declared.token.Sign.TheVariants as sign
 use Rattle.vh_grammar_demo.specs.declared.token.Kind.{Kind}
 use Rattle.vh_grammar_demo.specs.declared.token.Kind.TheVariants.{Number, Name, Fixed}
 use Rattle.vh_grammar_demo.specs.declared.token.Token.{Token}
 use Rattle.vh_grammar_demo.specs.Token.{operator_at}
 use Rattle.vh_grammar_demo.specs.Trees.{PathTree, StmtTree}
-use Rattle.vh_grammar_demo.specs.Grammar.{Name as Production, expr, stmt, tree_of, G, grammar, dotted, bracketed, one_step, path, place_only, operand, chain_at, expression, inner, otherwise, if_statement, statements, block_statement, assignment, statement, goes_with, link_with}
+use Rattle.vh_grammar_demo.specs.Grammar.{Name as Production, expr, stmt, tree_of, grammar, dotted, bracketed, one_step, path, place_only, operand, chain_at, expression, inner, otherwise, if_statement, statements, block_statement, assignment, statement, goes_with, link_with}
 
 -- each production takes a token (own)
 or_left : (a b : Bool) → a ≡ true → (a || b) ≡ true
@@ -196,5 +194,5 @@ arithmetic = record {
   start_advancing = start_advances;
   reach = 1;
   heeding = heeding;
-  start_heeding = start_heeds
+  start_heeding = start_heeds;
 }

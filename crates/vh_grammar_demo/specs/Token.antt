@@ -1,5 +1,5 @@
 -- The classes of the small language's tokens.
-use Rattle.std.specs.Prelude.{ℕ, zero, suc, Bool, true, false, nat_eq, is_some, Option, Some, None, List, [], ◌∷◌}
+use Rattle.std.specs.Prelude.{ℕ, zero, suc, Bool, false, nat_eq, is_some, Option, Some, None, List, [], ◌∷◌}
 use Rattle.vh_grammar_demo.specs.declared.token.Sign.{Sign}
 use Rattle.vh_grammar_demo.specs.declared.token.Sign.TheVariants.{Plus, Minus, Times, Assign, Open, Close, OpenBrace, CloseBrace, OpenBracket, CloseBracket, Dot, Semicolon, If, Else, While}
 use Rattle.vh_grammar_demo.specs.declared.token.Kind.{Kind}
@@ -36,12 +36,13 @@ is_fixed sign (Fixed other) = nat_eq (number sign) (number other)
 abbrev pub is_sign : Sign → Token → Bool
 is_sign sign t = is_fixed sign t.kind
 
--- the kind is a number, a name (own)
+-- the number that the kind is, if it is one (own)
 abbrev pub number_of : Kind → Option ℕ
 number_of (Number n) = Some n
 number_of (Name n) = None
 number_of (Fixed sign) = None
 
+-- the name that the kind is, if it is one (own)
 abbrev pub name_of : Kind → Option ℕ
 name_of (Number n) = None
 name_of (Name n) = Some n

@@ -11,39 +11,43 @@ pub record PathTree : Type 0 where
   -- the last step is an index
   pub indexed : Bool
 
--- a path goes on with a name, with an index (own)
+-- a path that goes on with a name (own)
 abbrev pub with_name : PathTree → ℕ → PathTree
 with_name p n = record { place = p.place; steps = p.steps ++ Name n ∷ []; indexed = false }
 
+-- a path that goes on with an index (own)
 abbrev pub with_index : PathTree → ℕ → PathTree
 with_index p n = record { place = p.place; steps = p.steps ++ Index n ∷ []; indexed = true }
 
--- an expression (own)
+-- an expression, and expressions in a row (own)
 mutual
   pub data ExprTree : Type 0 where
     number : ℕ → ℕ → ExprTree
     place : PathTree → ExprTree
     chain : ExprTree → List Operator → Exprs → ExprTree
+
   pub data Exprs : Type 0 where
     no_expr : Exprs
     one_expr : ExprTree → Exprs → Exprs
 
--- a statement (own)
+-- a statement, and statements in a row (own)
 mutual
   pub data StmtTree : Type 0 where
     empty : StmtTree
     assign : PathTree → ExprTree → StmtTree
     conditional : ExprTree → Stmts → StmtTree
     block : Stmts → StmtTree
+
   pub data Stmts : Type 0 where
     no_stmt : Stmts
     one_stmt : StmtTree → Stmts → Stmts
 
--- trees in a list (own)
+-- expressions of a list (own)
 abbrev pub exprs : List ExprTree → Exprs
 exprs [] = no_expr
 exprs (e ∷ more) = one_expr e (exprs more)
 
+-- statements of a list (own)
 abbrev pub stmts : List StmtTree → Stmts
 stmts [] = no_stmt
 stmts (s ∷ more) = one_stmt s (stmts more)

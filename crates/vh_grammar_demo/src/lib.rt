@@ -25,3 +25,6 @@ pub struct Arithmetic;
 impl Grammar for Arithmetic {
     ghost table = { arithmetic };
 }
+
+#[cfg(test)]
+mod tests;

@@ -6,17 +6,15 @@ ghost use Rattle.vh_grammar.specs.Table.{source, IsSource};
 ghost use Rattle.vh_grammar_demo.specs.Table.{arithmetic};
 ghost use Rattle.vh_grammar.specs.Reading.{next_is, whole};
 ghost use Rattle.vh_grammar.specs.Says.{Says, Passes, Accepts};
-ghost use Rattle.vh_grammar_demo.specs.Token.{is_sign, is_operator, operator_next};
+ghost use Rattle.vh_grammar_demo.specs.Token.{is_sign, is_operator, operator_at, operator_next};
 ghost use Rattle.vh_grammar_demo.specs.Views.{path_tree, expr_tree, link_tree, links_tree, stmt_tree, stmt_trees};
 ghost use Rattle.vh_grammar_demo.specs.Grammar.{reads, the, a_number, a_name, goes_on, path_start, steps, dotted, bracketed, one_step, path, place_only, operand, chain_at, link_with, links_with, expression, inner, otherwise, if_statement, statements, block_statement, assignment, statement, begins_statement, expr, stmt, grammar};
-
-use std::alloc::Global;
-
-use vh_grammar::{Stop, exact};
 
 use crate::Arithmetic;
 use crate::token::{self, Kind, Sign, Token};
 use crate::tree::{Expr, Links, Operator, Path, Step, Stmt};
+use std::alloc::Global;
+use vh_grammar::{Stop, exact};
 
 // Whether the sign is next.
 fn next_is(tokens: &[Token], sign: Sign) -> bool
@@ -43,7 +41,13 @@ fn number(tokens: &[Token]) -> Result<(u32, &[Token]), Stop>
     ensures { Says (λ n. n) (reads 0 a_number tokens.now) result }
 {
     match tokens {
-        [Token { kind: Kind::Number(n), .. }, rest @ ..] => Ok((*n, rest)),
+        [
+            Token {
+                kind: Kind::Number(n),
+                ..
+            },
+            rest @ ..,
+        ] => Ok((*n, rest)),
         _ => Err(Stop::Lost(tokens.len())),
     }
 }
@@ -53,7 +57,13 @@ fn name(tokens: &[Token]) -> Result<(u32, &[Token]), Stop>
     ensures { Says (λ n. n) (reads 0 a_name tokens.now) result }
 {
     match tokens {
-        [Token { kind: Kind::Name(n), .. }, rest @ ..] => Ok((*n, rest)),
+        [
+            Token {
+                kind: Kind::Name(n),
+                ..
+            },
+            rest @ ..,
+        ] => Ok((*n, rest)),
         _ => Err(Stop::Lost(tokens.len())),
     }
 }
@@ -114,7 +124,14 @@ fn first_name(alloc: Global, tokens: &[Token]) -> Result<(Path, &[Token]), Stop>
     let (name, rest) = name(tokens)?;
     let mut steps = Vec::new(alloc);
     steps.push(Step::Name(name))?;
-    Ok((Path { place: first.place, steps, indexed: false }, rest))
+    Ok((
+        Path {
+            place: first.place,
+            steps,
+            indexed: false,
+        },
+        rest,
+    ))
 }
 
 // The steps behind the first name of a path.
@@ -144,23 +161,26 @@ fn place(alloc: Global, depth: usize, tokens: &[Token]) -> Result<(Path, &[Token
     Ok((path, rest))
 }
 
+// A token of this kind as an operator of the level.
+fn operator_of(level: usize, kind: Kind) -> Option<Operator>
+    ensures { result ≡ operator_at level kind }
+{
+    match kind {
+        Kind::Fixed(Sign::Times) if level == 0 => Some(Operator::Multiply),
+        Kind::Fixed(Sign::Plus) if level > 0 => Some(Operator::Add),
+        Kind::Fixed(Sign::Minus) if level > 0 => Some(Operator::Subtract),
+        _ => None,
+    }
+}
+
 // The operator of the level that is next, if one is.
 fn operator(level: usize, tokens: &[Token]) -> Option<Operator>
     ensures { result ≡ operator_next level tokens.now }
 {
-    let [first, ..] = tokens else {
-        return None;
-    };
-    let Kind::Fixed(sign) = first.kind else {
-        return None;
-    };
-    if level == 0 {
-        return if token::is(first.kind, Sign::Times) { Some(Operator::Multiply) } else { None };
+    match tokens {
+        [] => None,
+        [first, ..] => operator_of(level, first.kind),
     }
-    if token::is(first.kind, Sign::Plus) {
-        return Some(Operator::Add);
-    }
-    if token::is(first.kind, Sign::Minus) { Some(Operator::Subtract) } else { None }
 }
 
 // Whether an operator of the level is next.
@@ -175,7 +195,11 @@ fn operator_follows(level: usize, tokens: &[Token]) -> bool
 
 // An expression in parentheses, one level deeper.
 #[cycle(expression)]
-fn nested_expression(alloc: Global, depth: usize, tokens: &[Token]) -> Result<(Expr, &[Token]), Stop>
+fn nested_expression(
+    alloc: Global,
+    depth: usize,
+    tokens: &[Token],
+) -> Result<(Expr, &[Token]), Stop>
     ensures { Says expr_tree (reads depth (nested expr) tokens.now) result }
 {
     if depth == 0 {
@@ -190,10 +214,24 @@ fn nested_expression(alloc: Global, depth: usize, tokens: &[Token]) -> Result<(E
 fn single(alloc: Global, depth: usize, tokens: &[Token]) -> Result<(Expr, &[Token]), Stop>
     ensures { Says expr_tree (reads depth operand tokens.now) result }
 {
-    if let [Token { kind: Kind::Number(n), place }, rest @ ..] = tokens {
+    if let [
+        Token {
+            kind: Kind::Number(n),
+            place,
+        },
+        rest @ ..,
+    ] = tokens
+    {
         return Ok((Expr::Number(*place, *n), rest));
     }
-    if let [Token { kind: Kind::Name(_), .. }, ..] = tokens {
+    if let [
+        Token {
+            kind: Kind::Name(_),
+            ..
+        },
+        ..
+    ] = tokens
+    {
         let (path, rest) = place(alloc, depth, tokens)?;
         return Ok((Expr::Place(path), rest));
     }
@@ -205,7 +243,12 @@ fn single(alloc: Global, depth: usize, tokens: &[Token]) -> Result<(Expr, &[Toke
 
 // An operator of the level, and the operand behind it.
 #[cycle(expression)]
-fn link(alloc: Global, depth: usize, level: usize, tokens: &[Token]) -> Result<((Operator, Expr), &[Token]), Stop>
+fn link(
+    alloc: Global,
+    depth: usize,
+    level: usize,
+    tokens: &[Token],
+) -> Result<((Operator, Expr), &[Token]), Stop>
     ensures { Says link_tree (reads depth (link_with level (chain_at level)) tokens.now) result }
 {
     let [_, behind @ ..] = tokens else {
@@ -220,7 +263,12 @@ fn link(alloc: Global, depth: usize, level: usize, tokens: &[Token]) -> Result<(
 
 // The operators of the level with the operands behind them.
 #[cycle(expression)]
-fn links(alloc: Global, depth: usize, level: usize, tokens: &[Token]) -> Result<(Links, &[Token]), Stop>
+fn links(
+    alloc: Global,
+    depth: usize,
+    level: usize,
+    tokens: &[Token],
+) -> Result<(Links, &[Token]), Stop>
     ensures { Says links_tree (reads depth (links_with level (chain_at level)) tokens.now) result }
 {
     let mut operators = Vec::new(alloc);
@@ -232,13 +280,24 @@ fn links(alloc: Global, depth: usize, level: usize, tokens: &[Token]) -> Result<
         operands.push(operand)?;
         rest = behind;
     }
-    Ok((Links { operators, operands }, rest))
+    Ok((
+        Links {
+            operators,
+            operands,
+        },
+        rest,
+    ))
 }
 
 // A chain of the level above.
 #[cycle(expression)]
 #[tactic(auto, unfolding(crate::specs::Grammar::chain_at))]
-fn chained(alloc: Global, depth: usize, level: usize, tokens: &[Token]) -> Result<(Expr, &[Token]), Stop>
+fn chained(
+    alloc: Global,
+    depth: usize,
+    level: usize,
+    tokens: &[Token],
+) -> Result<(Expr, &[Token]), Stop>
     ensures { Says expr_tree (reads depth (chain_at (suc level)) tokens.now) result }
 {
     let (first, more) = chain(alloc, depth, level, tokens)?;
@@ -253,7 +312,12 @@ fn chained(alloc: Global, depth: usize, level: usize, tokens: &[Token]) -> Resul
 // A chain of the level.
 #[cycle(expression)]
 #[tactic(auto, unfolding(crate::specs::Grammar::chain_at))]
-fn chain(alloc: Global, depth: usize, level: usize, tokens: &[Token]) -> Result<(Expr, &[Token]), Stop>
+fn chain(
+    alloc: Global,
+    depth: usize,
+    level: usize,
+    tokens: &[Token],
+) -> Result<(Expr, &[Token]), Stop>
     ensures { Says expr_tree (reads depth (chain_at level) tokens.now) result }
 {
     if level == 0 {
@@ -297,7 +361,11 @@ fn inner_statement(alloc: Global, depth: usize, tokens: &[Token]) -> Result<(Stm
 // The `else` of an `if`.
 #[cycle(statement)]
 #[tactic(auto, unfolding(crate::specs::Grammar::otherwise))]
-fn else_branch(alloc: Global, depth: usize, tokens: &[Token]) -> Result<(Option<Stmt>, &[Token]), Stop>
+fn else_branch(
+    alloc: Global,
+    depth: usize,
+    tokens: &[Token],
+) -> Result<(Option<Stmt>, &[Token]), Stop>
     ensures { Says (option_map stmt_tree) (reads depth otherwise tokens.now) result }
 {
     if !next_is(tokens, Sign::Else) {
@@ -350,7 +418,11 @@ fn statement_next(tokens: &[Token]) -> bool
 // The statements of a block.
 #[cycle(statement)]
 #[tactic(auto, unfolding(crate::specs::Grammar::statements))]
-fn all_statements(alloc: Global, depth: usize, tokens: &[Token]) -> Result<(Vec<Stmt>, &[Token]), Stop>
+fn all_statements(
+    alloc: Global,
+    depth: usize,
+    tokens: &[Token],
+) -> Result<(Vec<Stmt>, &[Token]), Stop>
     ensures { Says stmt_trees (reads depth statements tokens.now) result }
 {
     let mut all = Vec::new(alloc);
@@ -414,7 +486,11 @@ fn all_read(alloc: Global, levels: usize, tokens: &[Token]) -> Result<Vec<Stmt>,
     ensures { Accepts stmt_trees (source arithmetic levels tokens.now) result }
 {
     let (all, rest) = all_statements(alloc, levels, tokens)?;
-    if rest.is_empty() { Ok(all) } else { Err(Stop::Lost(rest.len())) }
+    if rest.is_empty() {
+        Ok(all)
+    } else {
+        Err(Stop::Lost(rest.len()))
+    }
 }
 
 /// Reads a whole source, any number of statements, with so many levels of nesting.

@@ -22,5 +22,5 @@ returns g c =
       inside = places_are_inside t;
       firsts = classes_are_firsts t;
       spelled = spells_without_classes t;
-      begun = begins_without_classes t
+      begun = begins_without_classes t;
     }

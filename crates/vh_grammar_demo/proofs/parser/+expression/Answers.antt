@@ -1,10 +1,7 @@
 -- A level is taken off, and a chain's loop goes on by a link.
-use Rattle.std.proofs.Common.{◌≡◌, ℕ, suc, ◌-◌, List, ◌∷◌, ◌++◌, map, sym, ap, ◌∙◌, arith}
+use Rattle.std.proofs.Common.{◌≡◌, suc, ◌-◌, sym, ◌∙◌, arith}
 use Rattle.std.proofs.lemmas.List.{map-append}
-use Rattle.vh_grammar.specs.Says.{Says}
-use Rattle.vh_grammar_demo.specs.Views.{expr_tree}
-use Rattle.vh_grammar_demo.specs.Grammar.{reads, chain_at, expression, grammar, expr}
-use Rattle.vh_grammar_demo.proofs.Loops.{links_turn, links_end, link_less}
+use Rattle.vh_grammar_demo.proofs.Loops.{links_turn, link_less}
 use Rattle.vh_grammar_demo.proofs.parser.+expression.Goals as goal
 
 pub chain-returns : goal.chain-returns

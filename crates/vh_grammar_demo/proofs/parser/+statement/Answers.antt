@@ -1,7 +1,6 @@
 -- A level is taken off, and a block's loop goes on by a statement.
-use Rattle.std.proofs.Common.{◌≡◌, ℕ, suc, ◌-◌, List, ◌∷◌, ◌++◌, map, sym, ap, ◌∙◌, arith}
+use Rattle.std.proofs.Common.{◌≡◌, suc, ◌-◌, sym, ◌∙◌, arith}
 use Rattle.std.proofs.lemmas.List.{map-append}
-use Rattle.vh_grammar_demo.specs.Grammar.{inner}
 use Rattle.vh_grammar_demo.proofs.Loops.{statements_turn, inner_less}
 use Rattle.vh_grammar_demo.proofs.parser.+statement.Goals as goal
 
