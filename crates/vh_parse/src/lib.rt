@@ -17,3 +17,6 @@ mod tree;
 
 pub use fault::FirstFault;
 pub use first::parse_first;
+
+#[cfg(test)]
+mod tests;
