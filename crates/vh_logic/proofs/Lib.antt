@@ -1,0 +1,4 @@
+pub mod Tables
+pub mod PlaneLemmas
+pub mod TestLemmas
+pub mod NumberLemmas

@@ -1,0 +1,53 @@
+-- The number that the digits of a vector stand for, and the digits of a number.
+use Rattle.std.specs.Prelude.{ℕ, ◌+◌, ◌-◌, ◌*◌, ◌/◌, ◌%◌, ◌^◌, nat_le, ◌==◌, Bool, if◌then◌else◌, List, [], ◌∷◌, ℤ, pos, neg_ℤ, Option, Some, None, unsigned_abs}
+use Rattle.std.specs.Int.{int_rem_euclid}
+use Rattle.std.specs.List.{list_all}
+use Rattle.std.proofs.Common.{zero, suc}
+use Rattle.vh_logic.specs.declared.digits.Digit.{Digit}
+use Rattle.vh_logic.specs.declared.digits.Digit.TheVariants.{Zero, One, X, Z}
+use Rattle.vh_logic.specs.Digit.{is_known}
+use Rattle.vh_logic.specs.Vector.{Vector, width_of, filled}
+
+-- what a known digit counts at the lowest place (IEEE 1364-2005, 4.3)
+abbrev pub digit_value : Digit → ℕ
+digit_value Zero = 0
+digit_value One = 1
+digit_value X = 0
+digit_value Z = 0
+
+-- the number that known digits stand for, without a sign (4.3)
+unfoldable pub number_of : List Digit → ℕ
+number_of [] = 0
+number_of (d ∷ ds) = digit_value d + 2 * number_of ds
+
+-- no digit is x or z (5.1.5)
+abbrev pub all_known : List Digit → Bool
+all_known ds = list_all is_known ds
+
+-- the number of a vector read without a sign, where no digit is x or z (4.3)
+abbrev pub known_number : List Digit → Option ℕ
+known_number ds = if all_known ds then Some (number_of ds) else None
+
+-- a number below 2 ^ w read in two's complement (4.8)
+abbrev pub twos_complement : ℕ → ℕ → ℤ
+twos_complement w n = if nat_le (2 ^ w) (2 * n) then neg_ℤ (pos (2 ^ w - n)) else pos n
+
+-- the integer of a vector, in two's complement where it is signed, where no digit is x or z (4.8, 5.1.5)
+abbrev pub integer_of : Vector → Option ℤ
+integer_of v =
+    if all_known v.digits then Some (if v.signed then twos_complement (width_of v) (number_of v.digits) else pos (number_of v.digits))
+    else None
+
+-- the lowest `w` binary digits of a number (4.3)
+unfoldable pub binary : ℕ → ℕ → List Digit
+binary zero n = []
+binary (suc w) n = (if n % 2 == 0 then Zero else One) ∷ binary w (n / 2)
+
+-- an integer modulo 2 ^ w, as a natural number (5.1.5: results wrap)
+abbrev pub wrapped : ℕ → ℤ → ℕ
+wrapped w z = unsigned_abs (int_rem_euclid z (pos (2 ^ w)))
+
+-- a result of `w` digits: an integer, wrapped to the width, or all x where there is none (5.1.5)
+abbrev pub vector_of : ℕ → Bool → Option ℤ → Vector
+vector_of w s None = filled w X s
+vector_of w s (Some z) = record { digits = binary w (wrapped w z); signed = s }
