@@ -2,3 +2,5 @@ pub mod Tables
 pub mod PlaneLemmas
 pub mod TestLemmas
 pub mod NumberLemmas
+pub mod ArithmeticLemmas
+pub mod CompareLemmas

@@ -3,17 +3,17 @@ use Rattle.std.proofs.Common.{◌≡◌, ℕ, zero, suc, ◌+◌, ◌-◌, ◌*�
 use Rattle.std.specs.Prelude.{ℤ, pos, negsuc, neg_ℤ, ◌+ℤ◌, ◌-ℤ◌, ◌*ℤ◌, bit_and, bit_or, unsigned_abs}
 use Rattle.std.specs.Int.{bit_at, int_rem_euclid}
 use Rattle.std.proofs.lemmas.Int.{ints, int_rem_euclid_is}
-use Rattle.std.proofs.lemmas.Nat.{pow_pos, and_mask, le_or_l, le_or_r}
+use Rattle.std.proofs.lemmas.Nat.{pow_pos, pow-add, shr_split, and_mask, le_or_l, le_or_r}
 use Rattle.std.proofs.lemmas.Nat.Bits.{bit_at-lt, bit_at_and, bit_at_ones}
 use Rattle.std.proofs.Math.Dec.{eqb-suc-zero}
 use Rattle.std.proofs.Math.Nat.{mod-mod, add-mul-mod_self_right}
-use Rattle.std.proofs.Math.Pow.{mod-mod-pow}
+use Rattle.std.proofs.Math.Pow.{mod-mod-pow, pow_mono}
 use Rattle.std.proofs.lemmas.Bool.{cond-false, ne_eqb}
 use Rattle.vh_logic.specs.declared.digits.Digit.{Digit}
 use Rattle.vh_logic.specs.declared.digits.Digit.TheVariants.{Zero, One, X, Z}
 use Rattle.vh_logic.specs.Digit.{is_known}
 use Rattle.vh_logic.specs.Vector.{Vector}
-use Rattle.vh_logic.specs.Number.{number_of, digit_value, all_known, binary, wrapped, twos_complement, integer_of, known_number}
+use Rattle.vh_logic.specs.Number.{number_of, digit_value, all_known, binary, wrapped, twos_complement, integer_at, integer_of, known_number}
 use Rattle.vh_logic.specs.Planes.{digit_of, digits_of}
 use Rattle.vh_logic.specs.PlanesBack.{length-digits_of, half_below, by_bit}
 use Rattle.vh_logic.proofs.PlaneLemmas.{digit_at, digits_of-mask, Vector-of}
@@ -49,12 +49,8 @@ digits_of-mod w n = rw (← and_mask n w) (digits_of-mask w n 0 ∙ digits_of-bi
 pub binary-same : (w m n : ℕ) → m % 2 ^ w ≡ n % 2 ^ w → binary w m ≡ binary w n
 binary-same w m n e = sym (digits_of-mod w m) ∙ ap (λ k. digits_of w k 0) e ∙ digits_of-mod w n
 
--- the integer of a known vector
-abbrev pub value : ℕ → Bool → ℕ → ℤ
-value w s n = cond s (twos_complement w n) (pos n)
-
 pub integer_of-planes : (w a b : ℕ) (s : Bool) → a < 2 ^ w → b < 2 ^ w
-    → integer_of (Vector-of w a b s) ≡ cond (eqb b 0) (Some (value w s a)) None
+    → integer_of (Vector-of w a b s) ≡ cond (eqb b 0) (Some (integer_at w s a)) None
 integer_of-planes w a zero s h k = rw (all_known-digits_of w a 0 k, length-digits_of w a 0, number_of-digits_of w a h) refl
 integer_of-planes w a (suc b) s h k = rw (all_known-digits_of w a (suc b) k, eqb-suc-zero b) refl
 
@@ -63,7 +59,7 @@ known_number-planes w a zero h k = rw (all_known-digits_of w a 0 k, number_of-di
 known_number-planes w a (suc b) h k = rw (all_known-digits_of w a (suc b) k, eqb-suc-zero b) refl
 
 -- the same of a vector that a contract sees
-pub known_integer : (w a b : ℕ) (s : Bool) (x : Vector) → Vector-of w a b s ≡ x → a < 2 ^ w → b ≡ 0 → integer_of x ≡ Some (value w s a)
+pub known_integer : (w a b : ℕ) (s : Bool) (x : Vector) → Vector-of w a b s ≡ x → a < 2 ^ w → b ≡ 0 → integer_of x ≡ Some (integer_at w s a)
 known_integer w a b s x e h z = rw (← e, z) (integer_of-planes w a 0 s h (pow_pos w))
 
 pub unknown_integer : (w a b : ℕ) (s : Bool) (x : Vector) → Vector-of w a b s ≡ x → a < 2 ^ w → b < 2 ^ w → (b ≡ 0 → ⊥) → integer_of x ≡ None
@@ -88,19 +84,29 @@ twos_complement-differs w n h =
     elim (leb (2 ^ w) (2 * n)) as (λ t. Differs w (cond t (neg_ℤ (pos (2 ^ w - n))) (pos n)) n) [
         true ↦ record { up = 1; down = 0; same = omega (arith, ints) } | false ↦ record { up = 0; down = 0; same = omega (arith, ints) } ]
 
-pub value-differs : (w n : ℕ) (s : Bool) → n < 2 ^ w → Differs w (value w s n) n
-value-differs w n true h = twos_complement-differs w n h
-value-differs w n false h = record { up = 0; down = 0; same = omega (arith, ints) }
+pub integer_at-differs : (w n : ℕ) (s : Bool) → n < 2 ^ w → Differs w (integer_at w s n) n
+integer_at-differs w n true h = twos_complement-differs w n h
+integer_at-differs w n false h = record { up = 0; down = 0; same = omega (arith, ints) }
 
 pub Differs-sum : (w m n : ℕ) (y z : ℤ) → Differs w y m → Differs w z n → Differs w (y +ℤ z) (m + n)
 Differs-sum w m n y z d e = record { up = d.up + e.up; down = d.down + e.down; same = omega (arith, ints, d.same, e.same) }
 
-pub Differs-difference : (w m n : ℕ) (y z : ℤ) → n < 2 ^ w → Differs w y m → Differs w z n → Differs w (y -ℤ z) (m + (2 ^ w - n))
-Differs-difference w m n y z h d e =
-    record { up = d.up + e.down + 1; down = d.down + e.up; same = omega (arith, ints, d.same, e.same) }
+-- a power of two is a multiple of a lesser one
+pub pow_multiple : (w p : ℕ) → w ≤ p → 2 ^ p ≡ 2 ^ (p - w) * 2 ^ w
+pow_multiple w p h = let e : p ≡ p - w + w = omega arith in ap (λ k. 2 ^ k) e ∙ pow-add 2 (p - w) w
 
-pub Differs-negative : (w n : ℕ) (z : ℤ) → n < 2 ^ w → Differs w z n → Differs w (neg_ℤ z) (2 ^ w - n)
-Differs-negative w n z h d = record { up = d.down + 1; down = d.up; same = omega (arith, ints, d.same) }
+pub Differs-difference : (w p m n : ℕ) (y z : ℤ) → w ≤ p → n < 2 ^ w → Differs w y m → Differs w z n
+    → Differs w (y -ℤ z) (m + (2 ^ p - n))
+Differs-difference w p m n y z le h d e =
+    let times : 2 ^ p ≡ 2 ^ (p - w) * 2 ^ w = pow_multiple w p le in
+    let below : 2 ^ w ≤ 2 ^ p = pow_mono le in
+    record { up = d.up + e.down + 2 ^ (p - w); down = d.down + e.up; same = omega (arith, ints, d.same, e.same) }
+
+pub Differs-negative : (w p n r : ℕ) (z : ℤ) → w ≤ p → (r + n) % 2 ^ p ≡ 0 → Differs w z n → Differs w (neg_ℤ z) r
+Differs-negative w p n r z le none d =
+    let q : ℕ = (r + n) / 2 ^ p in
+    let whole : q * (2 ^ (p - w) * 2 ^ w) ≡ r + n = rw (← pow_multiple w p le) (let e = shr_split (r + n) p in omega arith) in
+    record { up = d.down + q * 2 ^ (p - w); down = d.up; same = omega (arith, ints, d.same) }
 
 -- products, by the signs of the factors: the equations of the factors, multiplied out
 pos_eq : (a m u d : ℕ) → pos a +ℤ pos u ≡ pos (m + d) → a + u ≡ m + d
@@ -165,7 +171,10 @@ mod-wider w p n h =
     let P : ℕ → Type 0 = λ k. n % 2 ^ k % 2 ^ w ≡ n % 2 ^ w in
     subst P e (mod-mod-pow n (p - w) w)
 
-pub binary-wrapped : (w p n : ℕ) (z : ℤ) → w ≤ p → Differs w z n → binary w (n % 2 ^ p) ≡ binary w (wrapped w z)
-binary-wrapped w p n z h d =
+pub binary-differs : (w n : ℕ) (z : ℤ) → Differs w z n → binary w n ≡ binary w (wrapped w z)
+binary-differs w n z d =
     let same : wrapped w z ≡ n % 2 ^ w = wrapped_is w d.up (n + d.down * 2 ^ w) z d.same ∙ add-mul-mod_self_right n d.down (2 ^ w) in
-    binary-same w _ _ (mod-wider w p n h ∙ sym (ap (λ k. k % 2 ^ w) same ∙ mod-mod n (2 ^ w)))
+    binary-same w _ _ (sym (ap (λ k. k % 2 ^ w) same ∙ mod-mod n (2 ^ w)))
+
+pub binary-wrapped : (w p n : ℕ) (z : ℤ) → w ≤ p → Differs w z n → binary w (n % 2 ^ p) ≡ binary w (wrapped w z)
+binary-wrapped w p n z h d = binary-same w _ _ (mod-wider w p n h) ∙ binary-differs w n z d

@@ -1,10 +1,11 @@
 -- How the digits of a vector follow from its two planes, over any width.
-use Rattle.std.proofs.Common.{◌≡◌, ℕ, zero, suc, ◌+◌, ◌-◌, ◌*◌, ◌/◌, ◌%◌, ◌^◌, ◌<◌, ◌≤◌, min, max, List, [], ◌∷◌, length, get_or, replicate, refl, ap, arith, ◌∙◌, sym, subst, Bool}
+use Rattle.std.proofs.Common.{◌≡◌, ℕ, zero, suc, ◌+◌, ◌-◌, ◌*◌, ◌/◌, ◌%◌, ◌^◌, ◌<◌, ◌≤◌, min, max, List, [], ◌∷◌, length, get_or, replicate, refl, ap, arith, ◌∙◌, sym, subst, Bool, Some}
 use Rattle.std.specs.Prelude.{bit_and, bit_or, bit_xor}
 use Rattle.std.specs.Int.{bit_at}
+use Rattle.std.specs.List.{slice_get}
 use Rattle.std.proofs.lemmas.List.{length-replicate, get_or-replicate}
 use Rattle.std.proofs.lemmas.Nat.{or_lt, xor_lt, and_le_l, pow_pos}
-use Rattle.std.proofs.lemmas.Nat.Bits.{bit_at_lowest, bit_at-suc, bit_at-lt, bit_at_and, bit_at_or, bit_at_xor, bit_at_ones, bit_at-zero}
+use Rattle.std.proofs.lemmas.Nat.Bits.{bit_at_lowest, bit_at-suc, bit_at-lt, bit_at_and, bit_at_or, bit_at_xor, bit_at_ones, bit_at-zero, shr_and_one}
 use Rattle.vh_logic.specs.declared.digits.Digit.{Digit}
 use Rattle.vh_logic.specs.declared.digits.Digit.TheVariants.{Zero, One, X, Z}
 use Rattle.vh_logic.specs.Vector.{Vector, map_digits, zip_digits}
@@ -42,6 +43,10 @@ zip_digits-digits_of f (suc w) a b c d m n h =
 pub same_width : (w a b v c d : ℕ) (xs ys : List Digit) → digits_of w a b ≡ xs → digits_of v c d ≡ ys → length xs ≡ length ys → v ≡ w
 same_width w a b v c d xs ys e f g =
     sym (length-digits_of v c d) ∙ ap length f ∙ sym g ∙ sym (ap length e) ∙ length-digits_of w a b
+
+-- a vector of these digits
+abbrev pub digits_with : List Digit → Bool → Vector
+digits_with ds s = record { digits = ds; signed = s }
 
 -- what contracts see of two planes
 abbrev pub Vector-of : ℕ → ℕ → ℕ → Bool → Vector
@@ -103,6 +108,19 @@ unfolding digits_of
 get_or-digits_of zero a b i d h = absurd (omega arith)
 get_or-digits_of (suc w) a b zero d h = sym (digit_at-zero a b)
 get_or-digits_of (suc w) a b (suc i) d h = get_or-digits_of w (a / 2) (b / 2) i d (omega arith) ∙ sym (digit_at-suc a b i)
+
+pub slice_get-digits_of : (w a b i : ℕ) → i < w → slice_get (digits_of w a b) i ≡ Some (digit_at a b i)
+unfolding digits_of
+slice_get-digits_of zero a b i h = absurd (omega arith)
+slice_get-digits_of (suc w) a b zero h = ap Some (sym (digit_at-zero a b))
+slice_get-digits_of (suc w) a b (suc i) h = slice_get-digits_of w (a / 2) (b / 2) i (omega arith) ∙ ap Some (sym (digit_at-suc a b i))
+
+-- what the code reads of a bit
+pub bit_set : (a i : ℕ) → bit_and (a / 2 ^ i) 1 ≡ 1 → bit_at a i ≡ 1
+bit_set a i h = sym (shr_and_one a i) ∙ h
+
+pub bit_clear : (a i : ℕ) → (bit_and (a / 2 ^ i) 1 ≡ 1 → ⊥) → bit_at a i ≡ 0
+bit_clear a i h = let n : bit_at a i ≡ 1 → ⊥ = λ e. h (shr_and_one a i ∙ e) in omega (arith, bit_at-lt a i)
 
 -- bits above the width do not count
 pub digits_of-same : (w a b c d : ℕ) → ((i : ℕ) → i < w → digit_at a b i ≡ digit_at c d i) → digits_of w a b ≡ digits_of w c d

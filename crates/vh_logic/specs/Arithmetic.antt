@@ -26,14 +26,18 @@ remainder x (pos zero) = None
 remainder x (pos (suc n)) = Some (int_rem x (pos (suc n)))
 remainder x (negsuc n) = Some (int_rem x (negsuc n))
 
--- `x ** y`. A negative power of 0 is not defined, of 1 and -1 it is that of the positive exponent, of others 0 (5.1.5)
+-- x to a negative power: not defined for 0, of 1 and -1 the power of the exponent's size, of others 0 (5.1.5)
+abbrev pub reciprocal_power : ℤ → ℕ → Option ℤ
+reciprocal_power (pos zero) n = None
+reciprocal_power (pos (suc zero)) n = Some (pos 1)
+reciprocal_power (pos (suc (suc k))) n = Some (pos 0)
+reciprocal_power (negsuc zero) n = Some (int_pow (negsuc zero) n)
+reciprocal_power (negsuc (suc k)) n = Some (pos 0)
+
+-- `x ** y` (5.1.5)
 abbrev pub power : ℤ → ℤ → Option ℤ
 power x (pos n) = Some (int_pow x n)
-power (pos zero) (negsuc n) = None
-power (pos (suc zero)) (negsuc n) = Some (pos 1)
-power (pos (suc (suc k))) (negsuc n) = Some (pos 0)
-power (negsuc zero) (negsuc n) = Some (int_pow (negsuc zero) (suc n))
-power (negsuc (suc k)) (negsuc n) = Some (pos 0)
+power x (negsuc n) = reciprocal_power x (suc n)
 
 -- `a + b` (5.1.5)
 abbrev pub sum_of : Vector → Vector → Vector

@@ -32,11 +32,17 @@ known_number ds = if all_known ds then Some (number_of ds) else None
 abbrev pub twos_complement : ℕ → ℕ → ℤ
 twos_complement w n = if nat_le (2 ^ w) (2 * n) then neg_ℤ (pos (2 ^ w - n)) else pos n
 
--- the integer of a vector, in two's complement where it is signed, where no digit is x or z (4.8, 5.1.5)
+-- the integer that a number of `w` digits stands for: in two's complement where it is signed (4.8)
+abbrev pub integer_at : ℕ → Bool → ℕ → ℤ
+integer_at w s n = if s then twos_complement w n else pos n
+
+-- the integer of a vector, where no digit is x or z (5.1.5)
 abbrev pub integer_of : Vector → Option ℤ
-integer_of v =
-    if all_known v.digits then Some (if v.signed then twos_complement (width_of v) (number_of v.digits) else pos (number_of v.digits))
-    else None
+integer_of v = if all_known v.digits then Some (integer_at (width_of v) v.signed (number_of v.digits)) else None
+
+-- the integer of a sign and a size (own)
+abbrev pub signed_integer : Bool → ℕ → ℤ
+signed_integer negative size = if negative then neg_ℤ (pos size) else pos size
 
 -- the lowest `w` binary digits of a number (4.3)
 unfoldable pub binary : ℕ → ℕ → List Digit
