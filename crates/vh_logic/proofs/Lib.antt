@@ -4,3 +4,4 @@ pub mod TestLemmas
 pub mod NumberLemmas
 pub mod ArithmeticLemmas
 pub mod CompareLemmas
+pub mod PartLemmas

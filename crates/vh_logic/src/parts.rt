@@ -32,11 +32,12 @@ pub fn replace(a: &Vec4, low: u32, part: &Vec4) -> Vec4
     requires { low + width_of part.now ≤ width_of a.now }
     ensures { result ≡ replaced a.now low part.now }
 {
+    let width = a.width;
     let hole = mask(part.width) << low;
     Vec4 {
         aval: ((a.aval | hole) ^ hole) | (part.aval << low),
         bval: ((a.bval | hole) ^ hole) | (part.bval << low),
-        width: a.width,
+        width,
         signed: a.signed,
     }
 }
@@ -48,22 +49,22 @@ pub fn resize(a: &Vec4, width: u32, signed: bool) -> Vec4
     requires most { width ≤ MAX_WIDTH }
     ensures { result ≡ resized a.now width signed }
 {
-    if width > a.width && a.signed && signed {
+    if a.signed && signed {
         let aval = extended(a.aval, a.width, width);
         let bval = extended(a.bval, a.width, width);
-        return Vec4 { aval, bval, width, signed };
+        return Vec4::from_planes(width, aval, bval, true);
     }
     Vec4::from_planes(width, a.aval, a.bval, signed)
 }
 
-/// A plane of `from` bits extended by its highest bit.
+/// A plane of `from` bits whose bits up to `to` are those of the plane, and its highest bit above.
 fn extended(plane: Plane, from: u32, to: u32) -> Plane
-    requires least { 1 ≤ from }
-    requires wider { from ≤ to }
-    requires most { to ≤ MAX_WIDTH }
+    requires from_least { 1 ≤ from }
+    requires from_most { from ≤ MAX_WIDTH }
+    requires to_least { 1 ≤ to }
+    requires to_most { to ≤ MAX_WIDTH }
     requires fits { plane < 2 ^ from }
-    ensures fits { result < 2 ^ to }
-    ensures bits { (i : ℕ) → i < to → bit_at result i ≡ bit_at plane (min i (from - 1)) }
+    ensures { (i : ℕ) → i < to → bit_at result i ≡ bit_at plane (min i (from - 1)) }
 {
     if plane >> (from - 1) == 1 { plane | (mask(to) ^ mask(from)) } else { plane }
 }
