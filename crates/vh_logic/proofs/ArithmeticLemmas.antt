@@ -1,5 +1,5 @@
 -- The operators on integers, from the planes of their operands.
-use Rattle.std.proofs.Common.{◌≡◌, ℕ, zero, suc, ◌+◌, ◌-◌, ◌*◌, ◌/◌, ◌%◌, ◌^◌, ◌<◌, ◌≤◌, eqb, refl, ap, arith, ◌∙◌, sym, subst, Bool, true, false, cond, ◌&&◌, Some, None, Option, inl, inr}
+use Rattle.std.proofs.Common.{◌≡◌, ℕ, zero, suc, ◌+◌, ◌-◌, ◌*◌, ◌/◌, ◌%◌, ◌^◌, ◌<◌, ◌≤◌, eqb, refl, ap, arith, ◌∙◌, sym, subst, Bool, true, false, cond, ◌&&◌, Some, None, Option, inl, inr, length}
 use Rattle.std.specs.Prelude.{ℤ, pos, negsuc, neg_ℤ, ◌+ℤ◌, ◌-ℤ◌, ◌*ℤ◌, bit_or, IfSome}
 use Rattle.std.proofs.Math.Bool.{xor}
 use Rattle.std.proofs.lemmas.Int.{ints}
@@ -16,6 +16,7 @@ use Rattle.vh_logic.specs.Arithmetic.{on_both, arithmetic, quotient, remainder, 
 use Rattle.vh_logic.proofs.PlaneLemmas.{Vector-of, digits_with}
 use Rattle.vh_logic.proofs.NumberLemmas.{known_integer, unknown_integer, or_zero, Differs, binary-wrapped, binary-differs, pow_multiple, Differs-product, mod-wider, integer_at-differs}
 use Rattle.vh_logic.specs.PlanesBack.{length-digits_of}
+use Rattle.vh_logic.specs.Planes.{digits_of}
 
 -- an operand with an x or z digit makes all digits x
 pub arithmetic-unknown : (f : ℤ → ℤ → Option ℤ) (w a b v c d : ℕ) (s t : Bool) (x y : Vector)
@@ -37,6 +38,9 @@ arithmetic-known f w a b v c d s t x y e g ha hc n =
 
 pub width-planes : (w a b : ℕ) (s : Bool) (x : Vector) → Vector-of w a b s ≡ x → width_of x ≡ w
 width-planes w a b s x e = sym (ap (λ (z : Vector). width_of z) e) ∙ length-digits_of w a b
+
+pub literal-width : (w a b m p : ℕ) {s : Bool} (x : Vector) → Vector-of w a b s ≡ x → length (digits_of w m p) ≡ width_of x
+literal-width w a b m p {s} x e = length-digits_of w m p ∙ sym (width-planes w a b s x e)
 
 pub widths-planes : (w a b v c d : ℕ) (s t : Bool) (x y : Vector) → Vector-of w a b s ≡ x → Vector-of v c d t ≡ y
     → width_of x ≡ width_of y → v ≡ w

@@ -332,3 +332,8 @@ part-planes w a b v c d low s t x y e g h = omega (arith, width-planes w a b s x
 -- an unsigned vector is filled with zeros
 pub shifted_right-unsigned : (x y : Vector) → x.signed ≡ false → shifted_right x y ≡ shifted_right_signed x y
 shifted_right-unsigned x y e = rw e refl
+
+pub concat-width : (w a b v c d m p : ℕ) (s t : Bool) (x y : Vector) → Vector-of w a b s ≡ x → Vector-of v c d t ≡ y
+    → length (digits_of (w + v) m p) ≡ width_of x + width_of y
+concat-width w a b v c d m p s t x y e g =
+    omega (arith, length-digits_of (w + v) m p, width-planes w a b s x e, width-planes v c d t y g)

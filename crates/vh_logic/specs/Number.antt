@@ -1,12 +1,12 @@
 -- The number that the digits of a vector stand for, and the digits of a number.
-use Rattle.std.specs.Prelude.{ℕ, ◌+◌, ◌-◌, ◌*◌, ◌/◌, ◌%◌, ◌^◌, nat_le, ◌==◌, Bool, if◌then◌else◌, List, [], ◌∷◌, ℤ, pos, neg_ℤ, Option, Some, None, unsigned_abs}
+use Rattle.std.specs.Prelude.{ℕ, ◌+◌, ◌-◌, ◌*◌, ◌/◌, ◌%◌, ◌^◌, nat_le, ◌==◌, Bool, if◌then◌else◌, List, [], ◌∷◌, ℤ, pos, neg_ℤ, Option, Some, None, unsigned_abs, replicate}
 use Rattle.std.specs.Int.{int_rem_euclid}
 use Rattle.std.specs.List.{list_all}
 use Rattle.std.proofs.Common.{zero, suc}
 use Rattle.vh_logic.specs.declared.digits.Digit.{Digit}
 use Rattle.vh_logic.specs.declared.digits.Digit.TheVariants.{Zero, One, X, Z}
 use Rattle.vh_logic.specs.Digit.{is_known}
-use Rattle.vh_logic.specs.Vector.{Vector, width_of, filled}
+use Rattle.vh_logic.specs.Vector.{Vector, width_of}
 
 -- what a known digit counts at the lowest place (IEEE 1364-2005, 4.3)
 abbrev pub digit_value : Digit → ℕ
@@ -53,7 +53,11 @@ binary (suc w) n = (if n % 2 == 0 then Zero else One) ∷ binary w (n / 2)
 abbrev pub wrapped : ℕ → ℤ → ℕ
 wrapped w z = unsigned_abs (int_rem_euclid z (pos (2 ^ w)))
 
--- a result of `w` digits: an integer, wrapped to the width, or all x where there is none (5.1.5)
+-- the `w` digits of a result: an integer, wrapped to the width, or all x where there is none (5.1.5)
+abbrev pub result_digits : ℕ → Option ℤ → List Digit
+result_digits w None = replicate w X
+result_digits w (Some z) = binary w (wrapped w z)
+
+-- a result of `w` digits and a sign mark (5.1.5)
 abbrev pub vector_of : ℕ → Bool → Option ℤ → Vector
-vector_of w s None = filled w X s
-vector_of w s (Some z) = record { digits = binary w (wrapped w z); signed = s }
+vector_of w s z = record { digits = result_digits w z; signed = s }

@@ -2,7 +2,7 @@
 use Rattle.std.specs.Prelude.{ℕ, if◌then◌else◌, List, ◌++◌, take, drop, length, replicate, Option, Some, None}
 use Rattle.vh_logic.specs.declared.digits.Digit.{Digit}
 use Rattle.vh_logic.specs.declared.digits.Digit.TheVariants.{Zero, X}
-use Rattle.vh_logic.specs.Vector.{Vector, width_of, filled, highest}
+use Rattle.vh_logic.specs.Vector.{Vector, highest}
 use Rattle.vh_logic.specs.Number.{known_number}
 
 -- the digits moved up by n places, with zeros below (IEEE 1364-2005, 5.1.12)
@@ -13,10 +13,14 @@ moved_up ds n = take (length ds) (replicate n Zero ++ ds)
 abbrev pub moved_down : Digit → List Digit → ℕ → List Digit
 moved_down fill ds n = take (length ds) (drop n ds ++ replicate (length ds) fill)
 
--- a vector whose digits are moved by a number of places, if that number is known (5.1.12)
+-- the digits moved by a number of places, all x where that number is not known (5.1.12)
+abbrev pub moved_by : (List Digit → ℕ → List Digit) → List Digit → Option ℕ → List Digit
+moved_by move ds None = replicate (length ds) X
+moved_by move ds (Some n) = move ds n
+
+-- a vector whose digits are moved by a number of places (5.1.12)
 abbrev pub moved : (List Digit → ℕ → List Digit) → Vector → Option ℕ → Vector
-moved move a None = filled (width_of a) X a.signed
-moved move a (Some n) = record { digits = move a.digits n; signed = a.signed }
+moved move a places = record { digits = moved_by move a.digits places; signed = a.signed }
 
 -- `a << b` and `a <<< b` (5.1.12)
 abbrev pub shifted_left : Vector → Vector → Vector

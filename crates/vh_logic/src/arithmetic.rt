@@ -9,7 +9,8 @@ use crate::vector::{MAX_WIDTH, Plane, Vec4, mask};
 pub fn add(a: &Vec4, b: &Vec4) -> Vec4
     requires widths { width_of a.now ≡ width_of b.now }
     requires signs { a.now.signed ≡ b.now.signed }
-    ensures { result ≡ sum_of a.now b.now }
+    ensures value { result ≡ sum_of a.now b.now }
+    ensures width { width_of result ≡ width_of a.now }
 {
     if a.bval | b.bval != 0 {
         return a.unknown();
@@ -21,7 +22,8 @@ pub fn add(a: &Vec4, b: &Vec4) -> Vec4
 pub fn sub(a: &Vec4, b: &Vec4) -> Vec4
     requires widths { width_of a.now ≡ width_of b.now }
     requires signs { a.now.signed ≡ b.now.signed }
-    ensures { result ≡ difference_of a.now b.now }
+    ensures value { result ≡ difference_of a.now b.now }
+    ensures width { width_of result ≡ width_of a.now }
 {
     if a.bval | b.bval != 0 {
         return a.unknown();
@@ -33,7 +35,8 @@ pub fn sub(a: &Vec4, b: &Vec4) -> Vec4
 pub fn mul(a: &Vec4, b: &Vec4) -> Vec4
     requires widths { width_of a.now ≡ width_of b.now }
     requires signs { a.now.signed ≡ b.now.signed }
-    ensures { result ≡ product_of a.now b.now }
+    ensures value { result ≡ product_of a.now b.now }
+    ensures width { width_of result ≡ width_of a.now }
 {
     if a.bval | b.bval != 0 {
         return a.unknown();
@@ -43,7 +46,8 @@ pub fn mul(a: &Vec4, b: &Vec4) -> Vec4
 
 /// `-a`, wrapped to the width; all x where a digit is x or z (IEEE 1364-2005, 5.1.5).
 pub fn negate(a: &Vec4) -> Vec4
-    ensures { result ≡ negative_of a.now }
+    ensures value { result ≡ negative_of a.now }
+    ensures width { width_of result ≡ width_of a.now }
 {
     if a.bval != 0 {
         return a.unknown();
@@ -56,7 +60,8 @@ pub fn negate(a: &Vec4) -> Vec4
 pub fn div(a: &Vec4, b: &Vec4) -> Vec4
     requires widths { width_of a.now ≡ width_of b.now }
     requires signs { a.now.signed ≡ b.now.signed }
-    ensures { result ≡ quotient_of a.now b.now }
+    ensures value { result ≡ quotient_of a.now b.now }
+    ensures width { width_of result ≡ width_of a.now }
 {
     if a.bval | b.bval != 0 {
         return a.unknown();
@@ -74,7 +79,8 @@ pub fn div(a: &Vec4, b: &Vec4) -> Vec4
 pub fn rem(a: &Vec4, b: &Vec4) -> Vec4
     requires widths { width_of a.now ≡ width_of b.now }
     requires signs { a.now.signed ≡ b.now.signed }
-    ensures { result ≡ remainder_of a.now b.now }
+    ensures value { result ≡ remainder_of a.now b.now }
+    ensures width { width_of result ≡ width_of a.now }
 {
     if a.bval | b.bval != 0 {
         return a.unknown();
@@ -90,7 +96,8 @@ pub fn rem(a: &Vec4, b: &Vec4) -> Vec4
 /// `a ** b`, wrapped to the width of `a`; all x where a digit is x or z, and for a negative power
 /// of zero (IEEE 1364-2005, 5.1.5).
 pub fn pow(a: &Vec4, b: &Vec4) -> Vec4
-    ensures { result ≡ power_of a.now b.now }
+    ensures value { result ≡ power_of a.now b.now }
+    ensures width { width_of result ≡ width_of a.now }
 {
     if a.bval | b.bval != 0 {
         return a.unknown();
@@ -105,7 +112,8 @@ pub fn pow(a: &Vec4, b: &Vec4) -> Vec4
 
 /// A vector without x or z to the power of a negative exponent of this size.
 fn negative_power(a: &Vec4, exponent: Plane) -> Vec4
-    ensures { IfSome (integer_of a.now) (λ z. result ≡ vector_of (width_of a.now) a.now.signed (reciprocal_power z exponent)) }
+    ensures value { IfSome (integer_of a.now) (λ z. result ≡ vector_of (width_of a.now) a.now.signed (reciprocal_power z exponent)) }
+    ensures width { width_of result ≡ width_of a.now }
 {
     let base = magnitude_of(a.aval, a.width, a.signed);
     if base.size == 0 {

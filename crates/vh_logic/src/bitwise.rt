@@ -6,7 +6,8 @@ use crate::vector::{Vec4, mask};
 
 /// `~a`, digit by digit (IEEE 1364-2005, 5.1.10).
 pub fn invert(a: &Vec4) -> Vec4
-    ensures { result ≡ bitwise_not a.now }
+    ensures value { result ≡ bitwise_not a.now }
+    ensures width { width_of result ≡ width_of a.now }
 {
     Vec4 { aval: (a.aval ^ mask(a.width)) | a.bval, bval: a.bval, width: a.width, signed: a.signed }
 }
@@ -15,7 +16,8 @@ pub fn invert(a: &Vec4) -> Vec4
 pub fn and(a: &Vec4, b: &Vec4) -> Vec4
     requires widths { width_of a.now ≡ width_of b.now }
     requires signs { a.now.signed ≡ b.now.signed }
-    ensures { result ≡ bitwise_and a.now b.now }
+    ensures value { result ≡ bitwise_and a.now b.now }
+    ensures width { width_of result ≡ width_of a.now }
 {
     let aval = (a.aval | a.bval) & (b.aval | b.bval);
     let bval = aval & (a.bval | b.bval);
@@ -26,7 +28,8 @@ pub fn and(a: &Vec4, b: &Vec4) -> Vec4
 pub fn or(a: &Vec4, b: &Vec4) -> Vec4
     requires widths { width_of a.now ≡ width_of b.now }
     requires signs { a.now.signed ≡ b.now.signed }
-    ensures { result ≡ bitwise_or a.now b.now }
+    ensures value { result ≡ bitwise_or a.now b.now }
+    ensures width { width_of result ≡ width_of a.now }
 {
     let left = a.aval | a.bval;
     let right = b.aval | b.bval;
@@ -39,7 +42,8 @@ pub fn or(a: &Vec4, b: &Vec4) -> Vec4
 pub fn xor(a: &Vec4, b: &Vec4) -> Vec4
     requires widths { width_of a.now ≡ width_of b.now }
     requires signs { a.now.signed ≡ b.now.signed }
-    ensures { result ≡ bitwise_xor a.now b.now }
+    ensures value { result ≡ bitwise_xor a.now b.now }
+    ensures width { width_of result ≡ width_of a.now }
 {
     let bval = a.bval | b.bval;
     Vec4 { aval: (a.aval ^ b.aval) | bval, bval, width: a.width, signed: a.signed }
@@ -49,7 +53,8 @@ pub fn xor(a: &Vec4, b: &Vec4) -> Vec4
 pub fn xnor(a: &Vec4, b: &Vec4) -> Vec4
     requires widths { width_of a.now ≡ width_of b.now }
     requires signs { a.now.signed ≡ b.now.signed }
-    ensures { result ≡ bitwise_xnor a.now b.now }
+    ensures value { result ≡ bitwise_xnor a.now b.now }
+    ensures width { width_of result ≡ width_of a.now }
 {
     let bval = a.bval | b.bval;
     let aval = (a.aval ^ b.aval ^ mask(a.width)) | bval;
@@ -61,7 +66,8 @@ pub fn xnor(a: &Vec4, b: &Vec4) -> Vec4
 pub fn merge(a: &Vec4, b: &Vec4) -> Vec4
     requires widths { width_of a.now ≡ width_of b.now }
     requires signs { a.now.signed ≡ b.now.signed }
-    ensures { result ≡ merged a.now b.now }
+    ensures value { result ≡ merged a.now b.now }
+    ensures width { width_of result ≡ width_of a.now }
 {
     let bval = (a.aval ^ b.aval) | a.bval | b.bval;
     Vec4 { aval: a.aval | bval, bval, width: a.width, signed: a.signed }

@@ -18,3 +18,6 @@ pub use parts::{concat, replace, resize, select};
 pub use reduce::{reduce_and, reduce_or, reduce_xor, truth};
 pub use shift::{shl, shr, sshr};
 pub use vector::{MAX_WIDTH, Plane, Vec4};
+
+#[cfg(test)]
+mod tests;

@@ -8,7 +8,8 @@ use crate::vector::{MAX_WIDTH, Plane, Vec4, mask};
 /// `{high, low}`, unsigned (IEEE 1364-2005, 5.1.14).
 pub fn concat(high: &Vec4, low: &Vec4) -> Vec4
     requires { width_of high.now + width_of low.now ≤ MAX_WIDTH }
-    ensures { result ≡ concatenation high.now low.now }
+    ensures value { result ≡ concatenation high.now low.now }
+    ensures width { width_of result ≡ width_of high.now + width_of low.now }
 {
     Vec4 {
         aval: (high.aval << low.width) | low.aval,
@@ -22,7 +23,8 @@ pub fn concat(high: &Vec4, low: &Vec4) -> Vec4
 pub fn select(a: &Vec4, low: u32, width: u32) -> Vec4
     requires least { 1 ≤ width }
     requires inside { low + width ≤ width_of a.now }
-    ensures { result ≡ part_of a.now low width }
+    ensures value { result ≡ part_of a.now low width }
+    ensures width { width_of result ≡ width }
 {
     Vec4::from_planes(width, a.aval >> low, a.bval >> low, false)
 }
@@ -30,7 +32,8 @@ pub fn select(a: &Vec4, low: u32, width: u32) -> Vec4
 /// `a` with its digits from place `low` on replaced by those of `part` (IEEE 1364-2005, 5.2.1).
 pub fn replace(a: &Vec4, low: u32, part: &Vec4) -> Vec4
     requires { low + width_of part.now ≤ width_of a.now }
-    ensures { result ≡ replaced a.now low part.now }
+    ensures value { result ≡ replaced a.now low part.now }
+    ensures width { width_of result ≡ width_of a.now }
 {
     let width = a.width;
     let hole = mask(part.width) << low;
@@ -47,7 +50,8 @@ pub fn replace(a: &Vec4, low: u32, part: &Vec4) -> Vec4
 pub fn resize(a: &Vec4, width: u32, signed: bool) -> Vec4
     requires least { 1 ≤ width }
     requires most { width ≤ MAX_WIDTH }
-    ensures { result ≡ resized a.now width signed }
+    ensures value { result ≡ resized a.now width signed }
+    ensures width { width_of result ≡ width }
 {
     if a.signed && signed {
         let aval = extended(a.aval, a.width, width);

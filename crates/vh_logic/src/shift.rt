@@ -1,5 +1,6 @@
 ghost use Rattle.std.specs.Prelude.{◌≡◌, ◌≤◌, ◌<◌, ◌+◌, ◌-◌, ◌^◌, ℕ, min};
 ghost use Rattle.std.specs.Int.{bit_at};
+ghost use Rattle.vh_logic.specs.Vector.{width_of};
 ghost use Rattle.vh_logic.specs.Shift.{shifted_left, shifted_right, shifted_right_signed};
 
 use crate::vector::{MAX_WIDTH, Plane, Vec4, mask};
@@ -7,7 +8,8 @@ use crate::vector::{MAX_WIDTH, Plane, Vec4, mask};
 /// `a << b` and `a <<< b`, where `b` is read without a sign; all x where it has an x or z digit
 /// (IEEE 1364-2005, 5.1.12).
 pub fn shl(a: &Vec4, b: &Vec4) -> Vec4
-    ensures { result ≡ shifted_left a.now b.now }
+    ensures value { result ≡ shifted_left a.now b.now }
+    ensures width { width_of result ≡ width_of a.now }
 {
     if b.bval != 0 {
         return a.unknown();
@@ -24,7 +26,8 @@ pub fn shl(a: &Vec4, b: &Vec4) -> Vec4
 /// `a >> b`, where `b` is read without a sign; all x where it has an x or z digit
 /// (IEEE 1364-2005, 5.1.12).
 pub fn shr(a: &Vec4, b: &Vec4) -> Vec4
-    ensures { result ≡ shifted_right a.now b.now }
+    ensures value { result ≡ shifted_right a.now b.now }
+    ensures width { width_of result ≡ width_of a.now }
 {
     if b.bval != 0 {
         return a.unknown();
@@ -38,7 +41,8 @@ pub fn shr(a: &Vec4, b: &Vec4) -> Vec4
 /// `a >>> b`: a signed vector is filled with its highest digit, another with 0. `b` is read
 /// without a sign; all x where it has an x or z digit (IEEE 1364-2005, 5.1.12).
 pub fn sshr(a: &Vec4, b: &Vec4) -> Vec4
-    ensures { result ≡ shifted_right_signed a.now b.now }
+    ensures value { result ≡ shifted_right_signed a.now b.now }
+    ensures width { width_of result ≡ width_of a.now }
 {
     if b.bval != 0 {
         return a.unknown();

@@ -56,7 +56,8 @@ impl Vec4 {
     pub fn filled(width: u32, digit: Digit, signed: bool) -> Vec4
         requires low { 1 ≤ width }
         requires high { width ≤ MAX_WIDTH }
-        ensures { result ≡ filled width digit signed }
+        ensures value { result ≡ filled width digit signed }
+        ensures width { width_of result ≡ width }
     {
         let all = mask(width);
         let (aval, bval) = match digit {
@@ -73,7 +74,8 @@ impl Vec4 {
     pub fn from_planes(width: u32, aval: Plane, bval: Plane, signed: bool) -> Vec4
         requires low { 1 ≤ width }
         requires high { width ≤ MAX_WIDTH }
-        ensures { result ≡ record { digits = digits_of width aval bval; signed = signed } }
+        ensures value { result ≡ record { digits = digits_of width aval bval; signed = signed } }
+        ensures width { width_of result ≡ width }
     {
         let all = mask(width);
         Vec4 { aval: aval & all, bval: bval & all, width, signed }
@@ -131,7 +133,8 @@ impl Vec4 {
 
     /// All x, in the width and with the sign mark of `self`.
     pub(crate) fn unknown(&self) -> Vec4
-        ensures { result ≡ filled (width_of self.now) Digit.X self.now.signed }
+        ensures value { result ≡ filled (width_of self.now) Digit.X self.now.signed }
+        ensures width { width_of result ≡ width_of self.now }
     {
         let all = mask(self.width);
         Vec4 { aval: all, bval: all, width: self.width, signed: self.signed }
@@ -139,7 +142,8 @@ impl Vec4 {
 
     /// The lowest digits of a number, in the width and with the sign mark of `self`.
     pub(crate) fn with_number(&self, number: Plane) -> Vec4
-        ensures { result ≡ record { digits = binary (width_of self.now) number; signed = self.now.signed } }
+        ensures value { result ≡ record { digits = binary (width_of self.now) number; signed = self.now.signed } }
+        ensures width { width_of result ≡ width_of self.now }
     {
         Vec4 { aval: number & mask(self.width), bval: 0, width: self.width, signed: self.signed }
     }

@@ -5,6 +5,7 @@ use Rattle.vh_logic.specs.declared.vector.TheConstants.{MAX_WIDTH}
 use Rattle.vh_logic.specs.Vector.{width_of}
 use Rattle.vh_logic.proofs.PlaneLemmas.{digits_with, ones_below}
 use Rattle.vh_logic.proofs.PartLemmas.{replaced-below, digits_of-replaced, part-planes, within-planes}
+use Rattle.vh_logic.proofs.ArithmeticLemmas.{literal-width}
 use Rattle.vh_logic.proofs.parts.replace.Goals as goal
 
 pub overflow_shl-hole : goal.overflow_shl-hole
@@ -41,8 +42,8 @@ invariant_of-result c =
     replaced-below c.a.inside.width c.part.inside.width c.args.low c.a.inside.aval c.part.inside.aval c.a.invariant.2 c.part.invariant.2 inside,
     replaced-below c.a.inside.width c.part.inside.width c.args.low c.a.inside.bval c.part.inside.bval c.a.invariant.3 c.part.invariant.3 inside)
 
-pub returns : goal.returns
-returns c =
+pub returns-clause-value : goal.returns-clause-value
+returns-clause-value c =
     let inside : c.args.low + c.part.inside.width ≤ c.a.inside.width = part-planes _ _ _ _ _ _ _ _ _ _ _ c.a.view_is c.part.view_is c.requires in
     let most : c.a.inside.width ≤ MAX_WIDTH = c.a.invariant.1 in
     let fits : c.part.inside.width + c.args.low ≤ MAX_WIDTH = omega arith in
@@ -52,3 +53,6 @@ returns c =
     shl_whole c.part.inside.bval c.part.inside.width c.args.low MAX_WIDTH c.part.invariant.3 fits)
     (ap (λ ds. digits_with ds c.a.inside.signed) (digits_of-replaced c.a.inside.width c.a.inside.aval c.a.inside.bval
     c.part.inside.width c.part.inside.aval c.part.inside.bval c.args.low c.part.invariant.2 c.part.invariant.3 inside)))
+
+pub returns-clause-width : goal.returns-clause-width
+returns-clause-width c = literal-width _ _ _ _ _ _ c.a.view_is

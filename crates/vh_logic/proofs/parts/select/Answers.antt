@@ -23,8 +23,8 @@ from_planes-requires-clause-high c =
     let most : c.a.inside.width ≤ MAX_WIDTH = c.a.invariant.1 in
     omega arith
 
-pub returns : goal.returns
-returns c =
+pub returns-clause-value : goal.returns-clause-value
+returns-clause-value c =
     let inside : c.args.low + c.args.width ≤ c.a.inside.width = within-planes _ _ _ _ _ _ c.a.view_is c.requires.inside in
     let most : c.a.inside.width ≤ MAX_WIDTH = c.a.invariant.1 in
-    c.from_planes.ensures ∙ rw (← c.a.view_is) (ap (λ ds. digits_with ds false) (digits_of-part c.a.inside.width c.a.inside.aval c.a.inside.bval c.args.low c.args.width inside))
+    c.from_planes.ensures.value ∙ rw (← c.a.view_is) (ap (λ ds. digits_with ds false) (digits_of-part c.a.inside.width c.a.inside.aval c.a.inside.bval c.args.low c.args.width inside))
