@@ -24,10 +24,11 @@ pub arithmetic-unknown : (f : ℤ → ℤ → Option ℤ) (w a b v c d : ℕ) (s
     → (bit_or b d ≡ 0 → ⊥) → filled (width_of x) X x.signed ≡ arithmetic f x y
 arithmetic-unknown f w a b v c d s t x y e g ha hb hc hd n =
     elim (cases_eq b 0) [
-        inl z ↦
-        (let other : d ≡ 0 → ⊥ = λ z'. n (rw (z, z') refl) in
-        rw (known_integer w a b s x e ha z, unknown_integer v c d t y g hc hd other) refl)
-        | inr m ↦ rw (unknown_integer w a b s x e ha hb m) refl ]
+      | inl z ↦
+          (let other : d ≡ 0 → ⊥ = λ z'. n (rw (z, z') refl) in
+          rw (known_integer w a b s x e ha z, unknown_integer v c d t y g hc hd other) refl)
+      | inr m ↦ rw (unknown_integer w a b s x e ha hb m) refl
+    ]
 
 -- known operands have an integer each
 pub arithmetic-known : (f : ℤ → ℤ → Option ℤ) (w a b v c d : ℕ) (s t : Bool) (x y : Vector)
@@ -131,12 +132,13 @@ int_pow-suc (pos a) e = ap pos (pow-suc a e ∙ mul_comm (a ^ e) a)
 int_pow-suc (negsuc a) e =
     let more : suc a ^ suc e ≡ suc a * suc a ^ e = pow-suc (suc a) e ∙ mul_comm (suc a ^ e) (suc a) in
     elim (cases_eq (e % 2) 0) [
-        inl even ↦
-        (let odd : suc e % 2 ≡ 0 → ⊥ = λ h. omega arith in
-        rw (ne_eqb (suc e % 2) 0 odd, eq-eqb (e % 2) 0 even, more) refl)
-        | inr odd ↦
-        (let even : suc e % 2 ≡ 0 = omega arith in
-        rw (eq-eqb (suc e % 2) 0 even, ne_eqb (e % 2) 0 odd, more) (sym (negsuc-neg a (suc a ^ e)))) ]
+      | inl even ↦
+          (let odd : suc e % 2 ≡ 0 → ⊥ = λ h. omega arith in
+          rw (ne_eqb (suc e % 2) 0 odd, eq-eqb (e % 2) 0 even, more) refl)
+      | inr odd ↦
+          (let even : suc e % 2 ≡ 0 = omega arith in
+          rw (eq-eqb (suc e % 2) 0 even, ne_eqb (e % 2) 0 odd, more) (sym (negsuc-neg a (suc a ^ e))))
+    ]
 
 pub Differs-power : (w n e : ℕ) (z : ℤ) → Differs w z n → Differs w (int_pow z e) (n ^ e)
 Differs-power w n zero (pos a) d = record { up = 0; down = 0; same = rw (pow-zero n, pow-zero a) (omega (arith, ints)) }
@@ -169,8 +171,9 @@ pub IfSome-integer : (w a b : ℕ) (s : Bool) (x : Vector) (P : ℤ → Type 0) 
     → P (integer_at w s a) → IfSome (integer_of x) P
 IfSome-integer w a b s x P e ha hb h =
     elim (cases_eq b 0) [
-        inl z ↦ rw (known_integer w a b s x e ha z) h
-        | inr n ↦ rw (unknown_integer w a b s x e ha hb n) tt ]
+      | inl z ↦ rw (known_integer w a b s x e ha z) h
+      | inr n ↦ rw (unknown_integer w a b s x e ha hb n) tt
+    ]
 
 one_pow : (e : ℕ) → 1 ^ e ≡ 1
 one_pow zero = pow-zero 1
@@ -190,8 +193,9 @@ pub reciprocal-one : (m : Bool) (size e : ℕ) → size ≡ 1
     → reciprocal_power (signed_integer m size) e ≡ Some (signed_integer (m && eqb (e % 2) 1) 1)
 reciprocal-one true size e z =
     rw (z, one_pow e) (elim (cases_eq (e % 2) 0) [
-        inl even ↦ (let odd : e % 2 ≡ 1 → ⊥ = λ h. omega arith in rw (eq-eqb (e % 2) 0 even, ne_eqb (e % 2) 1 odd) refl)
-        | inr n ↦ (let odd : e % 2 ≡ 1 = omega arith in rw (ne_eqb (e % 2) 0 n, eq-eqb (e % 2) 1 odd) refl) ])
+      | inl even ↦ (let odd : e % 2 ≡ 1 → ⊥ = λ h. omega arith in rw (eq-eqb (e % 2) 0 even, ne_eqb (e % 2) 1 odd) refl)
+      | inr n ↦ (let odd : e % 2 ≡ 1 = omega arith in rw (ne_eqb (e % 2) 0 n, eq-eqb (e % 2) 1 odd) refl)
+    ])
 reciprocal-one false size e z = rw z refl
 
 pub power-negative : (m : Bool) (x : ℤ) (size : ℕ) → m ≡ true → 0 < size → power x (signed_integer m size) ≡ reciprocal_power x size

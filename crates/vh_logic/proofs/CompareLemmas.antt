@@ -37,11 +37,13 @@ pub both_known : (w a b v c d : ℕ) (s t : Bool) (x y : Vector)
     → (all_known x.digits && all_known y.digits) ≡ eqb (bit_or b d) 0
 both_known w a b v c d s t x y e g hb hd =
     rw (← e, ← g, all_known-digits_of w a b hb, all_known-digits_of v c d hd) (elim (cases_eq (bit_or b d) 0) [
-        inl z ↦ rw (eq-eqb _ 0 z, eq-eqb b 0 (or_zero b d z).0, eq-eqb d 0 (or_zero b d z).1) refl
-        | inr n ↦
-        rw (ne_eqb _ 0 n) (elim (cases_eq b 0) [
-            inl z ↦ rw (eq-eqb b 0 z, ne_eqb d 0 (λ z'. n (rw (z, z') refl))) refl
-            | inr m ↦ rw (ne_eqb b 0 m) refl ]) ])
+      | inl z ↦ rw (eq-eqb _ 0 z, eq-eqb b 0 (or_zero b d z).0, eq-eqb d 0 (or_zero b d z).1) refl
+      | inr n ↦
+          rw (ne_eqb _ 0 n) (elim (cases_eq b 0) [
+            | inl z ↦ rw (eq-eqb b 0 z, ne_eqb d 0 (λ z'. n (rw (z, z') refl))) refl
+            | inr m ↦ rw (ne_eqb b 0 m) refl
+          ])
+    ])
 
 -- a number below 2 ^ (k + 1) with its highest bit turned round
 xor_low : (k a : ℕ) → a < 2 ^ k → bit_xor a (2 ^ k) ≡ a + 2 ^ k
@@ -90,11 +92,11 @@ equality-vectors w a b v c d s t x y e g l ha hb hc hd =
     let hc' : c < 2 ^ w = rw (← same) hc in
     let hd' : d < 2 ^ w = rw (← same) hd in
     let may : all_places may_equal x.digits y.digits ≡ eqb (differing a b c d) 0 =
-            all_places-vectors may_equal w a b v c d (differing a b c d) s t x y e g l (search (rules, bounds))
-            (λ i within. simp (bit_at_or, bit_at_xor) (test_by_4
-            (λ x y z t. may_equal (digit_of x y) (digit_of z t))
-            (λ x y z t. eqb ((max ((x + z) % 2) (max y t) + max y t) % 2) 0)
-            refl _ _ _ _ (bit_at-lt a i) (bit_at-lt b i) (bit_at-lt c i) (bit_at-lt d i))) in
+    all_places-vectors may_equal w a b v c d (differing a b c d) s t x y e g l (search (rules, bounds))
+    (λ i within. simp (bit_at_or, bit_at_xor) (test_by_4
+    (λ x y z t. may_equal (digit_of x y) (digit_of z t))
+    (λ x y z t. eqb ((max ((x + z) % 2) (max y t) + max y t) % 2) 0)
+    refl _ _ _ _ (bit_at-lt a i) (bit_at-lt b i) (bit_at-lt c i) (bit_at-lt d i))) in
     rw (may, both_known w a b v c d s t x y e g hb hd) refl
 
 -- `a < b`, with the highest bit of signed numbers turned round
@@ -103,16 +105,19 @@ order-signed : (k a c : ℕ) → a < 2 ^ suc k → c < 2 ^ suc k
 order-signed k a c p q =
     let double : 2 ^ suc k ≡ 2 * 2 ^ k = rw pow-suc (omega arith) in
     elim (cases_lt a (2 ^ k)) [
-        inl h ↦
-        elim (cases_lt c (2 ^ k)) [
-            inl l ↦ rw (twos-low k a h, twos-low k c l, xor_low k a h, xor_low k c l) (low_low (2 ^ k) a c)
-            | inr l ↦ rw (twos-low k a h, twos-high k c l, xor_low k a h, xor_high k c l (omega arith)) (low_high (2 ^ k) a c h l (omega arith)) ]
-        | inr h ↦
-        elim (cases_lt c (2 ^ k)) [
-            inl l ↦ rw (twos-high k a h, twos-low k c l, xor_high k a h (omega arith), xor_low k c l) (high_low (2 ^ k) a c h (omega arith) l)
+      | inl h ↦
+          elim (cases_lt c (2 ^ k)) [
+            | inl l ↦ rw (twos-low k a h, twos-low k c l, xor_low k a h, xor_low k c l) (low_low (2 ^ k) a c)
+            | inr l ↦ rw (twos-low k a h, twos-high k c l, xor_low k a h, xor_high k c l (omega arith)) (low_high (2 ^ k) a c h l (omega arith))
+          ]
+      | inr h ↦
+          elim (cases_lt c (2 ^ k)) [
+            | inl l ↦ rw (twos-high k a h, twos-low k c l, xor_high k a h (omega arith), xor_low k c l) (high_low (2 ^ k) a c h (omega arith) l)
             | inr l ↦
-            rw (twos-high k a h, twos-high k c l, xor_high k a h (omega arith), xor_high k c l (omega arith))
-            (high_high (2 ^ k) a c h (omega arith) l (omega arith)) ] ]
+                rw (twos-high k a h, twos-high k c l, xor_high k a h (omega arith), xor_high k c l (omega arith))
+                (high_high (2 ^ k) a c h (omega arith) l (omega arith))
+          ]
+    ]
 
 pub order-unsigned : (a c : ℕ) → int_lt (pos a) (pos c) ≡ ltb (bit_xor a 0) (bit_xor c 0)
 order-unsigned a c = rw (xor_zero_r a, xor_zero_r c) refl
@@ -127,10 +132,11 @@ pub ordering-unknown : (w a b v c d : ℕ) (s t : Bool) (x y : Vector)
     → (bit_or b d ≡ 0 → ⊥) → X ≡ ordering x y
 ordering-unknown w a b v c d s t x y e g ha hb hc hd n =
     elim (cases_eq b 0) [
-        inl z ↦
-        (let other : d ≡ 0 → ⊥ = λ z'. n (rw (z, z') refl) in
-        rw (known_integer w a b s x e ha z, unknown_integer v c d t y g hc hd other) refl)
-        | inr m ↦ rw (unknown_integer w a b s x e ha hb m) refl ]
+      | inl z ↦
+          (let other : d ≡ 0 → ⊥ = λ z'. n (rw (z, z') refl) in
+          rw (known_integer w a b s x e ha z, unknown_integer v c d t y g hc hd other) refl)
+      | inr m ↦ rw (unknown_integer w a b s x e ha hb m) refl
+    ]
 
 pub ordering-known : (w a b v c d : ℕ) (s t : Bool) (x y : Vector)
     → Vector-of w a b s ≡ x → Vector-of v c d t ≡ y → a < 2 ^ w → c < 2 ^ v → bit_or b d ≡ 0

@@ -82,7 +82,9 @@ pub record Differs (w : ℕ) (z : ℤ) (n : ℕ) : Type 0 where
 pub twos_complement-differs : (w n : ℕ) → n < 2 ^ w → Differs w (twos_complement w n) n
 twos_complement-differs w n h =
     elim (leb (2 ^ w) (2 * n)) as (λ t. Differs w (cond t (neg_ℤ (pos (2 ^ w - n))) (pos n)) n) [
-        true ↦ record { up = 1; down = 0; same = omega (arith, ints) } | false ↦ record { up = 0; down = 0; same = omega (arith, ints) } ]
+      | true ↦ record { up = 1; down = 0; same = omega (arith, ints) }
+      | false ↦ record { up = 0; down = 0; same = omega (arith, ints) }
+    ]
 
 pub integer_at-differs : (w n : ℕ) (s : Bool) → n < 2 ^ w → Differs w (integer_at w s n) n
 integer_at-differs w n true h = twos_complement-differs w n h

@@ -76,8 +76,9 @@ digits_of-moved_up w a b n m k low high =
     let size : length (digits_of w a b) ≡ w = length-digits_of w a b in
     digits_of-places w m k (moved_up (digits_of w a b) n) Zero (length-moved_up (digits_of w a b) n ∙ size)
     (λ i h. elim (cases_lt i n) [
-        inl l ↦ get_or-moved_up_low (digits_of w a b) n i Zero (omega arith) l ∙ sym (low i h l)
-        | inr l ↦ get_or-moved_up_high (digits_of w a b) n i Zero (omega arith) l ∙ get_or-digits_of w a b (i - n) Zero (omega arith) ∙ sym (high i h l) ])
+      | inl l ↦ get_or-moved_up_low (digits_of w a b) n i Zero (omega arith) l ∙ sym (low i h l)
+      | inr l ↦ get_or-moved_up_high (digits_of w a b) n i Zero (omega arith) l ∙ get_or-digits_of w a b (i - n) Zero (omega arith) ∙ sym (high i h l)
+    ])
 
 pub digits_of-moved_down : (fill : Digit) (w a b n m k : ℕ)
     → ((i : ℕ) → i < w → n + i < w → digit_at m k i ≡ digit_at a b (n + i))
@@ -87,9 +88,10 @@ digits_of-moved_down fill w a b n m k low high =
     let size : length (digits_of w a b) ≡ w = length-digits_of w a b in
     digits_of-places w m k (moved_down fill (digits_of w a b) n) Zero (length-moved_down fill (digits_of w a b) n ∙ size)
     (λ i h. elim (cases_lt (n + i) w) [
-        inl l ↦
-        get_or-moved_down_low fill (digits_of w a b) n i Zero (omega arith) (omega arith) ∙ get_or-digits_of w a b (n + i) Zero l ∙ sym (low i h l)
-        | inr l ↦ get_or-moved_down_high fill (digits_of w a b) n i Zero (omega arith) (omega arith) ∙ sym (high i h l) ])
+      | inl l ↦
+          get_or-moved_down_low fill (digits_of w a b) n i Zero (omega arith) (omega arith) ∙ get_or-digits_of w a b (n + i) Zero l ∙ sym (low i h l)
+      | inr l ↦ get_or-moved_down_high fill (digits_of w a b) n i Zero (omega arith) (omega arith) ∙ sym (high i h l)
+    ])
 
 -- the number of places
 pub places_known : (w a b : ℕ) (s : Bool) (x : Vector) → Vector-of w a b s ≡ x → a < 2 ^ w → b ≡ 0 → known_number x.digits ≡ Some a
@@ -147,12 +149,13 @@ pub moved_down-set : (w a n i : ℕ) → 1 ≤ w → a < 2 ^ w → n < w → a /
     → bit_at (bit_or (a / 2 ^ n) (bit_xor (2 ^ w - 1) ((2 ^ w - 1) / 2 ^ n))) i ≡ bit_at a (min (i + n) (w - 1))
 moved_down-set w a n i one below inside top h =
     rw (bit_at_or, bit_at_xor, bit_at-shr a n i, bit_at-shr (2 ^ w - 1) n i, bit_at_ones w i h) (elim (cases_lt (n + i) w) [
-        inl l ↦
-        (let e : min (i + n) (w - 1) ≡ n + i = omega arith in
-        rw (bit_at_ones w (n + i) l, e) (omega (arith, bit_at-lt a (n + i))))
-        | inr l ↦
-        (let e : min (i + n) (w - 1) ≡ w - 1 = omega arith in
-        rw (bit_at_ones_above w (n + i) l, bit_at_above a w (n + i) below l, e, top_set a (w - 1) top) refl) ])
+      | inl l ↦
+          (let e : min (i + n) (w - 1) ≡ n + i = omega arith in
+          rw (bit_at_ones w (n + i) l, e) (omega (arith, bit_at-lt a (n + i))))
+      | inr l ↦
+          (let e : min (i + n) (w - 1) ≡ w - 1 = omega arith in
+          rw (bit_at_ones_above w (n + i) l, bit_at_above a w (n + i) below l, e, top_set a (w - 1) top) refl)
+    ])
 
 pub moved_down-clear : (w a n i : ℕ) → 1 ≤ w → a < 2 ^ w → n < w → (a / 2 ^ (w - 1) ≡ 1 → ⊥) → i < w
     → bit_at (a / 2 ^ n) i ≡ bit_at a (min (i + n) (w - 1))
@@ -160,10 +163,11 @@ moved_down-clear w a n i one below inside top h =
     let whole : 1 + (w - 1) ≡ w = omega arith in
     let below' : a < 2 ^ (1 + (w - 1)) = rw whole below in
     rw (bit_at-shr a n i) (elim (cases_lt (n + i) w) [
-        inl l ↦ (let e : min (i + n) (w - 1) ≡ n + i = omega arith in rw e refl)
-        | inr l ↦
-        (let e : min (i + n) (w - 1) ≡ w - 1 = omega arith in
-        rw (bit_at_above a w (n + i) below l, e, top_clear a (w - 1) below' top) refl) ])
+      | inl l ↦ (let e : min (i + n) (w - 1) ≡ n + i = omega arith in rw e refl)
+      | inr l ↦
+          (let e : min (i + n) (w - 1) ≡ w - 1 = omega arith in
+          rw (bit_at_above a w (n + i) below l, e, top_clear a (w - 1) below' top) refl)
+    ])
 
 pub moved_down-below : (w a n : ℕ) → a < 2 ^ w → bit_or (a / 2 ^ n) (bit_xor (2 ^ w - 1) ((2 ^ w - 1) / 2 ^ n)) < 2 ^ w
 moved_down-below w a n h =
@@ -177,20 +181,22 @@ pub extended-set : (w a v i : ℕ) → 1 ≤ w → a < 2 ^ w → a / 2 ^ (w - 1)
     → bit_at (bit_or a (bit_xor (2 ^ v - 1) (2 ^ w - 1))) i ≡ bit_at a (min i (w - 1))
 extended-set w a v i one below top h =
     rw (bit_at_or, bit_at_xor, bit_at_ones v i h) (elim (cases_lt i w) [
-        inl l ↦ (let e : min i (w - 1) ≡ i = omega arith in rw (bit_at_ones w i l, e) (omega (arith, bit_at-lt a i)))
-        | inr l ↦
-        (let e : min i (w - 1) ≡ w - 1 = omega arith in
-        rw (bit_at_ones_above w i l, bit_at_above a w i below l, e, top_set a (w - 1) top) refl) ])
+      | inl l ↦ (let e : min i (w - 1) ≡ i = omega arith in rw (bit_at_ones w i l, e) (omega (arith, bit_at-lt a i)))
+      | inr l ↦
+          (let e : min i (w - 1) ≡ w - 1 = omega arith in
+          rw (bit_at_ones_above w i l, bit_at_above a w i below l, e, top_set a (w - 1) top) refl)
+    ])
 
 pub extended-clear : (w a i : ℕ) → 1 ≤ w → a < 2 ^ w → (a / 2 ^ (w - 1) ≡ 1 → ⊥) → bit_at a i ≡ bit_at a (min i (w - 1))
 extended-clear w a i one below top =
     let whole : 1 + (w - 1) ≡ w = omega arith in
     let below' : a < 2 ^ (1 + (w - 1)) = rw whole below in
     elim (cases_lt i w) [
-        inl l ↦ (let e : min i (w - 1) ≡ i = omega arith in rw e refl)
-        | inr l ↦
-        (let e : min i (w - 1) ≡ w - 1 = omega arith in
-        rw (bit_at_above a w i below l, e, top_clear a (w - 1) below' top) refl) ]
+      | inl l ↦ (let e : min i (w - 1) ≡ i = omega arith in rw e refl)
+      | inr l ↦
+          (let e : min i (w - 1) ≡ w - 1 = omega arith in
+          rw (bit_at_above a w i below l, e, top_clear a (w - 1) below' top) refl)
+    ]
 
 -- no digit is left
 pub zeros-moved_up : (w a b n : ℕ) (s : Bool) (x : Vector) → Vector-of w a b s ≡ x → w ≤ n
@@ -218,13 +224,14 @@ digits_of-concat v a b w c d hc hd =
     digits_of-places (v + w) _ _ (digits_of w c d ++ digits_of v a b) Zero
     (omega (arith, length-append (digits_of w c d) (digits_of v a b), length-digits_of w c d, length-digits_of v a b))
     (λ i h. elim (cases_lt i w) [
-        inl l ↦
-        get_or_append_left (digits_of w c d) (digits_of v a b) Zero i (rw length-digits_of l) ∙ get_or-digits_of w c d i Zero l
-        ∙ rw (bit_at_cat_low a w c i l, bit_at_cat_low b w d i l) refl
-        | inr l ↦
-        get_or-append_right (digits_of w c d) (digits_of v a b) w i Zero (length-digits_of w c d) l
-        ∙ get_or-digits_of v a b (i - w) Zero (omega arith)
-        ∙ rw (bit_at_cat_high a w c i hc l, bit_at_cat_high b w d i hd l) refl ])
+      | inl l ↦
+          get_or_append_left (digits_of w c d) (digits_of v a b) Zero i (rw length-digits_of l) ∙ get_or-digits_of w c d i Zero l
+          ∙ rw (bit_at_cat_low a w c i l, bit_at_cat_low b w d i l) refl
+      | inr l ↦
+          get_or-append_right (digits_of w c d) (digits_of v a b) w i Zero (length-digits_of w c d) l
+          ∙ get_or-digits_of v a b (i - w) Zero (omega arith)
+          ∙ rw (bit_at_cat_high a w c i hc l, bit_at_cat_high b w d i hd l) refl
+    ])
 
 -- ---- a part of a vector
 pub digits_of-part : (w a b low v : ℕ) → low + v ≤ w → digits_of v (a / 2 ^ low) (b / 2 ^ low) ≡ take v (drop low (digits_of w a b))
@@ -250,8 +257,15 @@ replaced-inside v low a q i h l =
 
 replaced-over : (v low a q i : ℕ) → q < 2 ^ v → low + v ≤ i → bit_at (replaced_plane v low a q) i ≡ bit_at a i
 replaced-over v low a q i below h =
-    rw (bit_at_or, bit_at_xor, bit_at_or, bit_at-shl_high (2 ^ v - 1) low i (omega arith), bit_at-shl_high q low i (omega arith),
-    bit_at_ones_above v (i - low) (omega arith), bit_at_above q v (i - low) below (omega arith)) (omega (arith, bit_at-lt a i))
+    rw (
+      bit_at_or,
+      bit_at_xor,
+      bit_at_or,
+      bit_at-shl_high (2 ^ v - 1) low i (omega arith),
+      bit_at-shl_high q low i (omega arith),
+      bit_at_ones_above v (i - low) (omega arith),
+      bit_at_above q v (i - low) below (omega arith),
+    ) (omega (arith, bit_at-lt a i))
 
 pub replaced-below : (w v low a q : ℕ) → a < 2 ^ w → q < 2 ^ v → low + v ≤ w → replaced_plane v low a q < 2 ^ w
 replaced-below w v low a q ha hq le =
@@ -268,26 +282,32 @@ digits_of-replaced w a b v c d low hc hd le =
     let part : length (digits_of v c d) ≡ v = length-digits_of v c d in
     let front : length (take low (digits_of w a b)) ≡ low = length-take low (digits_of w a b) ∙ omega arith in
     digits_of-places w _ _ (take low (digits_of w a b) ++ (digits_of v c d ++ drop (low + length (digits_of v c d)) (digits_of w a b))) Zero
-    (omega (arith, length-append (take low (digits_of w a b)) (digits_of v c d ++ drop (low + length (digits_of v c d)) (digits_of w a b)),
-    length-append (digits_of v c d) (drop (low + length (digits_of v c d)) (digits_of w a b)), length-drop (low + length (digits_of v c d)) (digits_of w a b)))
+    (omega (
+      arith,
+      length-append (take low (digits_of w a b)) (digits_of v c d ++ drop (low + length (digits_of v c d)) (digits_of w a b)),
+      length-append (digits_of v c d) (drop (low + length (digits_of v c d)) (digits_of w a b)),
+      length-drop (low + length (digits_of v c d)) (digits_of w a b),
+    ))
     (λ i h. elim (cases_lt i low) [
-        inl l ↦
-        get_or_append_left (take low (digits_of w a b)) (digits_of v c d ++ drop (low + length (digits_of v c d)) (digits_of w a b)) Zero i (omega arith)
-        ∙ get_or-take low (digits_of w a b) i Zero l ∙ get_or-digits_of w a b i Zero h
-        ∙ rw (replaced-under v low a c i l, replaced-under v low b d i l) refl
-        | inr l ↦
-        get_or-append_right (take low (digits_of w a b)) (digits_of v c d ++ drop (low + length (digits_of v c d)) (digits_of w a b)) low i Zero front l
-        ∙ elim (cases_lt (i - low) v) [
-            inl k ↦
-            get_or_append_left (digits_of v c d) (drop (low + length (digits_of v c d)) (digits_of w a b)) Zero (i - low) (omega arith)
-            ∙ get_or-digits_of v c d (i - low) Zero k
-            ∙ rw (replaced-inside v low a c i l (omega arith), replaced-inside v low b d i l (omega arith)) refl
+      | inl l ↦
+          get_or_append_left (take low (digits_of w a b)) (digits_of v c d ++ drop (low + length (digits_of v c d)) (digits_of w a b)) Zero i (omega arith)
+          ∙ get_or-take low (digits_of w a b) i Zero l ∙ get_or-digits_of w a b i Zero h
+          ∙ rw (replaced-under v low a c i l, replaced-under v low b d i l) refl
+      | inr l ↦
+          get_or-append_right (take low (digits_of w a b)) (digits_of v c d ++ drop (low + length (digits_of v c d)) (digits_of w a b)) low i Zero front l
+          ∙ elim (cases_lt (i - low) v) [
+            | inl k ↦
+                get_or_append_left (digits_of v c d) (drop (low + length (digits_of v c d)) (digits_of w a b)) Zero (i - low) (omega arith)
+                ∙ get_or-digits_of v c d (i - low) Zero k
+                ∙ rw (replaced-inside v low a c i l (omega arith), replaced-inside v low b d i l (omega arith)) refl
             | inr k ↦
-            (let at : low + length (digits_of v c d) + (i - low - v) ≡ i = omega arith in
-            get_or-append_right (digits_of v c d) (drop (low + length (digits_of v c d)) (digits_of w a b)) v (i - low) Zero part k
-            ∙ get_or-drop (low + length (digits_of v c d)) (digits_of w a b) (i - low - v) Zero
-            ∙ ap (λ n. get_or (digits_of w a b) n Zero) at ∙ get_or-digits_of w a b i Zero h
-            ∙ rw (replaced-over v low a c i hc (omega arith), replaced-over v low b d i hd (omega arith)) refl) ] ])
+                (let at : low + length (digits_of v c d) + (i - low - v) ≡ i = omega arith in
+                get_or-append_right (digits_of v c d) (drop (low + length (digits_of v c d)) (digits_of w a b)) v (i - low) Zero part k
+                ∙ get_or-drop (low + length (digits_of v c d)) (digits_of w a b) (i - low - v) Zero
+                ∙ ap (λ n. get_or (digits_of w a b) n Zero) at ∙ get_or-digits_of w a b i Zero h
+                ∙ rw (replaced-over v low a c i hc (omega arith), replaced-over v low b d i hd (omega arith)) refl)
+          ]
+    ])
 
 -- ---- another width
 digits_of-extended : (w a b v m p : ℕ) (fill : Digit)
@@ -298,11 +318,12 @@ digits_of-extended w a b v m p fill low high =
     digits_of-places v m p (take v (digits_of w a b ++ replicate v fill)) Zero
     (length-take v (digits_of w a b ++ replicate v fill) ∙ omega (arith, length-append (digits_of w a b) (replicate v fill), length-replicate v fill))
     (λ i h. get_or-take v (digits_of w a b ++ replicate v fill) i Zero h ∙ elim (cases_lt i w) [
-        inl l ↦
-        get_or_append_left (digits_of w a b) (replicate v fill) Zero i (rw length-digits_of l) ∙ get_or-digits_of w a b i Zero l ∙ sym (low i h l)
-        | inr l ↦
-        get_or-append_right (digits_of w a b) (replicate v fill) w i Zero (length-digits_of w a b) l
-        ∙ get_or-replicate v (i - w) fill Zero (omega arith) ∙ sym (high i h l) ])
+      | inl l ↦
+          get_or_append_left (digits_of w a b) (replicate v fill) Zero i (rw length-digits_of l) ∙ get_or-digits_of w a b i Zero l ∙ sym (low i h l)
+      | inr l ↦
+          get_or-append_right (digits_of w a b) (replicate v fill) w i Zero (length-digits_of w a b) l
+          ∙ get_or-replicate v (i - w) fill Zero (omega arith) ∙ sym (high i h l)
+    ])
 
 pub digits_of-resized : (w a b v : ℕ) → a < 2 ^ w → b < 2 ^ w → digits_of v a b ≡ take v (digits_of w a b ++ replicate v Zero)
 digits_of-resized w a b v ha hb =

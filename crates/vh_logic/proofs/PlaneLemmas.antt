@@ -35,7 +35,7 @@ zip_digits-digits_of f zero a b c d m n h = refl
 zip_digits-digits_of f (suc w) a b c d m n h =
     let first = h 0 (omega arith) in
     let rest = zip_digits-digits_of f w (a / 2) (b / 2) (c / 2) (d / 2) (m / 2) (n / 2)
-            (λ i below. rw (digit_at-suc a b i, digit_at-suc c d i, digit_at-suc m n i) at (h (suc i) (omega arith))) in
+    (λ i below. rw (digit_at-suc a b i, digit_at-suc c d i, digit_at-suc m n i) at (h (suc i) (omega arith))) in
     let first' = rw (digit_at-zero a b, digit_at-zero c d, digit_at-zero m n) at first in
     cc
 
@@ -78,7 +78,7 @@ map_digits-digits_of f zero a b m n h = refl
 map_digits-digits_of f (suc w) a b m n h =
     let first = h 0 (omega arith) in
     let rest = map_digits-digits_of f w (a / 2) (b / 2) (m / 2) (n / 2)
-            (λ i below. rw (digit_at-suc a b i, digit_at-suc m n i) at (h (suc i) (omega arith))) in
+    (λ i below. rw (digit_at-suc a b i, digit_at-suc m n i) at (h (suc i) (omega arith))) in
     let first' = rw (digit_at-zero a b, digit_at-zero m n) at first in
     cc
 
@@ -99,7 +99,7 @@ digits_of-places (suc w) m n [] d l h = absurd (omega arith)
 digits_of-places (suc w) m n (x ∷ xs) d l h =
     let first = h 0 (omega arith) in
     let rest = digits_of-places w (m / 2) (n / 2) xs d (omega arith)
-            (λ i below. rw (digit_at-suc m n i) at (h (suc i) (omega arith))) in
+    (λ i below. rw (digit_at-suc m n i) at (h (suc i) (omega arith))) in
     let first' = rw (digit_at-zero m n) at first in
     cc
 

@@ -31,7 +31,7 @@ list_all-digits_of f zero a b m below h = let e : 0 ≡ m = omega arith in ap (�
 list_all-digits_of f (suc w) a b m below h =
     let first = rw (digit_at-zero a b, bit_at_lowest m) at (h 0 (omega arith)) in
     let rest = list_all-digits_of f w (a / 2) (b / 2) (m / 2) (half_below w m below)
-            (λ i within. rw (digit_at-suc a b i, bit_at-suc m i) at (h (suc i) (omega arith))) in
+    (λ i within. rw (digit_at-suc a b i, bit_at-suc m i) at (h (suc i) (omega arith))) in
     rw (first, rest) (eqb-halves m)
 
 pub list_any-digits_of : (f : Digit → Bool) (w a b m : ℕ) → m < 2 ^ w
@@ -42,7 +42,7 @@ list_any-digits_of f zero a b m below h = let e : 0 ≡ m = omega arith in ap (�
 list_any-digits_of f (suc w) a b m below h =
     let first = rw (digit_at-zero a b, bit_at_lowest m) at (h 0 (omega arith)) in
     let rest = list_any-digits_of f w (a / 2) (b / 2) (m / 2) (half_below w m below)
-            (λ i within. rw (digit_at-suc a b i, bit_at-suc m i) at (h (suc i) (omega arith))) in
+    (λ i within. rw (digit_at-suc a b i, bit_at-suc m i) at (h (suc i) (omega arith))) in
     rw (first, rest) (not_halves m)
   where
     not_halves : (m : ℕ) → (not (eqb (m % 2) 0) || not (eqb (m / 2) 0)) ≡ not (eqb m 0)
@@ -56,7 +56,7 @@ all_places-digits_of f zero a b c d m below h = let e : 0 ≡ m = omega arith in
 all_places-digits_of f (suc w) a b c d m below h =
     let first = rw (digit_at-zero a b, digit_at-zero c d, bit_at_lowest m) at (h 0 (omega arith)) in
     let rest = all_places-digits_of f w (a / 2) (b / 2) (c / 2) (d / 2) (m / 2) (half_below w m below)
-            (λ i within. rw (digit_at-suc a b i, digit_at-suc c d i, bit_at-suc m i) at (h (suc i) (omega arith))) in
+    (λ i within. rw (digit_at-suc a b i, digit_at-suc c d i, bit_at-suc m i) at (h (suc i) (omega arith))) in
     rw (first, rest) (eqb-halves m)
 
 -- an operator between all digits, by two planes that mark where it leaves its first or its second answer
@@ -72,7 +72,7 @@ reduced-digits_of f unit pick zero a b m n below below' at_end h =
 reduced-digits_of f unit pick (suc w) a b m n below below' at_end h =
     let first = rw (digit_at-zero a b, bit_at_lowest m, bit_at_lowest n) at (h 0 (omega arith) (eqb (m / 2) 0) (eqb (n / 2) 0)) in
     let rest = reduced-digits_of f unit pick w (a / 2) (b / 2) (m / 2) (n / 2) (half_below w m below) (half_below w n below') at_end
-            (λ i within s t. rw (digit_at-suc a b i, bit_at-suc m i, bit_at-suc n i) at (h (suc i) (omega arith) s t)) in
+    (λ i within s t. rw (digit_at-suc a b i, bit_at-suc m i, bit_at-suc n i) at (h (suc i) (omega arith) s t)) in
     rw rest (first ∙ rw (eqb-halves m, eqb-halves n) refl)
 
 -- `&` of all digits: a 0 decides, and else an x or z
@@ -124,9 +124,9 @@ pub truth_of-digits_of : (w a b : ℕ) (s : Bool) → a < 2 ^ w → b < 2 ^ w
     → truth_of (record { digits = digits_of w a b; signed = s }) ≡ pick_or (eqb (bit_xor (bit_or a b) b) 0) (eqb b 0)
 truth_of-digits_of w a b s h k =
     let ones = list_any-digits_of is_one w a b (bit_xor (bit_or a b) b) (search (rules, bounds))
-            (λ i within. simp (bit_at_or, bit_at_xor) (test_by_2 (λ x y. is_one (digit_of x y)) (λ x y. not (eqb ((max x y + y) % 2) 0)) refl _ _ (bit_at-lt a i) (bit_at-lt b i))) in
+    (λ i within. simp (bit_at_or, bit_at_xor) (test_by_2 (λ x y. is_one (digit_of x y)) (λ x y. not (eqb ((max x y + y) % 2) 0)) refl _ _ (bit_at-lt a i) (bit_at-lt b i))) in
     let zeros = list_all-digits_of is_zero w a b (bit_or a b) (search (rules, bounds))
-            (λ i within. simp bit_at_or (test_by_2 (λ x y. is_zero (digit_of x y)) (λ x y. eqb (max x y) 0) refl _ _ (bit_at-lt a i) (bit_at-lt b i))) in
+    (λ i within. simp bit_at_or (test_by_2 (λ x y. is_zero (digit_of x y)) (λ x y. eqb (max x y) 0) refl _ _ (bit_at-lt a i) (bit_at-lt b i))) in
     rw (ones, zeros) (truth_cases _ (bit_or a b) b (xor_zero_same (bit_or a b) b))
 
 -- `^` of all digits: the parity of the ones, if no digit is x or z

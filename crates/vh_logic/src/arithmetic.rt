@@ -66,11 +66,12 @@ pub fn div(a: &Vec4, b: &Vec4) -> Vec4
     if a.bval | b.bval != 0 {
         return a.unknown();
     }
-    if b.aval == 0 {
+    let divisor = b.aval;
+    if divisor == 0 {
         return a.unknown();
     }
     let left = magnitude_of(a.aval, a.width, a.signed);
-    let right = magnitude_of(b.aval, b.width, b.signed);
+    let right = magnitude_of(divisor, b.width, b.signed);
     a.with_number(signed_word(left.negative != right.negative, left.size / right.size))
 }
 
@@ -85,11 +86,12 @@ pub fn rem(a: &Vec4, b: &Vec4) -> Vec4
     if a.bval | b.bval != 0 {
         return a.unknown();
     }
-    if b.aval == 0 {
+    let modulus = b.aval;
+    if modulus == 0 {
         return a.unknown();
     }
     let left = magnitude_of(a.aval, a.width, a.signed);
-    let right = magnitude_of(b.aval, b.width, b.signed);
+    let right = magnitude_of(modulus, b.width, b.signed);
     a.with_number(signed_word(left.negative, left.size % right.size))
 }
 
@@ -159,9 +161,15 @@ fn magnitude_of(number: Plane, width: u32, signed: bool) -> Magnitude
     ensures zero { 0 < number → 0 < result.size }
 {
     if signed && number >> (width - 1) == 1 {
-        Magnitude { negative: true, size: mask(width) - number + 1 }
+        Magnitude {
+            negative: true,
+            size: mask(width) - number + 1,
+        }
     } else {
-        Magnitude { negative: false, size: number }
+        Magnitude {
+            negative: false,
+            size: number,
+        }
     }
 }
 

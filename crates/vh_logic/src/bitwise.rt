@@ -9,7 +9,12 @@ pub fn invert(a: &Vec4) -> Vec4
     ensures value { result ≡ bitwise_not a.now }
     ensures width { width_of result ≡ width_of a.now }
 {
-    Vec4 { aval: (a.aval ^ mask(a.width)) | a.bval, bval: a.bval, width: a.width, signed: a.signed }
+    Vec4 {
+        aval: (a.aval ^ mask(a.width)) | a.bval,
+        bval: a.bval,
+        width: a.width,
+        signed: a.signed,
+    }
 }
 
 /// `a & b`, digit by digit (IEEE 1364-2005, 5.1.10).
@@ -21,7 +26,12 @@ pub fn and(a: &Vec4, b: &Vec4) -> Vec4
 {
     let aval = (a.aval | a.bval) & (b.aval | b.bval);
     let bval = aval & (a.bval | b.bval);
-    Vec4 { aval, bval, width: a.width, signed: a.signed }
+    Vec4 {
+        aval,
+        bval,
+        width: a.width,
+        signed: a.signed,
+    }
 }
 
 /// `a | b`, digit by digit (IEEE 1364-2005, 5.1.10).
@@ -35,7 +45,12 @@ pub fn or(a: &Vec4, b: &Vec4) -> Vec4
     let right = b.aval | b.bval;
     let aval = left | right;
     let ones = (left ^ a.bval) | (right ^ b.bval);
-    Vec4 { aval, bval: aval ^ ones, width: a.width, signed: a.signed }
+    Vec4 {
+        aval,
+        bval: aval ^ ones,
+        width: a.width,
+        signed: a.signed,
+    }
 }
 
 /// `a ^ b`, digit by digit (IEEE 1364-2005, 5.1.10).
@@ -46,7 +61,12 @@ pub fn xor(a: &Vec4, b: &Vec4) -> Vec4
     ensures width { width_of result ≡ width_of a.now }
 {
     let bval = a.bval | b.bval;
-    Vec4 { aval: (a.aval ^ b.aval) | bval, bval, width: a.width, signed: a.signed }
+    Vec4 {
+        aval: (a.aval ^ b.aval) | bval,
+        bval,
+        width: a.width,
+        signed: a.signed,
+    }
 }
 
 /// `a ^~ b`, digit by digit (IEEE 1364-2005, 5.1.10).
@@ -58,7 +78,12 @@ pub fn xnor(a: &Vec4, b: &Vec4) -> Vec4
 {
     let bval = a.bval | b.bval;
     let aval = (a.aval ^ b.aval ^ mask(a.width)) | bval;
-    Vec4 { aval, bval, width: a.width, signed: a.signed }
+    Vec4 {
+        aval,
+        bval,
+        width: a.width,
+        signed: a.signed,
+    }
 }
 
 /// The digits of `c ? a : b` where `c` is neither true nor false: equal known digits stay, all
@@ -70,5 +95,10 @@ pub fn merge(a: &Vec4, b: &Vec4) -> Vec4
     ensures width { width_of result ≡ width_of a.now }
 {
     let bval = (a.aval ^ b.aval) | a.bval | b.bval;
-    Vec4 { aval: a.aval | bval, bval, width: a.width, signed: a.signed }
+    Vec4 {
+        aval: a.aval | bval,
+        bval,
+        width: a.width,
+        signed: a.signed,
+    }
 }

@@ -70,5 +70,9 @@ fn extended(plane: Plane, from: u32, to: u32) -> Plane
     requires fits { plane < 2 ^ from }
     ensures { (i : ℕ) → i < to → bit_at result i ≡ bit_at plane (min i (from - 1)) }
 {
-    if plane >> (from - 1) == 1 { plane | (mask(to) ^ mask(from)) } else { plane }
+    if plane >> (from - 1) == 1 {
+        plane | (mask(to) ^ mask(from))
+    } else {
+        plane
+    }
 }

@@ -20,7 +20,12 @@ pub fn shl(a: &Vec4, b: &Vec4) -> Vec4
     let all = mask(a.width);
     let aval = (a.aval << b.aval) & all;
     let bval = (a.bval << b.aval) & all;
-    Vec4 { aval, bval, width: a.width, signed: a.signed }
+    Vec4 {
+        aval,
+        bval,
+        width: a.width,
+        signed: a.signed,
+    }
 }
 
 /// `a >> b`, where `b` is read without a sign; all x where it has an x or z digit
@@ -35,7 +40,12 @@ pub fn shr(a: &Vec4, b: &Vec4) -> Vec4
     if b.aval >= a.width as Plane {
         return a.with_number(0);
     }
-    Vec4 { aval: a.aval >> b.aval, bval: a.bval >> b.aval, width: a.width, signed: a.signed }
+    Vec4 {
+        aval: a.aval >> b.aval,
+        bval: a.bval >> b.aval,
+        width: a.width,
+        signed: a.signed,
+    }
 }
 
 /// `a >>> b`: a signed vector is filled with its highest digit, another with 0. `b` is read
@@ -53,7 +63,12 @@ pub fn sshr(a: &Vec4, b: &Vec4) -> Vec4
     let places = b.aval.min(a.width as Plane - 1);
     let aval = moved_down(a.aval, a.width, places);
     let bval = moved_down(a.bval, a.width, places);
-    Vec4 { aval, bval, width: a.width, signed: a.signed }
+    Vec4 {
+        aval,
+        bval,
+        width: a.width,
+        signed: a.signed,
+    }
 }
 
 /// A plane moved down by some places, with its highest bit above.

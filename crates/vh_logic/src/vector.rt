@@ -3,9 +3,8 @@ ghost use Rattle.vh_logic.specs.Vector.{Vector, width_of, filled};
 ghost use Rattle.vh_logic.specs.Number.{binary, known_number};
 ghost use Rattle.vh_logic.specs.Planes.{digits_of, plane_of, aval_bit, bval_bit};
 
-use std::marker::Model;
-
 use crate::digits::Digit;
+use std::marker::Model;
 
 /// The greatest width of a vector, in digits.
 pub const MAX_WIDTH: u32 = 64;
@@ -66,7 +65,12 @@ impl Vec4 {
             Digit::X => (all, all),
             Digit::Z => (0, all),
         };
-        Vec4 { aval, bval, width, signed }
+        Vec4 {
+            aval,
+            bval,
+            width,
+            signed,
+        }
     }
 
     /// The vector of two planes by the pairs (aval, bval): (0, 0) is 0, (1, 0) is 1, (0, 1) is z
@@ -78,7 +82,12 @@ impl Vec4 {
         ensures width { width_of result ≡ width }
     {
         let all = mask(width);
-        Vec4 { aval: aval & all, bval: bval & all, width, signed }
+        Vec4 {
+            aval: aval & all,
+            bval: bval & all,
+            width,
+            signed,
+        }
     }
 
     /// One bit for each digit, 1 where it is 1 or x (IEEE 1364-2005, 27.14).
@@ -128,7 +137,11 @@ impl Vec4 {
     pub fn number(&self) -> Option<Plane>
         ensures { result ≡ known_number self.now.digits }
     {
-        if self.bval == 0 { Some(self.aval) } else { None }
+        if self.bval == 0 {
+            Some(self.aval)
+        } else {
+            None
+        }
     }
 
     /// All x, in the width and with the sign mark of `self`.
@@ -137,7 +150,12 @@ impl Vec4 {
         ensures width { width_of result ≡ width_of self.now }
     {
         let all = mask(self.width);
-        Vec4 { aval: all, bval: all, width: self.width, signed: self.signed }
+        Vec4 {
+            aval: all,
+            bval: all,
+            width: self.width,
+            signed: self.signed,
+        }
     }
 
     /// The lowest digits of a number, in the width and with the sign mark of `self`.
@@ -145,6 +163,11 @@ impl Vec4 {
         ensures value { result ≡ record { digits = binary (width_of self.now) number; signed = self.now.signed } }
         ensures width { width_of result ≡ width_of self.now }
     {
-        Vec4 { aval: number & mask(self.width), bval: 0, width: self.width, signed: self.signed }
+        Vec4 {
+            aval: number & mask(self.width),
+            bval: 0,
+            width: self.width,
+            signed: self.signed,
+        }
     }
 }

@@ -1,18 +1,16 @@
 ghost use Rattle.std.specs.Prelude.{◌≡◌};
 ghost use Rattle.vh_logic.specs.Vector.{width_of};
 
-use std::alloc::Global;
-use std::process::Abort;
-use std::test::Fail;
-
+use super::plain;
+use super::plain::{Arithmetic, Bitwise, Shift, digits};
 use crate::{
     Digit, Vec4, add, and, case_equal, casex_equal, casez_equal, concat, div, equal, invert, less,
     merge, mul, negate, or, pow, reduce_and, reduce_or, reduce_xor, rem, replace, resize, select,
     shl, shr, sshr, sub, truth, xnor, xor,
 };
-
-use super::plain;
-use super::plain::{Arithmetic, Bitwise, Shift, digits};
+use std::alloc::Global;
+use std::process::Abort;
+use std::test::Fail;
 
 /// Every operator on every two vectors of 1 to 4 digits, signed and not, is what the plain program
 /// makes of their digits.
@@ -53,11 +51,26 @@ fn check_with_all(rt: &impl Abort, alloc: Global, a: &Vec4) -> Result<(), Fail> 
 
 fn check_one(rt: &impl Abort, alloc: Global, a: &Vec4) -> Result<(), Fail> {
     let list = digits(alloc, a)?;
-    assert!(rt; digits(alloc, &invert(a))? == plain::inverted(alloc, &list)?, "invert");
-    assert!(rt; digits(alloc, &negate(a))? == plain::negated(alloc, &list, a.is_signed())?, "negate");
-    assert!(rt; reduce_and(a) == plain::reduced(Bitwise::And, Digit::One, &list), "reduce_and");
-    assert!(rt; reduce_or(a) == plain::reduced(Bitwise::Or, Digit::Zero, &list), "reduce_or");
-    assert!(rt; reduce_xor(a) == plain::reduced(Bitwise::Xor, Digit::Zero, &list), "reduce_xor");
+    assert!(rt;
+        digits(alloc, &invert(a))? == plain::inverted(alloc, &list)?,
+        "invert"
+    );
+    assert!(rt;
+        digits(alloc, &negate(a))? == plain::negated(alloc, &list, a.is_signed())?,
+        "negate"
+    );
+    assert!(rt;
+        reduce_and(a) == plain::reduced(Bitwise::And, Digit::One, &list),
+        "reduce_and"
+    );
+    assert!(rt;
+        reduce_or(a) == plain::reduced(Bitwise::Or, Digit::Zero, &list),
+        "reduce_or"
+    );
+    assert!(rt;
+        reduce_xor(a) == plain::reduced(Bitwise::Xor, Digit::Zero, &list),
+        "reduce_xor"
+    );
     assert!(rt; truth(a) == plain::truth(&list), "truth");
     Ok(())
 }
@@ -98,7 +111,10 @@ fn check_arithmetic(rt: &impl Abort, alloc: Global, a: &Vec4, b: &Vec4) -> Resul
     ];
     for (result, op) in results {
         let expected = plain::on_integers(alloc, op, &left, signed, &right, signed)?;
-        assert!(rt; digits(alloc, &result)? == expected, "an arithmetic operator");
+        assert!(rt;
+            digits(alloc, &result)? == expected,
+            "an arithmetic operator"
+        );
     }
     Ok(())
 }
@@ -110,10 +126,22 @@ fn check_comparisons(rt: &impl Abort, alloc: Global, a: &Vec4, b: &Vec4) -> Resu
     let left = digits(alloc, a)?;
     let right = digits(alloc, b)?;
     assert!(rt; equal(a, b) == plain::equal(&left, &right), "equal");
-    assert!(rt; case_equal(a, b) == plain::case_equal(&left, &right), "case_equal");
-    assert!(rt; casez_equal(a, b) == plain::casez_equal(&left, &right), "casez_equal");
-    assert!(rt; casex_equal(a, b) == plain::casex_equal(&left, &right), "casex_equal");
-    assert!(rt; less(a, b) == plain::less(&left, &right, a.is_signed()), "less");
+    assert!(rt;
+        case_equal(a, b) == plain::case_equal(&left, &right),
+        "case_equal"
+    );
+    assert!(rt;
+        casez_equal(a, b) == plain::casez_equal(&left, &right),
+        "casez_equal"
+    );
+    assert!(rt;
+        casex_equal(a, b) == plain::casex_equal(&left, &right),
+        "casex_equal"
+    );
+    assert!(rt;
+        less(a, b) == plain::less(&left, &right, a.is_signed()),
+        "less"
+    );
     Ok(())
 }
 
@@ -121,15 +149,38 @@ fn check_comparisons(rt: &impl Abort, alloc: Global, a: &Vec4, b: &Vec4) -> Resu
 fn check_free(rt: &impl Abort, alloc: Global, a: &Vec4, b: &Vec4) -> Result<(), Fail> {
     let left = digits(alloc, a)?;
     let right = digits(alloc, b)?;
-    let power = plain::on_integers(alloc, Arithmetic::Pow, &left, a.is_signed(), &right, b.is_signed())?;
+    let power = plain::on_integers(
+        alloc,
+        Arithmetic::Pow,
+        &left,
+        a.is_signed(),
+        &right,
+        b.is_signed(),
+    )?;
     assert!(rt; digits(alloc, &pow(a, b))? == power, "pow");
-    assert!(rt; digits(alloc, &shl(a, b))? == plain::shifted(alloc, Shift::Up, &left, &right)?, "shl");
+    assert!(rt;
+        digits(alloc, &shl(a, b))? == plain::shifted(alloc, Shift::Up, &left, &right)?,
+        "shl"
+    );
     let zeros = Shift::Down(Digit::Zero);
-    assert!(rt; digits(alloc, &shr(a, b))? == plain::shifted(alloc, zeros, &left, &right)?, "shr");
-    let fill = if a.is_signed() { plain::highest(&left) } else { Digit::Zero };
-    assert!(rt; digits(alloc, &sshr(a, b))? == plain::shifted(alloc, Shift::Down(fill), &left, &right)?, "sshr");
+    assert!(rt;
+        digits(alloc, &shr(a, b))? == plain::shifted(alloc, zeros, &left, &right)?,
+        "shr"
+    );
+    let fill = if a.is_signed() {
+        plain::highest(&left)
+    } else {
+        Digit::Zero
+    };
+    assert!(rt;
+        digits(alloc, &sshr(a, b))? == plain::shifted(alloc, Shift::Down(fill), &left, &right)?,
+        "sshr"
+    );
     if a.width() + b.width() <= 8 {
-        assert!(rt; digits(alloc, &concat(a, b))? == plain::concatenated(alloc, &left, &right)?, "concat");
+        assert!(rt;
+            digits(alloc, &concat(a, b))? == plain::concatenated(alloc, &left, &right)?,
+            "concat"
+        );
     }
     Ok(())
 }
@@ -149,9 +200,16 @@ fn check_parts(rt: &impl Abort, alloc: Global, a: &Vec4) -> Result<(), Fail> {
     }
     for width in 1..9u32 {
         for signed in [false, true] {
-            let fill = if a.is_signed() && signed { plain::highest(&list) } else { Digit::Zero };
+            let fill = if a.is_signed() && signed {
+                plain::highest(&list)
+            } else {
+                Digit::Zero
+            };
             let expected = plain::resized(alloc, &list, fill, width as usize)?;
-            assert!(rt; digits(alloc, &resize(a, width, signed))? == expected, "resize");
+            assert!(rt;
+                digits(alloc, &resize(a, width, signed))? == expected,
+                "resize"
+            );
         }
     }
     Ok(())

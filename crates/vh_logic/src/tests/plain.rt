@@ -1,9 +1,8 @@
 //! The operators as a plain program that goes digit by digit, or over machine integers: what the
 //! kernels over whole planes are compared with.
 
-use std::alloc::{AllocError, Global};
-
 use crate::{Digit, Vec4};
+use std::alloc::{AllocError, Global};
 
 /// A vector as the list of its digits, lowest first.
 pub fn digits(alloc: Global, v: &Vec4) -> Result<Vec<Digit>, AllocError> {
@@ -67,7 +66,12 @@ pub fn bit(op: Bitwise, x: Digit, y: Digit) -> Digit {
     }
 }
 
-pub fn each_place(alloc: Global, op: Bitwise, a: &[Digit], b: &[Digit]) -> Result<Vec<Digit>, AllocError> {
+pub fn each_place(
+    alloc: Global,
+    op: Bitwise,
+    a: &[Digit],
+    b: &[Digit],
+) -> Result<Vec<Digit>, AllocError> {
     let mut list = Vec::new(alloc);
     for (x, y) in a.iter().zip(b) {
         list.push(bit(op, *x, *y))?;
@@ -78,7 +82,11 @@ pub fn each_place(alloc: Global, op: Bitwise, a: &[Digit], b: &[Digit]) -> Resul
 pub fn inverted(alloc: Global, a: &[Digit]) -> Result<Vec<Digit>, AllocError> {
     let mut list = Vec::new(alloc);
     for x in a {
-        list.push(if is_known(*x) { of_test(*x == Digit::Zero) } else { Digit::X })?;
+        list.push(if is_known(*x) {
+            of_test(*x == Digit::Zero)
+        } else {
+            Digit::X
+        })?;
     }
     Ok(list)
 }
@@ -98,7 +106,11 @@ pub fn truth(a: &[Digit]) -> Digit {
             return Digit::One;
         }
     }
-    if is_all_known(a) { Digit::Zero } else { Digit::X }
+    if is_all_known(a) {
+        Digit::Zero
+    } else {
+        Digit::X
+    }
 }
 
 pub fn equal(a: &[Digit], b: &[Digit]) -> Digit {
@@ -107,7 +119,11 @@ pub fn equal(a: &[Digit], b: &[Digit]) -> Digit {
             return Digit::Zero;
         }
     }
-    if is_all_known(a) && is_all_known(b) { Digit::One } else { Digit::X }
+    if is_all_known(a) && is_all_known(b) {
+        Digit::One
+    } else {
+        Digit::X
+    }
 }
 
 pub fn case_equal(a: &[Digit], b: &[Digit]) -> Digit {
@@ -159,11 +175,19 @@ pub fn integer(list: &[Digit], signed: bool) -> Option<i64> {
 }
 
 /// The lowest digits of an integer, or all x.
-pub fn wrapped(alloc: Global, integer: Option<i64>, width: usize) -> Result<Vec<Digit>, AllocError> {
+pub fn wrapped(
+    alloc: Global,
+    integer: Option<i64>,
+    width: usize,
+) -> Result<Vec<Digit>, AllocError> {
     let mut list = Vec::new(alloc);
     let mut rest = integer.unwrap_or(0);
     for _ in 0..width {
-        list.push(if integer.is_none() { Digit::X } else { of_test(rest & 1 == 1) })?;
+        list.push(if integer.is_none() {
+            Digit::X
+        } else {
+            of_test(rest & 1 == 1)
+        })?;
         rest = rest >> 1;
     }
     Ok(list)
@@ -207,7 +231,14 @@ fn power(x: i64, y: i64) -> Option<i64> {
     Some(product)
 }
 
-pub fn on_integers(alloc: Global, op: Arithmetic, a: &[Digit], a_signed: bool, b: &[Digit], b_signed: bool) -> Result<Vec<Digit>, AllocError> {
+pub fn on_integers(
+    alloc: Global,
+    op: Arithmetic,
+    a: &[Digit],
+    a_signed: bool,
+    b: &[Digit],
+    b_signed: bool,
+) -> Result<Vec<Digit>, AllocError> {
     let answer = match (integer(a, a_signed), integer(b, b_signed)) {
         (Some(x), Some(y)) => computed(op, x, y),
         _ => None,
@@ -270,7 +301,12 @@ pub enum Shift {
 }
 
 /// The digits moved place after place, as often as `b` says without a sign.
-pub fn shifted(alloc: Global, shift: Shift, a: &[Digit], b: &[Digit]) -> Result<Vec<Digit>, AllocError> {
+pub fn shifted(
+    alloc: Global,
+    shift: Shift,
+    a: &[Digit],
+    b: &[Digit],
+) -> Result<Vec<Digit>, AllocError> {
     let Some(places) = integer(b, false) else {
         return wrapped(alloc, None, a.len());
     };
@@ -284,14 +320,23 @@ pub fn shifted(alloc: Global, shift: Shift, a: &[Digit], b: &[Digit]) -> Result<
     Ok(list)
 }
 
-pub fn concatenated(alloc: Global, high: &[Digit], low: &[Digit]) -> Result<Vec<Digit>, AllocError> {
+pub fn concatenated(
+    alloc: Global,
+    high: &[Digit],
+    low: &[Digit],
+) -> Result<Vec<Digit>, AllocError> {
     let mut list = Vec::from_slice(alloc, low)?;
     list.extend_from_slice(high)?;
     Ok(list)
 }
 
 /// The digits from place `low` on, `width` of them.
-pub fn selected(alloc: Global, a: &[Digit], low: usize, width: usize) -> Result<Vec<Digit>, AllocError> {
+pub fn selected(
+    alloc: Global,
+    a: &[Digit],
+    low: usize,
+    width: usize,
+) -> Result<Vec<Digit>, AllocError> {
     let mut list = Vec::new(alloc);
     for (i, x) in a.iter().enumerate() {
         if low <= i && i - low < width {
@@ -301,7 +346,12 @@ pub fn selected(alloc: Global, a: &[Digit], low: usize, width: usize) -> Result<
     Ok(list)
 }
 
-pub fn replaced(alloc: Global, a: &[Digit], low: usize, part: &[Digit]) -> Result<Vec<Digit>, AllocError> {
+pub fn replaced(
+    alloc: Global,
+    a: &[Digit],
+    low: usize,
+    part: &[Digit],
+) -> Result<Vec<Digit>, AllocError> {
     let mut list = Vec::new(alloc);
     for (i, x) in a.iter().enumerate() {
         if low <= i && i - low < part.len() {
@@ -313,7 +363,12 @@ pub fn replaced(alloc: Global, a: &[Digit], low: usize, part: &[Digit]) -> Resul
     Ok(list)
 }
 
-pub fn resized(alloc: Global, a: &[Digit], fill: Digit, width: usize) -> Result<Vec<Digit>, AllocError> {
+pub fn resized(
+    alloc: Global,
+    a: &[Digit],
+    fill: Digit,
+    width: usize,
+) -> Result<Vec<Digit>, AllocError> {
     let mut list = Vec::new(alloc);
     for i in 0..width {
         list.push(if i < a.len() { a[i] } else { fill })?;

@@ -98,7 +98,11 @@ fn applied(operator: Operator, a: &Vec4, b: &Vec4) -> Option<Vec4> {
         _ => {}
     }
     if let Concat = operator {
-        return if a.width() + b.width() <= MAX_WIDTH { Some(concat(a, b)) } else { None };
+        return if a.width() + b.width() <= MAX_WIDTH {
+            Some(concat(a, b))
+        } else {
+            None
+        };
     }
     if a.width() != b.width() || a.is_signed() != b.is_signed() {
         return None;
@@ -118,7 +122,7 @@ fn applied(operator: Operator, a: &Vec4, b: &Vec4) -> Option<Vec4> {
     }
 }
 
-const ROWS: [(Operator, Written, Written, Written); 68] = [
+static ROWS: [(Operator, Written, Written, Written); 68] = [
     (Pow, Signed(8, -1), Signed(8, -3), Signed(8, -1)),
     (Pow, Signed(8, -1), Signed(8, -2), Signed(8, 1)),
     (Pow, Signed(8, 0), Signed(8, -1), SignedX(8)),
@@ -134,7 +138,12 @@ const ROWS: [(Operator, Written, Written, Written); 68] = [
     (Xnor, Bits("10xz"), Bits("1100"), Bits("10xx")),
     (And, Wide(HALF), Wide(Plane::MAX), Wide(HALF)),
     (Or, Wide(HALF), Wide(1), Wide(0x8000_0000_0000_0001)),
-    (Xor, Wide(HALF), Wide(Plane::MAX), Wide(0x7fff_ffff_ffff_ffff)),
+    (
+        Xor,
+        Wide(HALF),
+        Wide(Plane::MAX),
+        Wide(0x7fff_ffff_ffff_ffff),
+    ),
     (Xnor, Wide(HALF), Wide(Plane::MAX), Wide(HALF)),
     (Merge, Wide(Plane::MAX), Wide(Plane::MAX), Wide(Plane::MAX)),
     (And, Bits("z"), Bits("1"), Bits("x")),
@@ -154,8 +163,18 @@ const ROWS: [(Operator, Written, Written, Written); 68] = [
     (Div, Bits("0110"), Bits("0000"), Bits("xxxx")),
     (Rem, Bits("0110"), Bits("0000"), Bits("xxxx")),
     (Mul, Wide(Plane::MAX), Wide(Plane::MAX), Wide(1)),
-    (Div, Signed(64, i64::MIN), Signed(64, -1), Signed(64, i64::MIN)),
-    (Rem, Wide(Plane::MAX), Wide(HALF), Wide(0x7fff_ffff_ffff_ffff)),
+    (
+        Div,
+        Signed(64, i64::MIN),
+        Signed(64, -1),
+        Signed(64, i64::MIN),
+    ),
+    (
+        Rem,
+        Wide(Plane::MAX),
+        Wide(HALF),
+        Wide(0x7fff_ffff_ffff_ffff),
+    ),
     (Mul, Bits("1"), Bits("1"), Bits("1")),
     (Div, Bits("1"), Bits("1"), Bits("1")),
     (Rem, Bits("1"), Bits("1"), Bits("0")),
@@ -180,7 +199,12 @@ const ROWS: [(Operator, Written, Written, Written); 68] = [
     (Sshr, Signed(1, -1), Bits("1"), Signed(1, -1)),
     (Concat, Bits("1x"), Bits("0z1"), Bits("1x0z1")),
     (Concat, Signed(2, -1), Signed(2, 0), Bits("1100")),
-    (Concat, Bits("1"), Signed(63, 1), Wide(0x8000_0000_0000_0001)),
+    (
+        Concat,
+        Bits("1"),
+        Signed(63, 1),
+        Wide(0x8000_0000_0000_0001),
+    ),
     (Concat, Signed(63, 1), Bits("0"), Wide(2)),
     (Mul, Signed(4, -3), Signed(4, 3), Signed(4, 7)),
     (Pow, Signed(8, -3), Bits("11"), Signed(8, -27)),
@@ -191,13 +215,16 @@ const ROWS: [(Operator, Written, Written, Written); 68] = [
 
 #[test]
 fn two_operands(rt: HostRuntime) {
-    for (operator, a, b, expected) in ROWS {
+    for &(operator, a, b, expected) in &ROWS {
         let (Some(a), Some(b), Some(expected)) = (vector(a), vector(b), vector(expected)) else {
             assert!(rt; false, "a row's vector is none");
             return;
         };
         let result = applied(operator, &a, &b);
-        assert!(rt; matches!(&result, Some(v) if is_same(v, &expected)), "a row fails");
+        assert!(rt;
+            matches!(&result, Some(v) if is_same(v, &expected)),
+            "a row fails"
+        );
     }
 }
 
@@ -226,7 +253,7 @@ fn compared(comparison: Comparison, a: &Vec4, b: &Vec4) -> Option<Digit> {
     })
 }
 
-const COMPARISONS: [(Comparison, Written, Written, Digit); 20] = [
+static COMPARISONS: [(Comparison, Written, Written, Digit); 20] = [
     (Equal, Bits("1x0"), Bits("0x0"), Digit::Zero),
     (Equal, Bits("1x0"), Bits("1x0"), Digit::X),
     (Equal, Bits("1"), Bits("1"), Digit::One),
@@ -251,31 +278,52 @@ const COMPARISONS: [(Comparison, Written, Written, Digit); 20] = [
 
 #[test]
 fn comparisons(rt: HostRuntime) {
-    for (comparison, a, b, expected) in COMPARISONS {
+    for &(comparison, a, b, expected) in &COMPARISONS {
         let (Some(a), Some(b)) = (vector(a), vector(b)) else {
             assert!(rt; false, "a row's vector is none");
             return;
         };
-        assert!(rt; compared(comparison, &a, &b) == Some(expected), "a row fails");
+        assert!(rt;
+            compared(comparison, &a, &b) == Some(expected),
+            "a row fails"
+        );
     }
 }
 
 /// A vector, the digits that `&`, `|` and `^` make of it, and its truth.
-const REDUCTIONS: [(Written, Digit, Digit, Digit, Digit); 9] = [
+static REDUCTIONS: [(Written, Digit, Digit, Digit, Digit); 9] = [
     (Bits("0xz"), Digit::Zero, Digit::X, Digit::X, Digit::X),
     (Bits("1xz"), Digit::X, Digit::One, Digit::X, Digit::One),
     (Bits("z"), Digit::X, Digit::X, Digit::X, Digit::X),
     (Bits("1"), Digit::One, Digit::One, Digit::One, Digit::One),
-    (Bits("0"), Digit::Zero, Digit::Zero, Digit::Zero, Digit::Zero),
-    (Bits("1101"), Digit::Zero, Digit::One, Digit::One, Digit::One),
-    (Wide(Plane::MAX), Digit::One, Digit::One, Digit::Zero, Digit::One),
+    (
+        Bits("0"),
+        Digit::Zero,
+        Digit::Zero,
+        Digit::Zero,
+        Digit::Zero,
+    ),
+    (
+        Bits("1101"),
+        Digit::Zero,
+        Digit::One,
+        Digit::One,
+        Digit::One,
+    ),
+    (
+        Wide(Plane::MAX),
+        Digit::One,
+        Digit::One,
+        Digit::Zero,
+        Digit::One,
+    ),
     (Wide(0), Digit::Zero, Digit::Zero, Digit::Zero, Digit::Zero),
     (Wide(HALF), Digit::Zero, Digit::One, Digit::One, Digit::One),
 ];
 
 #[test]
 fn reductions(rt: HostRuntime) {
-    for (a, all, any, parity, holds) in REDUCTIONS {
+    for &(a, all, any, parity, holds) in &REDUCTIONS {
         let Some(a) = vector(a) else {
             assert!(rt; false, "a row's vector is none");
             return;
@@ -288,7 +336,7 @@ fn reductions(rt: HostRuntime) {
 }
 
 /// A vector, the width and mark that it is given, and the result.
-const RESIZED: [(Written, u32, bool, Written); 9] = [
+static RESIZED: [(Written, u32, bool, Written); 9] = [
     (Signed(4, -3), 8, true, Signed(8, -3)),
     (Signed(4, -3), 8, false, Bits("00001101")),
     (Bits("1101"), 8, true, Signed(8, 13)),
@@ -302,7 +350,7 @@ const RESIZED: [(Written, u32, bool, Written); 9] = [
 
 #[test]
 fn other_widths(rt: HostRuntime) {
-    for (a, width, mark, expected) in RESIZED {
+    for &(a, width, mark, expected) in &RESIZED {
         let (Some(a), Some(expected)) = (vector(a), vector(expected)) else {
             assert!(rt; false, "a row's vector is none");
             return;
@@ -313,7 +361,7 @@ fn other_widths(rt: HostRuntime) {
 }
 
 /// A vector, a place, a part that is put there, and the result.
-const REPLACED: [(Written, u32, Written, Written); 5] = [
+static REPLACED: [(Written, u32, Written, Written); 5] = [
     (Bits("10xz"), 1, Bits("11"), Bits("111z")),
     (Signed(4, 0), 3, Bits("1"), Signed(4, -8)),
     (Wide(0), 63, Bits("1"), Wide(HALF)),
@@ -323,8 +371,9 @@ const REPLACED: [(Written, u32, Written, Written); 5] = [
 
 #[test]
 fn parts(rt: HostRuntime) {
-    for (a, low, part, expected) in REPLACED {
-        let (Some(a), Some(part), Some(expected)) = (vector(a), vector(part), vector(expected)) else {
+    for &(a, low, part, expected) in &REPLACED {
+        let (Some(a), Some(part), Some(expected)) = (vector(a), vector(part), vector(expected))
+        else {
             assert!(rt; false, "a row's vector is none");
             return;
         };
@@ -332,12 +381,18 @@ fn parts(rt: HostRuntime) {
         assert!(rt; low + part.width() <= a.width());
         let result = replace(&a, low, &part);
         assert!(rt; is_same(&result, &expected), "a row fails");
-        assert!(rt; is_same(&select(&result, low, part.width()), &resize(&part, part.width(), false)), "a part is not read back");
+        assert!(rt;
+            is_same(
+                &select(&result, low, part.width()),
+                &resize(&part, part.width(), false)
+            ),
+            "a part is not read back"
+        );
     }
 }
 
 /// A vector, its `~` and its `-`.
-const TURNED: [(Written, Written, Written); 6] = [
+static TURNED: [(Written, Written, Written); 6] = [
     (Bits("10xz"), Bits("01xx"), Bits("xxxx")),
     (Bits("z"), Bits("x"), Bits("x")),
     (Bits("1"), Bits("0"), Bits("1")),
@@ -348,8 +403,12 @@ const TURNED: [(Written, Written, Written); 6] = [
 
 #[test]
 fn one_operand(rt: HostRuntime) {
-    for (a, inverted, negative) in TURNED {
-        let (Some(a), Some(inverted), Some(negative)) = (vector(a), vector(inverted), vector(negative)) else {
+    for &(a, inverted, negative) in &TURNED {
+        let (Some(a), Some(inverted), Some(negative)) = (
+            vector(a),
+            vector(inverted),
+            vector(negative),
+        ) else {
             assert!(rt; false, "a row's vector is none");
             return;
         };

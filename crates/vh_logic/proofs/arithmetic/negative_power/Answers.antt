@@ -28,7 +28,7 @@ pub returns-clause-value : goal.returns-clause-value
 returns-clause-value c =
     let one : c.magnitude_of-base.result.size ≡ 1 = omega (arith, c.if-base-eq0.false) in
     let sign : c.if-base.signed_word ≡ (c.magnitude_of-base.result.negative && eqb (c.args.exponent % 2) 1) =
-            elim c.if-base.branch [ then-base w ↦ rw w.if-base.true w.signed_word-is | else-base w ↦ rw w.if-base.false (w.signed_word-is ∙ w.if-base.false) ] in
+    elim c.if-base.branch [ then-base w ↦ rw w.if-base.true w.signed_word-is | else-base w ↦ rw w.if-base.false (w.signed_word-is ∙ w.if-base.false) ] in
     IfSome-integer _ _ _ _ _ (λ (z : ℤ). c.with_number-2.result ≡ vector_of (width_of c.args.a.now) c.args.a.now.signed (reciprocal_power z c.args.exponent))
     c.a.view_is c.a.invariant.2 c.a.invariant.3
     (rw (c.magnitude_of-base.ensures.value, reciprocal-one c.magnitude_of-base.result.negative _ c.args.exponent one, ← sign)

@@ -17,19 +17,19 @@ returns-then-a-b-ne0-clause-value c =
 pub returns-then-exponent-clause-value : goal.returns-then-exponent-clause-value
 returns-then-exponent-clause-value c =
     let base : integer_of c.args.a.now ≡ Some (integer_at c.a.inside.width c.a.inside.signed c.a.inside.aval) =
-            known_integer _ _ _ _ _ c.a.view_is c.a.invariant.2 (or_zero _ _ c.if-a-b-ne0.false).0 in
+    known_integer _ _ _ _ _ c.a.view_is c.a.invariant.2 (or_zero _ _ c.if-a-b-ne0.false).0 in
     let answer = rw base at c.negative_power.ensures.value in
     let is : power (integer_at c.a.inside.width c.a.inside.signed c.a.inside.aval) (integer_at c.b.inside.width c.b.inside.signed c.b.inside.aval)
-            ≡ reciprocal_power (integer_at c.a.inside.width c.a.inside.signed c.a.inside.aval) c.magnitude_of-exponent.result.size =
-            rw c.magnitude_of-exponent.ensures.value (power-negative _ _ _ c.if-exponent.true (c.magnitude_of-exponent.ensures.negative c.if-exponent.true)) in
+    ≡ reciprocal_power (integer_at c.a.inside.width c.a.inside.signed c.a.inside.aval) c.magnitude_of-exponent.result.size =
+    rw c.magnitude_of-exponent.ensures.value (power-negative _ _ _ c.if-exponent.true (c.magnitude_of-exponent.ensures.negative c.if-exponent.true)) in
     answer ∙ sym (arithmetic-known power _ _ _ _ _ _ _ _ _ _ c.a.view_is c.b.view_is c.a.invariant.2 c.b.invariant.2 c.if-a-b-ne0.false
     ∙ ap (vector_of (width_of c.args.a.now) c.args.a.now.signed) is)
 
 pub returns-else-exponent-clause-value : goal.returns-else-exponent-clause-value
 returns-else-exponent-clause-value c =
     let is : power (integer_at c.a.inside.width c.a.inside.signed c.a.inside.aval) (integer_at c.b.inside.width c.b.inside.signed c.b.inside.aval)
-            ≡ Some (int_pow (integer_at c.a.inside.width c.a.inside.signed c.a.inside.aval) c.magnitude_of-exponent.result.size) =
-            rw c.magnitude_of-exponent.ensures.value (power-natural _ _ _ c.if-exponent.false) in
+    ≡ Some (int_pow (integer_at c.a.inside.width c.a.inside.signed c.a.inside.aval) c.magnitude_of-exponent.result.size) =
+    rw c.magnitude_of-exponent.ensures.value (power-natural _ _ _ c.if-exponent.false) in
     c.with_number.ensures.value ∙ rw c.wrapping_power.ensures
     (arithmetic-result power _ _ _ _ _ _ _ MAX_WIDTH _ _ _ _ _ c.a.view_is c.b.view_is c.a.invariant.2 c.b.invariant.2 c.if-a-b-ne0.false
     is c.a.invariant.1 (Differs-power _ _ _ _ (integer_at-differs _ _ _ c.a.invariant.2)))

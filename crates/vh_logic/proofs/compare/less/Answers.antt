@@ -16,6 +16,7 @@ returns c =
     let same = widths-planes _ _ _ _ _ _ _ _ _ _ c.a.view_is c.b.view_is c.requires.widths in
     let signs = signs-planes _ _ _ _ _ _ _ _ _ _ c.a.view_is c.b.view_is c.requires.signs in
     c.from_test.ensures ∙ ap test_digit (elim c.if-a.branch [
-        then-a w ↦ order-then _ MAX_WIDTH _ _ _ _ _ _ same signs w.if-a.true c.a.invariant.0 c.a.invariant.1 w.sign-is c.a.invariant.2 c.b.invariant.2
-        | else-a w ↦ order-else _ _ _ _ _ _ _ signs w.if-a.false w.sign-is ])
+      | then-a w ↦ order-then _ MAX_WIDTH _ _ _ _ _ _ same signs w.if-a.true c.a.invariant.0 c.a.invariant.1 w.sign-is c.a.invariant.2 c.b.invariant.2
+      | else-a w ↦ order-else _ _ _ _ _ _ _ signs w.if-a.false w.sign-is
+    ])
     ∙ sym (ordering-known _ _ _ _ _ _ _ _ _ _ c.a.view_is c.b.view_is c.a.invariant.2 c.b.invariant.2 c.if-a-b-ne0.false)

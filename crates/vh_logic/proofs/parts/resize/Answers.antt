@@ -13,7 +13,8 @@ returns-then-signed-clause-value c =
 pub returns-clause-value : goal.returns-clause-value
 returns-clause-value c =
     c.from_planes-2.ensures.value ∙ rw (← c.a.view_is) (elim c.else-a.branch [
-        else-a-via-then-a+else-signed w ↦
-        rw (w.if-a.true, w.if-signed.false) (ap (λ ds. digits_with ds false) (digits_of-resized c.a.inside.width c.a.inside.aval c.a.inside.bval c.args.width c.a.invariant.2 c.a.invariant.3))
-        | else-a-via-else-a w ↦
-        rw w.if-a.false (ap (λ ds. digits_with ds c.args.signed) (digits_of-resized c.a.inside.width c.a.inside.aval c.a.inside.bval c.args.width c.a.invariant.2 c.a.invariant.3)) ])
+      | else-a-via-then-a+else-signed w ↦
+          rw (w.if-a.true, w.if-signed.false) (ap (λ ds. digits_with ds false) (digits_of-resized c.a.inside.width c.a.inside.aval c.a.inside.bval c.args.width c.a.invariant.2 c.a.invariant.3))
+      | else-a-via-else-a w ↦
+          rw w.if-a.false (ap (λ ds. digits_with ds c.args.signed) (digits_of-resized c.a.inside.width c.a.inside.aval c.a.inside.bval c.args.width c.a.invariant.2 c.a.invariant.3))
+    ])
