@@ -1,6 +1,6 @@
 -- The operators on integers, from the planes of their operands.
-use Rattle.std.proofs.Common.{◌≡◌, ℕ, zero, suc, ◌+◌, ◌-◌, ◌*◌, ◌/◌, ◌%◌, ◌^◌, ◌<◌, ◌≤◌, eqb, refl, ap, arith, ◌∙◌, sym, subst, Bool, true, false, cond, ◌&&◌, Some, None, Option, inl, inr, length}
-use Rattle.std.specs.Prelude.{ℤ, pos, negsuc, neg_ℤ, ◌+ℤ◌, ◌-ℤ◌, ◌*ℤ◌, bit_or, IfSome}
+use Rattle.std.proofs.Common.{◌≡◌, ℕ, zero, suc, ◌+◌, ◌-◌, ◌*◌, ◌/◌, ◌%◌, ◌^◌, ◌<◌, ◌≤◌, eqb, refl, ap, arith, ◌∙◌, sym, subst, Bool, true, false, ◌&&◌, Some, None, Option, inl, inr, length}
+use Rattle.std.specs.Prelude.{ℤ, pos, negsuc, neg_ℤ, ◌*ℤ◌, bit_or, IfSome}
 use Rattle.std.proofs.Math.Bool.{xor}
 use Rattle.std.proofs.lemmas.Int.{ints}
 use Rattle.std.proofs.Math.Nat.{zero-div, zero-mod, mul-zero, pow-zero, pow-suc, mul_assoc, mul_comm}
@@ -8,13 +8,12 @@ use Rattle.std.proofs.Math.Numerals.{add-one}
 use Rattle.std.proofs.lemmas.Nat.{pow_pos, shr_split, mod_below, pow-add, mul-pow, pow-mod, mul-mod_first, mul-mod_second}
 use Rattle.std.proofs.lemmas.Bool.{cases_eq, eq-eqb, ne_eqb, lt-leb}
 use Rattle.std.specs.Int.{int_pow}
-use Rattle.vh_logic.specs.declared.digits.Digit.{Digit}
-use Rattle.vh_logic.specs.declared.digits.Digit.TheVariants.{Zero, One, X, Z}
+use Rattle.vh_logic.specs.declared.digits.Digit.TheVariants.{X}
 use Rattle.vh_logic.specs.Vector.{Vector, width_of, filled}
 use Rattle.vh_logic.specs.Number.{binary, wrapped, integer_at, integer_of, signed_integer, vector_of}
-use Rattle.vh_logic.specs.Arithmetic.{on_both, arithmetic, quotient, remainder, power, reciprocal_power}
+use Rattle.vh_logic.specs.Arithmetic.{arithmetic, quotient, remainder, power, reciprocal_power}
 use Rattle.vh_logic.proofs.PlaneLemmas.{Vector-of, digits_with}
-use Rattle.vh_logic.proofs.NumberLemmas.{known_integer, unknown_integer, or_zero, Differs, binary-wrapped, binary-differs, pow_multiple, Differs-product, mod-wider, integer_at-differs}
+use Rattle.vh_logic.proofs.NumberLemmas.{known_integer, unknown_integer, or_zero, Differs, binary-wrapped, binary-differs, pow_multiple, Differs-product, integer_at-differs}
 use Rattle.vh_logic.specs.PlanesBack.{length-digits_of}
 use Rattle.vh_logic.specs.Planes.{digits_of}
 

@@ -1,6 +1,6 @@
 -- The comparisons, from the planes of their operands.
-use Rattle.std.proofs.Common.{◌≡◌, ℕ, zero, suc, ◌+◌, ◌-◌, ◌*◌, ◌/◌, ◌%◌, ◌^◌, ◌<◌, ◌≤◌, min, max, eqb, ltb, leb, refl, ap, arith, ◌∙◌, sym, subst, Bool, true, false, cond, ◌&&◌, Some, None, inl, inr, rules}
-use Rattle.std.specs.Prelude.{ℤ, pos, neg_ℤ, int_lt, bit_and, bit_or, bit_xor}
+use Rattle.std.proofs.Common.{◌≡◌, ℕ, zero, suc, ◌+◌, ◌-◌, ◌*◌, ◌%◌, ◌^◌, ◌<◌, ◌≤◌, max, eqb, ltb, refl, ap, arith, ◌∙◌, sym, subst, Bool, true, false, cond, ◌&&◌, inl, inr, rules}
+use Rattle.std.specs.Prelude.{pos, neg_ℤ, int_lt, bit_and, bit_or, bit_xor}
 use Rattle.std.specs.Int.{bit_at}
 use Rattle.std.specs.Int.Bits.{xor_zero_r, xor_add_and}
 use Rattle.std.proofs.lemmas.Int.{ints}
@@ -10,7 +10,7 @@ use Rattle.std.proofs.lemmas.Bool.{cases_lt, cases_eq, lt-leb, le-leb, eq-eqb, n
 use Rattle.std.proofs.lemmas.Bool.Decides.{nat_tests}
 use Rattle.std.proofs.Math.Nat.{pow-suc}
 use Rattle.vh_logic.specs.declared.digits.Digit.{Digit}
-use Rattle.vh_logic.specs.declared.digits.Digit.TheVariants.{Zero, One, X, Z}
+use Rattle.vh_logic.specs.declared.digits.Digit.TheVariants.{Zero, One, X}
 use Rattle.vh_logic.specs.Digit.{may_equal, test_digit}
 use Rattle.vh_logic.specs.Compare.{equality, ordering}
 use Rattle.vh_logic.specs.Vector.{Vector, width_of, all_places}

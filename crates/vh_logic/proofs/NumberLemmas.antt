@@ -1,22 +1,20 @@
 -- How the number of a vector follows from its two planes.
-use Rattle.std.proofs.Common.{◌≡◌, ℕ, zero, suc, ◌+◌, ◌-◌, ◌*◌, ◌/◌, ◌%◌, ◌^◌, ◌<◌, ◌≤◌, eqb, leb, List, [], ◌∷◌, length, refl, ap, arith, ◌∙◌, sym, subst, Bool, true, false, cond, Some, None, Option}
-use Rattle.std.specs.Prelude.{ℤ, pos, negsuc, neg_ℤ, ◌+ℤ◌, ◌-ℤ◌, ◌*ℤ◌, bit_and, bit_or, unsigned_abs}
-use Rattle.std.specs.Int.{bit_at, int_rem_euclid}
+use Rattle.std.proofs.Common.{◌≡◌, ℕ, zero, suc, ◌+◌, ◌-◌, ◌*◌, ◌/◌, ◌%◌, ◌^◌, ◌<◌, ◌≤◌, eqb, leb, refl, ap, arith, ◌∙◌, sym, subst, Bool, true, false, cond, Some, None}
+use Rattle.std.specs.Prelude.{ℤ, pos, negsuc, neg_ℤ, ◌+ℤ◌, ◌-ℤ◌, ◌*ℤ◌, bit_or, unsigned_abs}
 use Rattle.std.proofs.lemmas.Int.{ints, int_rem_euclid_is}
 use Rattle.std.proofs.lemmas.Nat.{pow_pos, pow-add, shr_split, and_mask, le_or_l, le_or_r}
-use Rattle.std.proofs.lemmas.Nat.Bits.{bit_at-lt, bit_at_and, bit_at_ones}
+use Rattle.std.proofs.lemmas.Nat.Bits.{bit_at-lt}
 use Rattle.std.proofs.Math.Dec.{eqb-suc-zero}
 use Rattle.std.proofs.Math.Nat.{mod-mod, add-mul-mod_self_right}
 use Rattle.std.proofs.Math.Pow.{mod-mod-pow, pow_mono}
 use Rattle.std.proofs.lemmas.Bool.{cond-false, ne_eqb}
-use Rattle.vh_logic.specs.declared.digits.Digit.{Digit}
-use Rattle.vh_logic.specs.declared.digits.Digit.TheVariants.{Zero, One, X, Z}
+use Rattle.vh_logic.specs.declared.digits.Digit.TheVariants.{Zero, One}
 use Rattle.vh_logic.specs.Digit.{is_known}
 use Rattle.vh_logic.specs.Vector.{Vector}
 use Rattle.vh_logic.specs.Number.{number_of, digit_value, all_known, binary, wrapped, twos_complement, integer_at, integer_of, known_number}
 use Rattle.vh_logic.specs.Planes.{digit_of, digits_of}
 use Rattle.vh_logic.specs.PlanesBack.{length-digits_of, half_below, by_bit}
-use Rattle.vh_logic.proofs.PlaneLemmas.{digit_at, digits_of-mask, Vector-of}
+use Rattle.vh_logic.proofs.PlaneLemmas.{digits_of-mask, Vector-of}
 use Rattle.vh_logic.proofs.TestLemmas.{list_all-digits_of}
 use Rattle.vh_logic.proofs.Tables.{test_by_2}
 

@@ -1,5 +1,5 @@
 -- Shifts and parts: where a place of the result comes from, in the lists of digits and in the planes.
-use Rattle.std.proofs.Common.{◌≡◌, ℕ, zero, suc, ◌+◌, ◌-◌, ◌*◌, ◌/◌, ◌%◌, ◌^◌, ◌<◌, ◌≤◌, min, max, List, ◌++◌, length, get_or, take, drop, replicate, refl, ap, arith, ◌∙◌, sym, subst, Bool, false, Some, None, inl, inr, length-append, length-drop, eqb}
+use Rattle.std.proofs.Common.{◌≡◌, ℕ, ◌+◌, ◌-◌, ◌*◌, ◌/◌, ◌%◌, ◌^◌, ◌<◌, ◌≤◌, min, List, ◌++◌, length, get_or, take, drop, replicate, refl, ap, arith, ◌∙◌, sym, Bool, false, Some, None, inl, inr, length-append, length-drop, eqb}
 use Rattle.std.specs.Prelude.{bit_and, bit_or, bit_xor}
 use Rattle.std.specs.Int.{bit_at}
 use Rattle.std.proofs.lemmas.List.{length-replicate, get_or-replicate, length-take, get_or-take, get_or-drop, get_or_append_left, get_or-append_right}
@@ -13,7 +13,7 @@ use Rattle.vh_logic.specs.declared.digits.Digit.TheVariants.{Zero}
 use Rattle.vh_logic.specs.Vector.{Vector, width_of, highest}
 use Rattle.vh_logic.specs.Number.{known_number, binary}
 use Rattle.vh_logic.specs.Shift.{moved_up, moved_down, shifted_right, shifted_right_signed}
-use Rattle.vh_logic.specs.Planes.{digit_of, digits_of}
+use Rattle.vh_logic.specs.Planes.{digits_of}
 use Rattle.vh_logic.specs.PlanesBack.{length-digits_of}
 use Rattle.vh_logic.proofs.PlaneLemmas.{digit_at, digits_of-places, get_or-digits_of, Vector-of, digits_with, ones_below}
 use Rattle.vh_logic.proofs.NumberLemmas.{known_number-planes, digits_of-binary}

@@ -1,9 +1,8 @@
 -- What holds of bits, each of which is 0 or 1, is shown by trying their values.
-use Rattle.std.proofs.Common.{◌≡◌, ℕ, ◌<◌, Bool, true, false, not, ◌&&◌, refl, subst}
-use Rattle.std.specs.Prelude.{IsTrue}
+use Rattle.std.proofs.Common.{◌≡◌, ℕ, ◌<◌, Bool, true, false, not, ◌&&◌, refl}
 use Rattle.vh_logic.specs.declared.digits.Digit.{Digit}
 use Rattle.vh_logic.specs.declared.digits.Digit.TheVariants.{Zero, One, X, Z}
-use Rattle.vh_logic.specs.PlanesBack.{by_bit, by_2_bits}
+use Rattle.vh_logic.specs.PlanesBack.{by_2_bits}
 
 -- two digits are one, as a test
 abbrev pub digit_eq : Digit → Digit → Bool

@@ -1,5 +1,5 @@
 -- How a test of the digits of vectors follows from a plane that marks the places where it fails.
-use Rattle.std.proofs.Common.{◌≡◌, ℕ, zero, suc, ◌+◌, ◌-◌, ◌*◌, ◌/◌, ◌%◌, ◌^◌, ◌<◌, ◌≤◌, min, max, eqb, List, [], ◌∷◌, length, refl, ap, arith, ◌∙◌, sym, subst, Bool, true, false, ◌&&◌, ◌||◌, not, cond, rules}
+use Rattle.std.proofs.Common.{◌≡◌, ℕ, zero, suc, ◌+◌, ◌-◌, ◌*◌, ◌/◌, ◌%◌, ◌^◌, ◌<◌, max, eqb, refl, ap, arith, ◌∙◌, sym, Bool, true, false, ◌&&◌, ◌||◌, not, cond, rules}
 use Rattle.std.specs.Prelude.{bit_or, bit_xor, count_ones}
 use Rattle.std.specs.Int.Bits.{xor_self, xor_zero_l, xor_zero_r, xor_assoc}
 use Rattle.std.specs.Int.Count.{ones}
@@ -7,12 +7,12 @@ use Rattle.std.proofs.Math.Dec.{eqb-suc-zero}
 use Rattle.std.proofs.lemmas.Nat.{ones_cat}
 use Rattle.std.specs.Int.{bit_at}
 use Rattle.std.specs.List.{list_all, list_any}
-use Rattle.std.proofs.lemmas.Nat.Bits.{bit_at_lowest, bit_at-suc, bit_at-lt, bit_at_and, bit_at_or, bit_at_xor, bit_at_ones}
+use Rattle.std.proofs.lemmas.Nat.Bits.{bit_at_lowest, bit_at-suc, bit_at-lt, bit_at_or, bit_at_xor, bit_at_ones}
 use Rattle.std.proofs.lemmas.Bool.Decides.{nat_tests}
 use Rattle.vh_logic.specs.declared.digits.Digit.{Digit}
-use Rattle.vh_logic.specs.declared.digits.Digit.TheVariants.{Zero, One, X, Z}
+use Rattle.vh_logic.specs.declared.digits.Digit.TheVariants.{Zero, One, X}
 use Rattle.vh_logic.specs.Digit.{digit_and, digit_or, digit_xor, is_one, is_zero}
-use Rattle.vh_logic.specs.Vector.{Vector, all_places}
+use Rattle.vh_logic.specs.Vector.{all_places}
 use Rattle.vh_logic.specs.Reduce.{reduced, truth_of}
 use Rattle.vh_logic.specs.Planes.{digit_of, digits_of}
 use Rattle.vh_logic.specs.PlanesBack.{half_below, by_bit}

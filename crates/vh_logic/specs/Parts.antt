@@ -1,5 +1,5 @@
 -- The operators that put vectors together and take them apart.
-use Rattle.std.specs.Prelude.{ℕ, ◌+◌, Bool, false, ◌&&◌, if◌then◌else◌, ◌++◌, take, drop, length, replicate}
+use Rattle.std.specs.Prelude.{ℕ, ◌+◌, Bool, false, ◌&&◌, if◌then◌else◌, ◌++◌, take, drop, replicate}
 use Rattle.vh_logic.specs.declared.digits.Digit.{Digit}
 use Rattle.vh_logic.specs.declared.digits.Digit.TheVariants.{Zero}
 use Rattle.vh_logic.specs.Vector.{Vector, width_of, highest}

@@ -1,5 +1,5 @@
 -- That the digits give their planes back, which a vector that is copied owes.
-use Rattle.std.proofs.Common.{◌≡◌, ℕ, zero, suc, ◌+◌, ◌*◌, ◌/◌, ◌%◌, ◌^◌, ◌<◌, List, length, ◌⊎◌, inl, inr, refl, ap, arith, subst, sym}
+use Rattle.std.proofs.Common.{◌≡◌, ℕ, zero, suc, ◌*◌, ◌/◌, ◌%◌, ◌^◌, ◌<◌, length, ◌⊎◌, inl, inr, refl, ap, arith, subst, sym}
 use Rattle.std.proofs.Math.Nat.{pow-suc}
 use Rattle.vh_logic.specs.Planes.{digit_of, digits_of, aval_bit, bval_bit, plane_of}
 

@@ -1,5 +1,5 @@
 -- The machine's sum differs from that of the integers by a multiple of 2 ^ width.
-use Rattle.std.proofs.Common.{◌≡◌, ◌^◌, ◌<◌, ◌∙◌, refl}
+use Rattle.std.proofs.Common.{◌∙◌, refl}
 use Rattle.vh_logic.specs.declared.vector.TheConstants.{MAX_WIDTH}
 use Rattle.vh_logic.proofs.NumberLemmas.{integer_at-differs, Differs-sum}
 use Rattle.vh_logic.proofs.ArithmeticLemmas.{arithmetic-unknown, arithmetic-result, widths-planes, right-differs}

@@ -1,5 +1,5 @@
 -- The quotient of two integers is that of their sizes, with its sign.
-use Rattle.std.proofs.Common.{◌≡◌, ◌<◌, ◌/◌, ◌%◌, ap, ◌∙◌, sym, refl, arith, Some}
+use Rattle.std.proofs.Common.{◌≡◌, ◌<◌, ◌/◌, ◌∙◌, sym, refl, arith, Some}
 use Rattle.vh_logic.specs.declared.vector.TheConstants.{MAX_WIDTH}
 use Rattle.vh_logic.specs.Arithmetic.{quotient}
 use Rattle.vh_logic.specs.Number.{integer_at, signed_integer}

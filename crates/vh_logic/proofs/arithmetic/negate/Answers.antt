@@ -1,8 +1,8 @@
 -- The machine's word that makes 0 with the number differs from the negative integer by a multiple of 2 ^ width.
-use Rattle.std.proofs.Common.{◌≡◌, ◌^◌, ◌%◌, ◌<◌, ◌∙◌, sym, ap, refl}
+use Rattle.std.proofs.Common.{◌∙◌, refl}
 use Rattle.vh_logic.specs.declared.vector.TheConstants.{MAX_WIDTH}
 use Rattle.vh_logic.proofs.NumberLemmas.{known_integer, unknown_integer, integer_at-differs, Differs-negative}
-use Rattle.vh_logic.proofs.ArithmeticLemmas.{width-planes, vector_of-number}
+use Rattle.vh_logic.proofs.ArithmeticLemmas.{vector_of-number}
 use Rattle.vh_logic.proofs.arithmetic.negate.Goals as goal
 
 pub returns-then-a-ne0-clause-value : goal.returns-then-a-ne0-clause-value

@@ -1,13 +1,11 @@
 -- The size of the base decides.
-use Rattle.std.proofs.Common.{◌≡◌, ◌<◌, ◌^◌, ◌%◌, ap, ◌∙◌, sym, refl, arith, Some, None, ◌&&◌, eqb, true, false}
+use Rattle.std.proofs.Common.{◌≡◌, ◌%◌, ◌∙◌, refl, arith, ◌&&◌, eqb}
 use Rattle.std.specs.Prelude.{ℤ, pos}
-use Rattle.std.proofs.lemmas.Int.{ints}
 use Rattle.vh_logic.specs.declared.vector.TheConstants.{MAX_WIDTH}
 use Rattle.vh_logic.specs.Vector.{width_of}
-use Rattle.vh_logic.specs.Number.{integer_at, vector_of, signed_integer}
+use Rattle.vh_logic.specs.Number.{vector_of, signed_integer}
 use Rattle.vh_logic.specs.Arithmetic.{reciprocal_power}
 use Rattle.vh_logic.proofs.ArithmeticLemmas.{IfSome-integer, reciprocal-none, reciprocal-zero, reciprocal-one, vector_of-number, vector_of-word}
-use Rattle.vh_logic.proofs.NumberLemmas.{Differs}
 use Rattle.vh_logic.proofs.arithmetic.negative_power.Goals as goal
 use Rattle.vh_logic.proofs.arithmetic.negative_power.Goals.{then-base, else-base}
 

@@ -1,5 +1,5 @@
 -- The machine's power differs from that of the integers by a multiple of 2 ^ width.
-use Rattle.std.proofs.Common.{◌≡◌, ◌<◌, ◌^◌, ap, ◌∙◌, sym, refl, arith, Some}
+use Rattle.std.proofs.Common.{◌≡◌, ap, ◌∙◌, sym, Some}
 use Rattle.std.specs.Int.{int_pow}
 use Rattle.vh_logic.specs.declared.vector.TheConstants.{MAX_WIDTH}
 use Rattle.vh_logic.specs.Vector.{width_of}

@@ -1,9 +1,8 @@
 -- The remainder of two integers is that of their sizes, with its sign.
-use Rattle.std.proofs.Common.{◌≡◌, ◌<◌, ◌/◌, ◌%◌, ap, ◌∙◌, sym, refl, arith, Some}
+use Rattle.std.proofs.Common.{◌≡◌, ◌<◌, ◌%◌, ◌∙◌, sym, refl, arith, Some}
 use Rattle.vh_logic.specs.declared.vector.TheConstants.{MAX_WIDTH}
 use Rattle.vh_logic.specs.Arithmetic.{remainder}
 use Rattle.vh_logic.specs.Number.{integer_at, signed_integer}
-use Rattle.std.proofs.Math.Bool.{xor}
 use Rattle.vh_logic.proofs.ArithmeticLemmas.{arithmetic-unknown, arithmetic-known, integer_at-zero, arithmetic-word, remainder-signed}
 use Rattle.vh_logic.proofs.arithmetic.rem.Goals as goal
 

@@ -1,5 +1,5 @@
 -- A step squares the base, and halves the exponent.
-use Rattle.std.proofs.Common.{◌≡◌, ◌*◌, ◌%◌, ◌^◌, ◌∙◌, ap, arith}
+use Rattle.std.proofs.Common.{◌^◌, ◌∙◌, arith}
 use Rattle.vh_logic.specs.declared.vector.TheConstants.{MAX_WIDTH}
 use Rattle.vh_logic.proofs.ArithmeticLemmas.{power-even, power-odd}
 use Rattle.vh_logic.proofs.arithmetic.wrapping_power.Goals as goal

@@ -1,6 +1,6 @@
 -- Each digit of the result is `digit_xnor` of the two digits at its place, which the sixteen pairs of pairs of bits show.
-use Rattle.std.proofs.Common.{◌≡◌, ◌<◌, ◌^◌, ◌+◌, ◌%◌, arith, ap, min, max, rules, refl}
-use Rattle.std.proofs.lemmas.Nat.Bits.{bit_at-lt, bit_at_and, bit_at_or, bit_at_xor, bit_at_ones}
+use Rattle.std.proofs.Common.{◌≡◌, ◌<◌, ◌^◌, ◌+◌, ◌%◌, ap, max, rules, refl}
+use Rattle.std.proofs.lemmas.Nat.Bits.{bit_at-lt, bit_at_or, bit_at_xor, bit_at_ones}
 use Rattle.vh_logic.specs.Digit.{digit_xnor}
 use Rattle.vh_logic.specs.Vector.{Vector}
 use Rattle.vh_logic.specs.Planes.{digit_of}

@@ -1,5 +1,5 @@
 -- A plane marks the places where the test of the digits fails.
-use Rattle.std.proofs.Common.{◌≡◌, ◌<◌, ◌^◌, ◌+◌, ◌%◌, ap, max, eqb, rules, refl, arith, sym, ◌∙◌}
+use Rattle.std.proofs.Common.{◌<◌, ◌^◌, ◌+◌, ◌%◌, ap, max, eqb, rules, refl, sym, ◌∙◌}
 use Rattle.std.proofs.lemmas.Nat.Bits.{bit_at-lt, bit_at_or, bit_at_xor}
 use Rattle.vh_logic.specs.Compare.{is_same_or_z}
 use Rattle.vh_logic.specs.Digit.{test_digit}

@@ -1,5 +1,5 @@
 -- Numbers whose highest bit is turned round are in the order of the signed integers.
-use Rattle.std.proofs.Common.{◌≡◌, ap, ◌∙◌, sym}
+use Rattle.std.proofs.Common.{ap, ◌∙◌, sym}
 use Rattle.vh_logic.specs.Digit.{test_digit}
 use Rattle.vh_logic.proofs.CompareLemmas.{ordering-unknown, ordering-known, order-then, order-else, signs-planes}
 use Rattle.vh_logic.proofs.ArithmeticLemmas.{widths-planes}

@@ -1,5 +1,5 @@
 -- The planes of the one stand above those of the other.
-use Rattle.std.proofs.Common.{◌≡◌, ◌+◌, ◌<◌, ◌≤◌, ap, arith, false}
+use Rattle.std.proofs.Common.{◌+◌, ◌≤◌, ap, arith, false}
 use Rattle.vh_logic.specs.declared.vector.TheConstants.{MAX_WIDTH}
 use Rattle.vh_logic.proofs.PlaneLemmas.{digits_with}
 use Rattle.vh_logic.proofs.PartLemmas.{concat_plane, concat_below, digits_of-concat, room-planes, concat-width}

@@ -1,10 +1,9 @@
 -- A hole is made in the planes, and the planes of the part are put into it.
-use Rattle.std.proofs.Common.{◌≡◌, ◌+◌, ◌<◌, ◌≤◌, ap, ◌∙◌, arith}
+use Rattle.std.proofs.Common.{◌+◌, ◌≤◌, ap, arith}
 use Rattle.std.proofs.lemmas.Nat.{shl_whole}
 use Rattle.vh_logic.specs.declared.vector.TheConstants.{MAX_WIDTH}
-use Rattle.vh_logic.specs.Vector.{width_of}
 use Rattle.vh_logic.proofs.PlaneLemmas.{digits_with, ones_below}
-use Rattle.vh_logic.proofs.PartLemmas.{replaced-below, digits_of-replaced, part-planes, within-planes}
+use Rattle.vh_logic.proofs.PartLemmas.{replaced-below, digits_of-replaced, part-planes}
 use Rattle.vh_logic.proofs.ArithmeticLemmas.{literal-width}
 use Rattle.vh_logic.proofs.parts.replace.Goals as goal
 

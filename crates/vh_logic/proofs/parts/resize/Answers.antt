@@ -1,5 +1,5 @@
 -- A signed vector is extended by its highest digit.
-use Rattle.std.proofs.Common.{◌≡◌, ap, ◌∙◌, sym, true, false}
+use Rattle.std.proofs.Common.{ap, ◌∙◌, true, false}
 use Rattle.vh_logic.proofs.PlaneLemmas.{digits_with}
 use Rattle.vh_logic.proofs.PartLemmas.{digits_of-resized, digits_of-resized_signed}
 use Rattle.vh_logic.proofs.parts.resize.Goals as goal

@@ -1,5 +1,5 @@
 -- The planes are moved down, and cut.
-use Rattle.std.proofs.Common.{◌≡◌, ◌+◌, ◌<◌, ◌≤◌, ap, ◌∙◌, arith, false}
+use Rattle.std.proofs.Common.{◌+◌, ◌≤◌, ap, ◌∙◌, arith, false}
 use Rattle.vh_logic.specs.declared.vector.TheConstants.{MAX_WIDTH}
 use Rattle.vh_logic.proofs.PlaneLemmas.{digits_with}
 use Rattle.vh_logic.proofs.PartLemmas.{digits_of-part, within-planes}

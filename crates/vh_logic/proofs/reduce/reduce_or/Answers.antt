@@ -1,5 +1,5 @@
 -- A 1 decides, and else an x or z.
-use Rattle.std.proofs.Common.{◌≡◌, sym, refl, ◌∙◌}
+use Rattle.std.proofs.Common.{refl}
 use Rattle.std.proofs.lemmas.Bool.{eq-eqb, ne_eqb}
 use Rattle.vh_logic.proofs.TestLemmas.{reduced_or}
 use Rattle.vh_logic.proofs.reduce.reduce_or.Goals as goal

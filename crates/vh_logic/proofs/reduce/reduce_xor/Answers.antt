@@ -1,5 +1,5 @@
 -- An x or z decides, and else the parity of the ones.
-use Rattle.std.proofs.Common.{◌≡◌, sym, refl, ◌∙◌}
+use Rattle.std.proofs.Common.{refl}
 use Rattle.std.proofs.lemmas.Bool.{eq-eqb, ne_eqb}
 use Rattle.vh_logic.proofs.TestLemmas.{reduced_xor}
 use Rattle.vh_logic.proofs.reduce.reduce_xor.Goals as goal

@@ -1,5 +1,5 @@
 -- The bits of both planes move as the digits do.
-use Rattle.std.proofs.Common.{◌≡◌, ◌≤◌, ap, ◌∙◌, sym, refl, arith}
+use Rattle.std.proofs.Common.{ap, ◌∙◌}
 use Rattle.vh_logic.specs.declared.vector.TheConstants.{MAX_WIDTH}
 use Rattle.vh_logic.proofs.PlaneLemmas.{digits_with}
 use Rattle.vh_logic.proofs.PartLemmas.{places_known, places_unknown, digits_of-shl, zeros-moved_up}

@@ -1,6 +1,5 @@
 -- The highest bits of both planes fill as the highest digit does.
-use Rattle.std.proofs.Common.{◌≡◌, ◌-◌, ◌≤◌, min, ap, ◌∙◌, sym, refl, arith, true, false}
-use Rattle.vh_logic.specs.declared.vector.TheConstants.{MAX_WIDTH}
+use Rattle.std.proofs.Common.{ap, ◌∙◌, sym, true}
 use Rattle.vh_logic.specs.Vector.{Vector}
 use Rattle.vh_logic.proofs.PlaneLemmas.{digits_with}
 use Rattle.vh_logic.proofs.PartLemmas.{places_known, places_unknown, digits_of-sshr, shifted_right-unsigned}

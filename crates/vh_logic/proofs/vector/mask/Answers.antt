@@ -1,5 +1,5 @@
 -- Of a plane of ones, a shift leaves as many as the width.
-use Rattle.std.proofs.Common.{arith, ap, ◌∙◌, ◌^◌, ◌-◌, ◌≡◌, ◌≤◌}
+use Rattle.std.proofs.Common.{arith, ap, ◌∙◌, ◌^◌, ◌-◌, ◌≡◌}
 use Rattle.std.proofs.lemmas.Nat.Bits.{ones_shr}
 use Rattle.vh_logic.specs.declared.vector.TheConstants.{MAX_WIDTH}
 use Rattle.vh_logic.proofs.vector.mask.Goals as goal

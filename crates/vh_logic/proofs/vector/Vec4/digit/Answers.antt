@@ -1,8 +1,6 @@
 -- Bit `i` of each plane makes digit `i`.
-use Rattle.std.proofs.Common.{◌≡◌, ◌<◌, ◌≤◌, ◌∙◌, ap, Some, refl, arith}
-use Rattle.vh_logic.specs.declared.digits.Digit.{Digit}
+use Rattle.std.proofs.Common.{◌<◌, ◌≤◌, refl, arith}
 use Rattle.vh_logic.specs.declared.vector.TheConstants.{MAX_WIDTH}
-use Rattle.vh_logic.specs.Planes.{digit_of}
 use Rattle.vh_logic.proofs.PlaneLemmas.{slice_get-digits_of, bit_set, bit_clear}
 use Rattle.vh_logic.proofs.ArithmeticLemmas.{width-planes}
 use Rattle.vh_logic.proofs.vector.Vec4.digit.Goals as goal

@@ -1,5 +1,5 @@
 -- A number is known if no bit of the second plane is set.
-use Rattle.std.proofs.Common.{◌≡◌, Some, None, sym, ◌∙◌, eqb}
+use Rattle.std.proofs.Common.{sym, ◌∙◌, eqb}
 use Rattle.std.proofs.lemmas.Nat.{pow_pos}
 use Rattle.std.proofs.lemmas.Bool.{cond-false, ne_eqb}
 use Rattle.vh_logic.proofs.NumberLemmas.{known_number-planes}

@@ -1,5 +1,5 @@
 -- The number of digits is the width that they were made with.
-use Rattle.std.proofs.Common.{length, ap, ◌∙◌, sym}
+use Rattle.std.proofs.Common.{sym}
 use Rattle.vh_logic.specs.PlanesBack.{length-digits_of}
 use Rattle.vh_logic.proofs.vector.Vec4.width.Goals as goal
 
