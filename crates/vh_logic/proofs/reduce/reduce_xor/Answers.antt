@@ -1,0 +1,14 @@
+-- An x or z decides, and else the parity of the ones.
+use Rattle.std.proofs.Common.{refl}
+use Rattle.std.proofs.lemmas.Bool.{eq-eqb, ne_eqb}
+use Rattle.vh_logic.proofs.TestLemmas.{reduced_xor}
+use Rattle.vh_logic.proofs.reduce.reduce_xor.Goals as goal
+
+pub returns-then-a-ne0 : goal.returns-then-a-ne0
+returns-then-a-ne0 c = rw (← c.a.view_is, reduced_xor c.a.inside.width c.a.inside.aval c.a.inside.bval c.a.invariant.2 c.a.invariant.3, ne_eqb _ 0 c.if-a-ne0.true) refl
+
+pub returns-then-a-eq0 : goal.returns-then-a-eq0
+returns-then-a-eq0 c = rw (← c.a.view_is, reduced_xor c.a.inside.width c.a.inside.aval c.a.inside.bval c.a.invariant.2 c.a.invariant.3, eq-eqb _ 0 c.if-a-ne0.false, eq-eqb _ 0 c.if-a-eq0.true) refl
+
+pub returns-else-a-eq0 : goal.returns-else-a-eq0
+returns-else-a-eq0 c = rw (← c.a.view_is, reduced_xor c.a.inside.width c.a.inside.aval c.a.inside.bval c.a.invariant.2 c.a.invariant.3, eq-eqb _ 0 c.if-a-ne0.false, ne_eqb _ 0 c.if-a-eq0.false) refl

@@ -1,0 +1,11 @@
+pub mod Digit
+pub mod Vector
+pub mod Number
+pub mod Bitwise
+pub mod Reduce
+pub mod Arithmetic
+pub mod Shift
+pub mod Compare
+pub mod Parts
+pub mod Planes
+pub mod PlanesBack

@@ -1,0 +1,3 @@
+mod exhaustive;
+mod plain;
+mod rows;
