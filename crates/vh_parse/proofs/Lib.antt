@@ -1,5 +1,4 @@
 pub mod Cutting
-pub mod Turns
 pub mod Loops
 pub mod Rows
 pub mod Numbers

@@ -1,5 +1,5 @@
 -- How contracts see what the code holds: without where it lies in memory.
-use Rattle.std.specs.Prelude.{◌≡◌, ◌<◌, length, ℕ, List, ◌++◌, map, Result, Ok, Err}
+use Rattle.std.specs.Prelude.{◌≡◌, ◌<◌, length, ℕ, List, ◌++◌, map, Bool, Option, Result, Ok, Err}
 use Rattle.std.specs.Borrow.{Bor}
 use Rattle.vh_parse.specs.declared.token.Token.{Token as Held}
 use Rattle.vh_parse.specs.declared.token.Token.TheVariants.{Word, Name, System, Digits, Bit, Text, Mark}
@@ -11,10 +11,11 @@ use Rattle.vh_parse.specs.declared.tree.Item.{Item as HeldItem}
 use Rattle.vh_parse.specs.declared.tree.Item.TheVariants as items
 use Rattle.vh_parse.specs.declared.tree.Module.{Module as HeldModule}
 use Rattle.vh_grammar.specs.declared.stop.Stop.{Stop}
-use Rattle.vh_grammar.specs.Reading.{Out, got, then_}
+use Rattle.vh_grammar.specs.Reading.{Out, got, then_, next_is, token_of, read}
 use Rattle.vh_grammar.specs.Says.{Stops}
 use Rattle.vh_parse.specs.Tree.{Step, wait, assign, show, finish, Item, registers, initial, Module}
 use Rattle.vh_parse.specs.Token.{Token, word, name, system, digits, sized, text, mark}
+use Rattle.vh_parse.specs.Grammar.{G, grammar, only}
 use Rattle.vh_parse.specs.Spelling.{Piece, space, token, wrong}
 
 -- a token of the code (own)
@@ -81,6 +82,26 @@ with_front front o = then_ o (λ steps rest. got (front ++ steps) rest)
 abbrev pub Adds : List Step → List Step → Out Token (List Step) → Result (Bor (List Held)) Stop → Type 0
 Adds old new o (Ok rest) = with_front old o ≡ got new (tokens_seen rest.now)
 Adds old new o (Err stopped) = Stops (with_front old o) stopped
+
+-- reading the part, with so many levels left below it, gives what the code returns (own)
+abbrev pub ReadsPart : {A X : Type 0} → (X → A) → ℕ → G A → List Held → Result (X × Bor (List Held)) Stop → Type 0
+ReadsPart view levels part tokens result = Says view (read grammar levels part (tokens_seen tokens)) result
+
+-- reading the part gives the steps that the code adds (own)
+abbrev pub AddsPart : ℕ → G (List Step) → List HeldStep → List HeldStep → List Held → Result (Bor (List Held)) Stop → Type 0
+AddsPart levels part old new tokens result = Adds (steps_seen old) (steps_seen new) (read grammar levels part (tokens_seen tokens)) result
+
+-- a token of the class is what the code takes (own)
+abbrev pub TakesToken : (Token → Bool) → List Held → Result (Bor (List Held)) Stop → Type 0
+TakesToken class tokens result = Passes (token_of (only class) (tokens_seen tokens)) result
+
+-- a token with a meaning is what the code takes (own)
+abbrev pub TakesMeaning : {A X : Type 0} → (X → A) → (Token → Option A) → List Held → Result (X × Bor (List Held)) Stop → Type 0
+TakesMeaning view meaning tokens result = Says view (token_of meaning (tokens_seen tokens)) result
+
+-- a token of the class is next (own)
+abbrev pub token_is_next : (Token → Bool) → List Held → Bool
+token_is_next class tokens = next_is class (tokens_seen tokens)
 
 -- fewer tokens are left (own)
 abbrev pub IsShorter : List Held → Result (Bor (List Held)) Stop → Type 0

@@ -8,7 +8,7 @@ use vh_grammar::Stop;
 pub enum FirstFault {
     /// The bytes are no text of the first subset.
     NotBuilt,
-    /// Memory was refused.
+    /// Memory was refused, or the number of a register would not fit 32 bits.
     NoMemory,
 }
 

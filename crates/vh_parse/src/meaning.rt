@@ -10,17 +10,18 @@ use std::alloc::Global;
 use vh_base::{Bytes, First, FirstCode, Sequence};
 
 /// The design that the module means.
-pub fn design(alloc: Global, module: &Module<'_>) -> Result<First, FirstFault>
-    ensures built { IfOk result (λ design. Meaning.design_of (module_seen module.now) ≡ Some design) }
-    ensures not_built { result ≡ Err FirstFault.NotBuilt → Meaning.design_of (module_seen module.now) ≡ None }
+pub fn design(alloc: Global, parsed: &Module<'_>) -> Result<First, FirstFault>
+    ensures built { IfOk result (λ design. Meaning.design_of (module_seen parsed.now) ≡ Some design) }
+    ensures not_built { result ≡ Err FirstFault.NotBuilt →
+        Meaning.design_of (module_seen parsed.now) ≡ None }
 {
-    let registers = registers(alloc, &module.items)?;
-    if registers.contains(module.name) {
+    let registers = registers(alloc, &parsed.items)?;
+    if registers.contains(parsed.name) {
         return Err(FirstFault::NotBuilt);
     }
-    let blocks = blocks(alloc, &module.items, &registers)?;
+    let blocks = blocks(alloc, &parsed.items, &registers)?;
     let regs = names(alloc, &registers)?;
-    let name = copied(alloc, module.name)?;
+    let name = copied(alloc, parsed.name)?;
     Ok(First {
         name,
         regs: Sequence::new(regs),
@@ -30,9 +31,11 @@ pub fn design(alloc: Global, module: &Module<'_>) -> Result<First, FirstFault>
 
 // The names that the items declare, in order, if they are different.
 fn registers<'a>(alloc: Global, items: &[Item<'a>]) -> Result<IndexSet<&'a [u8]>, FirstFault>
-    ensures names { IfOk result (λ set. names_seen set.keys ≡ flat_map Meaning.names_in (items_seen items.now)) }
+    ensures names { IfOk result (λ set.
+        names_seen set.keys ≡ flat_map Meaning.names_in (items_seen items.now)) }
     ensures differ { IfOk result (λ set. Meaning.all_differ (names_seen set.keys) ≡ true) }
-    ensures not_built { result ≡ Err FirstFault.NotBuilt → Meaning.all_differ (flat_map Meaning.names_in (items_seen items.now)) ≡ false }
+    ensures not_built { result ≡ Err FirstFault.NotBuilt →
+        Meaning.all_differ (flat_map Meaning.names_in (items_seen items.now)) ≡ false }
 {
     let mut registers = IndexSet::new(alloc);
     for item in items {
@@ -46,9 +49,12 @@ fn registers<'a>(alloc: Global, items: &[Item<'a>]) -> Result<IndexSet<&'a [u8]>
 
 // Adds names to those that are declared already, if they are different.
 fn add<'a>(registers: &mut IndexSet<&'a [u8]>, names: &[&'a [u8]]) -> Result<(), FirstFault>
-    ensures names { OnOk result (names_seen registers.new.keys ≡ names_seen registers.old.keys ++ names_seen names.now) }
-    ensures differ { OnOk result (Meaning.all_differ (names_seen registers.new.keys) ≡ Meaning.all_differ (names_seen registers.old.keys)) }
-    ensures not_built { result ≡ Err FirstFault.NotBuilt → (more : List (List ℕ)) → Meaning.all_differ (names_seen registers.old.keys ++ names_seen names.now ++ more) ≡ false }
+    ensures names { OnOk result (
+        names_seen registers.new.keys ≡ names_seen registers.old.keys ++ names_seen names.now) }
+    ensures differ { OnOk result (
+        Meaning.all_differ (names_seen registers.new.keys) ≡ Meaning.all_differ (names_seen registers.old.keys)) }
+    ensures not_built { result ≡ Err FirstFault.NotBuilt → (more : List (List ℕ)) →
+        Meaning.all_differ (names_seen registers.old.keys ++ names_seen names.now ++ more) ≡ false }
 {
     for name in names {
         let (_, is_new) = registers.insert_full(*name)?;
@@ -65,8 +71,12 @@ fn blocks(
     items: &[Item<'_>],
     registers: &IndexSet<&[u8]>,
 ) -> Result<Vec<Sequence<FirstCode>>, FirstFault>
-    ensures built { IfOk result (λ found. Meaning.each (Meaning.each (Meaning.code_of (names_seen registers.now.keys))) (flat_map Meaning.blocks_in (items_seen items.now)) ≡ Some found.items) }
-    ensures not_built { result ≡ Err FirstFault.NotBuilt → Meaning.each (Meaning.each (Meaning.code_of (names_seen registers.now.keys))) (flat_map Meaning.blocks_in (items_seen items.now)) ≡ None }
+    ensures built { IfOk result (λ found.
+        Meaning.each (Meaning.each (Meaning.code_of (names_seen registers.now.keys)))
+        (flat_map Meaning.blocks_in (items_seen items.now)) ≡ Some found.items) }
+    ensures not_built { result ≡ Err FirstFault.NotBuilt →
+        Meaning.each (Meaning.each (Meaning.code_of (names_seen registers.now.keys)))
+        (flat_map Meaning.blocks_in (items_seen items.now)) ≡ None }
 {
     let mut found = Vec::new(alloc);
     for item in items {
@@ -84,8 +94,10 @@ fn code(
     steps: &[Step<'_>],
     registers: &IndexSet<&[u8]>,
 ) -> Result<Vec<FirstCode>, FirstFault>
-    ensures built { IfOk result (λ found. Meaning.each (Meaning.code_of (names_seen registers.now.keys)) (steps_seen steps.now) ≡ Some found.items) }
-    ensures not_built { result ≡ Err FirstFault.NotBuilt → Meaning.each (Meaning.code_of (names_seen registers.now.keys)) (steps_seen steps.now) ≡ None }
+    ensures built { IfOk result (λ found.
+        Meaning.each (Meaning.code_of (names_seen registers.now.keys)) (steps_seen steps.now) ≡ Some found.items) }
+    ensures not_built { result ≡ Err FirstFault.NotBuilt →
+        Meaning.each (Meaning.code_of (names_seen registers.now.keys)) (steps_seen steps.now) ≡ None }
 {
     let mut found = Vec::new(alloc);
     for step in steps {
@@ -100,8 +112,10 @@ fn code_of(
     step: &Step<'_>,
     registers: &IndexSet<&[u8]>,
 ) -> Result<FirstCode, FirstFault>
-    ensures built { IfOk result (λ code. Meaning.code_of (names_seen registers.now.keys) (step_seen step.now) ≡ Some code) }
-    ensures not_built { result ≡ Err FirstFault.NotBuilt → Meaning.code_of (names_seen registers.now.keys) (step_seen step.now) ≡ None }
+    ensures built { IfOk result (λ code.
+        Meaning.code_of (names_seen registers.now.keys) (step_seen step.now) ≡ Some code) }
+    ensures not_built { result ≡ Err FirstFault.NotBuilt →
+        Meaning.code_of (names_seen registers.now.keys) (step_seen step.now) ≡ None }
 {
     match step {
         Step::Wait(delay) => Ok(FirstCode::Wait(*delay)),
@@ -116,8 +130,10 @@ fn code_of(
 
 // The number of a register.
 fn number(registers: &IndexSet<&[u8]>, name: &[u8]) -> Result<u32, FirstFault>
-    ensures built { IfOk result (λ number. position (bytes_eq name.now) (names_seen registers.now.keys) ≡ Some number) }
-    ensures not_built { result ≡ Err FirstFault.NotBuilt → position (bytes_eq name.now) (names_seen registers.now.keys) ≡ None }
+    ensures built { IfOk result (λ number.
+        position (bytes_eq name.now) (names_seen registers.now.keys) ≡ Some number) }
+    ensures not_built { result ≡ Err FirstFault.NotBuilt →
+        position (bytes_eq name.now) (names_seen registers.now.keys) ≡ None }
 {
     match registers.get_index_of(name) {
         Some(index) if index <= u32::MAX as usize => Ok(index as u32),

@@ -1,8 +1,8 @@
 ghost use Rattle.std.specs.Prelude.{◌≡◌, ◌<◌, length, codes, Some, None, IfOk};
-ghost use Rattle.vh_grammar.specs.Reading.{next_is, token_of, reader, read};
+ghost use Rattle.vh_grammar.specs.Reading.{reader};
 ghost use Rattle.vh_parse.specs.Grammar;
 ghost use Rattle.vh_parse.specs.Meaning;
-ghost use Rattle.vh_parse.specs.Seen.{tokens_seen, steps_seen, module_seen, item_seen, items_seen, names_seen, Says, Passes, Adds, IsShorter, IsShorterBeside};
+ghost use Rattle.vh_parse.specs.Seen.{tokens_seen, steps_seen, module_seen, item_seen, names_seen, Adds, ReadsPart, AddsPart, TakesToken, TakesMeaning, token_is_next, IsShorter, IsShorterBeside};
 
 use crate::fault::FirstFault;
 use crate::token::Token;
@@ -17,8 +17,10 @@ const LEVELS: usize = 200;
 /// The module that the tokens spell, all of them.
 #[tactic(auto, unfolding(crate::specs::Grammar::module_of))]
 pub fn source<'a>(alloc: Global, tokens: &[Token<'a>]) -> Result<Module<'a>, FirstFault>
-    ensures module { IfOk result (λ m. Meaning.tree_of (Grammar.module_of (tokens_seen tokens.now)) ≡ Some (module_seen m)) }
-    ensures not_built { result ≡ Err FirstFault.NotBuilt → Meaning.tree_of (Grammar.module_of (tokens_seen tokens.now)) ≡ None }
+    ensures module { IfOk result (λ found.
+        Meaning.tree_of (Grammar.module_of (tokens_seen tokens.now)) ≡ Some (module_seen found)) }
+    ensures not_built { result ≡ Err FirstFault.NotBuilt →
+        Meaning.tree_of (Grammar.module_of (tokens_seen tokens.now)) ≡ None }
 {
     let (module, rest) = module(alloc, LEVELS, tokens)?;
     if rest.is_empty() {
@@ -35,7 +37,7 @@ fn module<'t, 'a>(
     levels: usize,
     tokens: &'t [Token<'a>],
 ) -> Result<(Module<'a>, &'t [Token<'a>]), Stop>
-    ensures { Says module_seen (read Grammar.grammar levels Grammar.first (tokens_seen tokens.now)) result }
+    ensures { ReadsPart module_seen levels Grammar.first tokens.now result }
 {
     let head = word(tokens, b"module")?;
     let (name, named) = name(head)?;
@@ -57,7 +59,7 @@ fn item<'t, 'a>(
     levels: usize,
     tokens: &'t [Token<'a>],
 ) -> Result<(Item<'a>, &'t [Token<'a>]), Stop>
-    ensures item { Says item_seen (read Grammar.grammar levels Grammar.item (tokens_seen tokens.now)) result }
+    ensures item { ReadsPart item_seen levels Grammar.item tokens.now result }
     ensures shorter { IsShorterBeside tokens.now result }
 {
     if word_is_next(tokens, b"reg") {
@@ -74,7 +76,7 @@ fn declaration<'t, 'a>(
     levels: usize,
     tokens: &'t [Token<'a>],
 ) -> Result<(Item<'a>, &'t [Token<'a>]), Stop>
-    ensures item { Says item_seen (read Grammar.grammar levels Grammar.declaration (tokens_seen tokens.now)) result }
+    ensures item { ReadsPart item_seen levels Grammar.declaration tokens.now result }
     ensures shorter { IsShorterBeside tokens.now result }
 {
     let first = word(tokens, b"reg")?;
@@ -90,7 +92,7 @@ fn names<'t, 'a>(
     levels: usize,
     tokens: &'t [Token<'a>],
 ) -> Result<(Vec<&'a [u8]>, &'t [Token<'a>]), Stop>
-    ensures names { Says (λ names. names_seen names.items) (read Grammar.grammar levels Grammar.names (tokens_seen tokens.now)) result }
+    ensures names { ReadsPart (λ names. names_seen names.items) levels Grammar.names tokens.now result }
     ensures shorter { IsShorterBeside tokens.now result }
 {
     let mut found = Vec::new(alloc);
@@ -112,7 +114,7 @@ fn initial_construct<'t, 'a>(
     levels: usize,
     tokens: &'t [Token<'a>],
 ) -> Result<(Item<'a>, &'t [Token<'a>]), Stop>
-    ensures item { Says item_seen (read Grammar.grammar levels Grammar.initial_construct (tokens_seen tokens.now)) result }
+    ensures item { ReadsPart item_seen levels Grammar.initial_construct tokens.now result }
     ensures shorter { IsShorterBeside tokens.now result }
 {
     let body = word(tokens, b"initial")?;
@@ -128,7 +130,8 @@ fn nested_statement<'t, 'a>(
     tokens: &'t [Token<'a>],
     steps: &mut Vec<Step<'a>>,
 ) -> Result<&'t [Token<'a>], Stop>
-    ensures steps { Adds (steps_seen steps.old.items) (steps_seen steps.new.items) (reader Grammar.grammar levels Grammar.Production.statement (tokens_seen tokens.now)) result }
+    ensures steps { Adds (steps_seen steps.old.items) (steps_seen steps.new.items)
+        (reader Grammar.grammar levels Grammar.Production.statement (tokens_seen tokens.now)) result }
     ensures shorter { IsShorter tokens.now result }
 {
     if levels > 0 {
@@ -148,7 +151,7 @@ fn statement<'t, 'a>(
     tokens: &'t [Token<'a>],
     steps: &mut Vec<Step<'a>>,
 ) -> Result<&'t [Token<'a>], Stop>
-    ensures steps { Adds (steps_seen steps.old.items) (steps_seen steps.new.items) (read Grammar.grammar levels Grammar.any_statement (tokens_seen tokens.now)) result }
+    ensures steps { AddsPart levels Grammar.any_statement steps.old.items steps.new.items tokens.now result }
     ensures shorter { IsShorter tokens.now result }
 {
     if mark_is_next(tokens, b';') {
@@ -173,7 +176,7 @@ fn null_statement<'t, 'a>(
     tokens: &'t [Token<'a>],
     steps: &mut Vec<Step<'a>>,
 ) -> Result<&'t [Token<'a>], Stop>
-    ensures steps { Adds (steps_seen steps.old.items) (steps_seen steps.new.items) (read Grammar.grammar levels Grammar.null_statement (tokens_seen tokens.now)) result }
+    ensures steps { AddsPart levels Grammar.null_statement steps.old.items steps.new.items tokens.now result }
     ensures shorter { IsShorter tokens.now result }
 {
     mark(tokens, b';')
@@ -187,7 +190,7 @@ fn delayed_statement<'t, 'a>(
     tokens: &'t [Token<'a>],
     steps: &mut Vec<Step<'a>>,
 ) -> Result<&'t [Token<'a>], Stop>
-    ensures steps { Adds (steps_seen steps.old.items) (steps_seen steps.new.items) (read Grammar.grammar levels Grammar.delayed_statement (tokens_seen tokens.now)) result }
+    ensures steps { AddsPart levels Grammar.delayed_statement steps.old.items steps.new.items tokens.now result }
     ensures shorter { IsShorter tokens.now result }
 {
     let number = mark(tokens, b'#')?;
@@ -203,7 +206,7 @@ fn assignment<'t, 'a>(
     tokens: &'t [Token<'a>],
     steps: &mut Vec<Step<'a>>,
 ) -> Result<&'t [Token<'a>], Stop>
-    ensures steps { Adds (steps_seen steps.old.items) (steps_seen steps.new.items) (read Grammar.grammar levels Grammar.assignment (tokens_seen tokens.now)) result }
+    ensures steps { AddsPart levels Grammar.assignment steps.old.items steps.new.items tokens.now result }
     ensures shorter { IsShorter tokens.now result }
 {
     let (target, equals) = name(tokens)?;
@@ -221,7 +224,7 @@ fn display<'t, 'a>(
     tokens: &'t [Token<'a>],
     steps: &mut Vec<Step<'a>>,
 ) -> Result<&'t [Token<'a>], Stop>
-    ensures steps { Adds (steps_seen steps.old.items) (steps_seen steps.new.items) (read Grammar.grammar levels Grammar.display (tokens_seen tokens.now)) result }
+    ensures steps { AddsPart levels Grammar.display steps.old.items steps.new.items tokens.now result }
     ensures shorter { IsShorter tokens.now result }
 {
     let open = system(tokens, b"$display")?;
@@ -240,7 +243,7 @@ fn finishing<'t, 'a>(
     tokens: &'t [Token<'a>],
     steps: &mut Vec<Step<'a>>,
 ) -> Result<&'t [Token<'a>], Stop>
-    ensures steps { Adds (steps_seen steps.old.items) (steps_seen steps.new.items) (read Grammar.grammar levels Grammar.finishing (tokens_seen tokens.now)) result }
+    ensures steps { AddsPart levels Grammar.finishing steps.old.items steps.new.items tokens.now result }
     ensures shorter { IsShorter tokens.now result }
 {
     let end = system(tokens, b"$finish")?;
@@ -257,7 +260,7 @@ fn sequence<'t, 'a>(
     tokens: &'t [Token<'a>],
     steps: &mut Vec<Step<'a>>,
 ) -> Result<&'t [Token<'a>], Stop>
-    ensures steps { Adds (steps_seen steps.old.items) (steps_seen steps.new.items) (read Grammar.grammar levels Grammar.sequence (tokens_seen tokens.now)) result }
+    ensures steps { AddsPart levels Grammar.sequence steps.old.items steps.new.items tokens.now result }
     ensures shorter { IsShorter tokens.now result }
 {
     let mut rest = word(tokens, b"begin")?;
@@ -269,14 +272,14 @@ fn sequence<'t, 'a>(
 
 // A token with which an item begins is next.
 fn item_is_next(tokens: &[Token<'_>]) -> bool
-    ensures { result ≡ next_is Grammar.begins_item (tokens_seen tokens.now) }
+    ensures { result ≡ token_is_next Grammar.begins_item tokens.now }
 {
     word_is_next(tokens, b"reg") || word_is_next(tokens, b"initial")
 }
 
 // A token with which a statement begins is next.
 fn statement_is_next(tokens: &[Token<'_>]) -> bool
-    ensures { result ≡ next_is Grammar.begins_statement (tokens_seen tokens.now) }
+    ensures { result ≡ token_is_next Grammar.begins_statement tokens.now }
 {
     mark_is_next(tokens, b';')
         || mark_is_next(tokens, b'#')
@@ -288,7 +291,7 @@ fn statement_is_next(tokens: &[Token<'_>]) -> bool
 
 // Takes the reserved word.
 fn word<'t, 'a>(tokens: &'t [Token<'a>], spelling: &[u8]) -> Result<&'t [Token<'a>], Stop>
-    ensures word { Passes (token_of (Grammar.only (Grammar.is_word spelling.now)) (tokens_seen tokens.now)) result }
+    ensures word { TakesToken (Grammar.is_word spelling.now) tokens.now result }
     ensures shorter { IsShorter tokens.now result }
 {
     match tokens {
@@ -299,7 +302,7 @@ fn word<'t, 'a>(tokens: &'t [Token<'a>], spelling: &[u8]) -> Result<&'t [Token<'
 
 // The reserved word is next.
 fn word_is_next(tokens: &[Token<'_>], spelling: &[u8]) -> bool
-    ensures { result ≡ next_is (Grammar.is_word spelling.now) (tokens_seen tokens.now) }
+    ensures { result ≡ token_is_next (Grammar.is_word spelling.now) tokens.now }
 {
     match tokens {
         [Token::Word(found), ..] => *found == spelling,
@@ -309,7 +312,7 @@ fn word_is_next(tokens: &[Token<'_>], spelling: &[u8]) -> bool
 
 // Takes the system name.
 fn system<'t, 'a>(tokens: &'t [Token<'a>], spelling: &[u8]) -> Result<&'t [Token<'a>], Stop>
-    ensures system { Passes (token_of (Grammar.only (Grammar.is_system spelling.now)) (tokens_seen tokens.now)) result }
+    ensures system { TakesToken (Grammar.is_system spelling.now) tokens.now result }
     ensures shorter { IsShorter tokens.now result }
 {
     match tokens {
@@ -320,7 +323,7 @@ fn system<'t, 'a>(tokens: &'t [Token<'a>], spelling: &[u8]) -> Result<&'t [Token
 
 // The system name is next.
 fn system_is_next(tokens: &[Token<'_>], spelling: &[u8]) -> bool
-    ensures { result ≡ next_is (Grammar.is_system spelling.now) (tokens_seen tokens.now) }
+    ensures { result ≡ token_is_next (Grammar.is_system spelling.now) tokens.now }
 {
     match tokens {
         [Token::System(found), ..] => *found == spelling,
@@ -330,7 +333,7 @@ fn system_is_next(tokens: &[Token<'_>], spelling: &[u8]) -> bool
 
 // Takes the mark.
 fn mark<'t, 'a>(tokens: &'t [Token<'a>], byte: u8) -> Result<&'t [Token<'a>], Stop>
-    ensures mark { Passes (token_of (Grammar.only (Grammar.is_mark byte)) (tokens_seen tokens.now)) result }
+    ensures mark { TakesToken (Grammar.is_mark byte) tokens.now result }
     ensures shorter { IsShorter tokens.now result }
 {
     match tokens {
@@ -341,7 +344,7 @@ fn mark<'t, 'a>(tokens: &'t [Token<'a>], byte: u8) -> Result<&'t [Token<'a>], St
 
 // The mark is next.
 fn mark_is_next(tokens: &[Token<'_>], byte: u8) -> bool
-    ensures { result ≡ next_is (Grammar.is_mark byte) (tokens_seen tokens.now) }
+    ensures { result ≡ token_is_next (Grammar.is_mark byte) tokens.now }
 {
     match tokens {
         [Token::Mark(found), ..] => *found == byte,
@@ -351,7 +354,7 @@ fn mark_is_next(tokens: &[Token<'_>], byte: u8) -> bool
 
 // Takes a name.
 fn name<'t, 'a>(tokens: &'t [Token<'a>]) -> Result<(&'a [u8], &'t [Token<'a>]), Stop>
-    ensures name { Says (λ found. found.now) (token_of Grammar.name_in (tokens_seen tokens.now)) result }
+    ensures name { TakesMeaning (λ found. found.now) Grammar.name_in tokens.now result }
     ensures shorter { IsShorterBeside tokens.now result }
 {
     match tokens {
@@ -362,14 +365,14 @@ fn name<'t, 'a>(tokens: &'t [Token<'a>]) -> Result<(&'a [u8], &'t [Token<'a>]), 
 
 // A name is next.
 fn name_is_next(tokens: &[Token<'_>]) -> bool
-    ensures { result ≡ next_is Grammar.is_name (tokens_seen tokens.now) }
+    ensures { result ≡ token_is_next Grammar.is_name tokens.now }
 {
     matches!(tokens, [Token::Name(_), ..])
 }
 
 // Takes a string.
 fn text<'t, 'a>(tokens: &'t [Token<'a>]) -> Result<(&'a [u8], &'t [Token<'a>]), Stop>
-    ensures text { Says (λ found. found.now) (token_of Grammar.text_in (tokens_seen tokens.now)) result }
+    ensures text { TakesMeaning (λ found. found.now) Grammar.text_in tokens.now result }
     ensures shorter { IsShorterBeside tokens.now result }
 {
     match tokens {
@@ -380,7 +383,7 @@ fn text<'t, 'a>(tokens: &'t [Token<'a>]) -> Result<(&'a [u8], &'t [Token<'a>]), 
 
 // Takes a digit of a register.
 fn bit<'t, 'a>(tokens: &'t [Token<'a>]) -> Result<(FirstBit, &'t [Token<'a>]), Stop>
-    ensures bit { Says (λ found. found) (token_of Grammar.bit_in (tokens_seen tokens.now)) result }
+    ensures bit { TakesMeaning (λ found. found) Grammar.bit_in tokens.now result }
     ensures shorter { IsShorterBeside tokens.now result }
 {
     match tokens {
@@ -397,7 +400,7 @@ fn bit<'t, 'a>(tokens: &'t [Token<'a>]) -> Result<(FirstBit, &'t [Token<'a>]), S
 
 // Takes a delay.
 fn delay<'t, 'a>(tokens: &'t [Token<'a>]) -> Result<(u32, &'t [Token<'a>]), Stop>
-    ensures delay { Says (λ found. found) (token_of Grammar.delay_in (tokens_seen tokens.now)) result }
+    ensures delay { TakesMeaning (λ found. found) Grammar.delay_in tokens.now result }
     ensures shorter { IsShorterBeside tokens.now result }
 {
     match tokens {

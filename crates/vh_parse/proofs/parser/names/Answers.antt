@@ -12,7 +12,7 @@ names-init c =
 pub names-preserved : goal.names-preserved
 names-preserved c = (
   rw (c.in_ok-push-2.ensures.items, map_push (λ name. name.now) c.names.found.items c.in_ok-next.next)
-      (c.names.invariant.0 ∙ names-go (names_seen c.names.found.items) c.in_ok-next.next.now (tokens_seen c.names.rest.now) (tokens_seen c.in_ok-separated.separated.now) (tokens_seen c.in_ok-next.after.now) (sym c.mark_is_next.ensures ∙ c.names-test.true) c.in_ok-separated.ensures.mark c.in_ok-next.ensures.name),
+      (c.names.invariant.0 ∙ names-go c.args.levels (names_seen c.names.found.items) c.in_ok-next.next.now (tokens_seen c.names.rest.now) (tokens_seen c.in_ok-separated.separated.now) (tokens_seen c.in_ok-next.after.now) (sym c.mark_is_next.ensures ∙ c.names-test.true) c.in_ok-separated.ensures.mark c.in_ok-next.ensures.name),
   omega (arith, c.in_ok-next.ensures.shorter, c.in_ok-separated.ensures.shorter, c.names.invariant.1),
 )
 

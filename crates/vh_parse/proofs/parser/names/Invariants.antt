@@ -1,14 +1,13 @@
 use Rattle.std.proofs.Common.{◌≡◌, ◌<◌, length}
-use Rattle.vh_grammar.specs.Reading.{read}
+use Rattle.vh_grammar.specs.Reading.{read, joined}
 use Rattle.vh_parse.specs.Grammar.{grammar, names}
 use Rattle.vh_parse.specs.Seen.{tokens_seen, names_seen}
-use Rattle.vh_parse.proofs.Turns.{gathered}
 use Rattle.vh_parse.proofs.Loops.{more_names}
 use Rattle.vh_parse.proofs.parser.names.Given as goal
 
 abbrev pub invariant-names : goal.invariant-names
 invariant-names l =
-    (read grammar l.levels names (tokens_seen l.fn.tokens) ≡ gathered (names_seen l.found.items) (more_names (tokens_seen l.rest))) × (length l.rest < length l.fn.tokens)
+    (read grammar l.levels names (tokens_seen l.fn.tokens) ≡ joined (names_seen l.found.items) (read grammar l.levels more_names (tokens_seen l.rest))) × (length l.rest < length l.fn.tokens)
 
 abbrev pub decreases-names : goal.decreases-names
 decreases-names l = length l.rest
