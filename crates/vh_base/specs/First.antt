@@ -1,5 +1,5 @@
 -- Designs of the first subset. (own)
-use Rattle.std.specs.Prelude.{ℕ, List, Bool, true, nat_lt, length}
+use Rattle.std.specs.Prelude.{ℕ, Bool, true, nat_lt, length}
 use Rattle.std.specs.List.{list_all}
 use Rattle.vh_base.specs.declared.first.First.{First}
 use Rattle.vh_base.specs.declared.first.FirstCode.{FirstCode}

@@ -1,5 +1,5 @@
 -- The text of a run, label by label.
-use Rattle.std.proofs.Common.{◌≡◌, ℕ, suc, ◌+◌, ◌-◌, ◌<◌, List, [], ◌∷◌, ◌++◌, Bool, true, false, cond, refl, sym, ap, subst, ◌∙◌, append_assoc, append-nil, arith}
+use Rattle.std.proofs.Common.{◌≡◌, ℕ, suc, ◌+◌, ◌-◌, ◌<◌, List, [], ◌++◌, Bool, true, false, cond, sym, ap, ◌∙◌, append_assoc, append-nil, arith}
 use Rattle.vh_kernel.specs.declared.label.Label.{Label}
 use Rattle.vh_kernel.specs.State.{State}
 use Rattle.vh_kernel.specs.Step.{Move}

@@ -1,6 +1,5 @@
 -- From turns to runs: a run that hasn't ended goes on by one label.
-use Rattle.std.proofs.Common.{◌≡◌, ◌≢◌, ℕ, ◌+◌, ◌<◌, ◌≤◌, List, [], ◌∷◌, ◌++◌, length, take, Bool, true, false, not, ◌&&◌, Option, Some, None, refl, ap, sym, subst, ◌∙◌, append_assoc, append-nil, arith, length-append}
-use Rattle.std.specs.List.{flat_map, list_all}
+use Rattle.std.proofs.Common.{◌≡◌, ◌≢◌, ℕ, ◌+◌, ◌<◌, List, [], ◌∷◌, ◌++◌, length, take, true, false, Option, Some, None, refl, ap, sym, subst, ◌∙◌, append_assoc, append-nil, arith, length-append}
 use Rattle.std.proofs.Math.Seq.{take-append-add}
 use Rattle.vh_base.specs.Outside.{appended, AppendsFront}
 use Rattle.vh_kernel.specs.declared.label.Ending.{Ending}
@@ -13,7 +12,7 @@ use Rattle.vh_kernel.specs.Run.{fifo, move_from, IsRun, is_end, line_of_move, te
 use Rattle.vh_host.specs.declared.status.Status.{Status}
 use Rattle.vh_host.specs.declared.status.Status.TheVariants as status
 use Rattle.vh_host.specs.Turn.{Turned, TurnsTo}
-use Rattle.vh_host.specs.Transcript.{none_ends, WroteEnded, WroteFront, WroteBudget, Wrote}
+use Rattle.vh_host.specs.Transcript.{none_ends, WroteEnded, WroteFront, Wrote}
 use Rattle.vh_host.proofs.Appended.{appended_twice, appended_nothing}
 
 -- From a state the machine makes these labels, none of them an end, and comes to another state.

@@ -1,17 +1,13 @@
 -- How a call's answer follows from the verdict.
-use Rattle.std.proofs.Common.{◌≡◌, ◌≢◌, ℕ, ◌+◌, ◌<◌, ◌≤◌, ◌++◌, List, [], ◌∷◌, length, take, Bool, true, false, Option, Some, None, nat_lt, refl, sym, ap, subst, ◌∙◌, arith, ◌⊎◌, inl, inr}
+use Rattle.std.proofs.Common.{◌≡◌, ℕ, ◌+◌, ◌<◌, ◌≤◌, List, [], ◌∷◌, length, take, Bool, true, false, Option, Some, None, nat_lt, refl, sym, ap, subst, ◌∙◌, arith, inl, inr}
 use Rattle.std.proofs.lemmas.Bool.{ltb-true, lt-ltb, ltb-false}
 use Rattle.std.proofs.lemmas.List.{take_all, length-take-le}
-use Rattle.vh_base.specs.declared.first.First.{First}
 use Rattle.vh_base.specs.Outside.{IsAnswered, appended}
-use Rattle.vh_kernel.specs.Run.{fifo}
-use Rattle.vh_kernel.specs.State.{opening}
 use Rattle.vh_host.specs.declared.status.Status.{Status}
 use Rattle.vh_host.specs.declared.status.Status.TheVariants as status
 use Rattle.vh_host.specs.Words.{Reading, reading, files_of, numbered, file_word}
 use Rattle.vh_host.specs.Acceptance.{Verdict, accepts, refuses, by_reading, by_length, verdict, design_limit}
-use Rattle.vh_host.specs.Headline.{Holds, IsCutShort, Answers, AnswersWith, WasAnswered, Accounts, Transcribes, Refuses, Exactly, default_budget}
-use Rattle.vh_host.specs.Transcript.{Wrote}
+use Rattle.vh_host.specs.Headline.{Holds, AnswersWith, Accounts, Transcribes, Refuses}
 use Rattle.vh_host.proofs.Appended.{appended_nothing}
 
 -- Want of memory before the run begins, on any verdict.

@@ -1,12 +1,12 @@
 -- The headline: what `run` writes is exactly the text of a run of the machine.
-use Rattle.std.specs.Prelude.{◌≡◌, ◌≢◌, ℕ, ◌+◌, ◌≤◌, ◌++◌, List, [], ◌∷◌, length, Option, Some, None, ◌⊎◌, slice_get}
+use Rattle.std.specs.Prelude.{◌≡◌, ℕ, ◌++◌, List, [], Option, Some, ◌⊎◌}
 use Rattle.vh_base.specs.declared.first.First.{First}
 use Rattle.vh_base.specs.Outside.{IsAnswered, appended}
 use Rattle.vh_kernel.specs.Run.{fifo, moves_of, text_of}
 use Rattle.vh_kernel.specs.State.{opening}
 use Rattle.vh_host.specs.declared.status.Status.{Status}
 use Rattle.vh_host.specs.declared.status.Status.TheVariants as status
-use Rattle.vh_host.specs.Words.{Reading, reading, file_word}
+use Rattle.vh_host.specs.Words.{file_word}
 use Rattle.vh_host.specs.Acceptance.{Verdict, accepts, refuses, verdict, design_limit}
 use Rattle.vh_host.specs.Transcript.{Wrote}
 

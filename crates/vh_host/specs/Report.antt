@@ -1,14 +1,12 @@
 -- What is told of a status: a line, and the exit number. (own)
 use Rattle.std.specs.Prelude.{ℕ, ◌++◌, List, [], unwrap_or, codes}
 use Rattle.std.specs.Fmt.{decimal}
-use Rattle.vh_base.specs.declared.faults.Cause.{Cause}
 use Rattle.vh_base.specs.declared.faults.DesignFault.{DesignFault}
 use Rattle.vh_base.specs.declared.faults.DesignFault.TheVariants as design
 use Rattle.vh_base.specs.declared.faults.AppFault.{AppFault}
 use Rattle.vh_base.specs.declared.faults.AppFault.TheVariants as app
 use Rattle.vh_base.specs.declared.faults.Fault.{Fault}
 use Rattle.vh_base.specs.declared.faults.Fault.TheVariants as fault
-use Rattle.vh_base.specs.declared.place.Place.{Place}
 use Rattle.vh_host.specs.declared.status.Status.{Status}
 use Rattle.vh_host.specs.declared.status.Status.TheVariants as status
 use Rattle.vh_host.specs.Words.{file_word}

@@ -1,10 +1,8 @@
 -- What is written of a run, by the status that the call answers.
-use Rattle.std.specs.Prelude.{◌≡◌, ℕ, ◌+◌, ◌<◌, ◌≤◌, ◌++◌, List, [], ◌∷◌, length, take, Bool, true, false, not, ◌&&◌, Option}
+use Rattle.std.specs.Prelude.{◌≡◌, ℕ, ◌<◌, ◌≤◌, ◌++◌, List, [], ◌∷◌, length, take, Bool, true, not}
 use Rattle.std.specs.List.{list_all}
-use Rattle.vh_base.specs.Outside.{appended}
 use Rattle.vh_kernel.specs.declared.label.Ending.{Ending}
 use Rattle.vh_kernel.specs.declared.label.Ending.TheVariants as ending
-use Rattle.vh_kernel.specs.declared.label.Label.{Label}
 use Rattle.vh_kernel.specs.declared.label.Label.TheVariants as label
 use Rattle.vh_kernel.specs.State.{State}
 use Rattle.vh_kernel.specs.Step.{Move}

@@ -1,5 +1,5 @@
 -- The words of the command line. (own)
-use Rattle.std.specs.Prelude.{ℕ, suc, zero, List, [], ◌∷◌, Bool, ◌&&◌, not, cond, Option, Some, None, bytes_eq, nat_eq, codes, map, slice_get, string_bytes, Vec, String}
+use Rattle.std.specs.Prelude.{ℕ, suc, zero, List, [], ◌∷◌, Bool, ◌&&◌, not, cond, Option, Some, None, bytes_eq, nat_eq, codes, map, slice_get, string_bytes, String}
 use Rattle.std.specs.List.{ends_with, starts_with}
 use Rattle.std.specs.declared.alloc.Global.{Global}
 

@@ -1,5 +1,5 @@
 -- After a label that is no end the machine has a step to make.
-use Rattle.std.proofs.Common.{◌≡◌, ◌<◌, ◌≤◌, ℕ, Bool, true, false, max, length, Option, Some, None, slice_get, arith, List, nat_lt, ◌+◌, refl, sym, subst}
+use Rattle.std.proofs.Common.{◌≡◌, ◌<◌, ℕ, Bool, true, false, Option, Some, None, slice_get, arith, nat_lt, ◌+◌, refl, sym, subst}
 use Rattle.vh_base.specs.declared.first.FirstCode.{FirstCode}
 use Rattle.vh_base.specs.declared.first.FirstCode.TheVariants as code
 use Rattle.vh_kernel.specs.declared.control.Control.{Control}

@@ -16,14 +16,14 @@ design regs blocks = record { name = codes "top"; regs = regs; blocks = blocks }
 -- module top; reg a; initial begin a = 1; #3 $display("hi"); $finish; end endmodule
 says_hi : text_of (moves_of fifo 100 (opening (design (codes "a" ∷ [])
     ((code.Assign 0 bit.One ∷ code.Wait 3 ∷ code.Show (codes "hi") ∷ code.Finish ∷ []) ∷ []))))
-  ≡ codes "3 out \"hi\\n\"\n3 end finish\n"
+    ≡ codes "3 out \"hi\\n\"\n3 end finish\n"
 unfolding design digits
 says_hi = refl
 
 -- module top; initial #2 $display("b"); initial #1 $display("a"); endmodule
 by_time : text_of (moves_of fifo 100 (opening (design []
     ((code.Wait 2 ∷ code.Show (codes "b") ∷ []) ∷ (code.Wait 1 ∷ code.Show (codes "a") ∷ []) ∷ []))))
-  ≡ codes "1 out \"a\\n\"\n2 out \"b\\n\"\n2 end none\n"
+    ≡ codes "1 out \"a\\n\"\n2 out \"b\\n\"\n2 end none\n"
 unfolding design digits
 by_time = refl
 
@@ -43,6 +43,6 @@ unfolding design
 ten_labels = refl
 
 finishes_at_two : text_of (moves_of fifo 100 (opening (design [] ((code.Wait 1 ∷ code.Wait 1 ∷ code.Finish ∷ []) ∷ []))))
-  ≡ codes "2 end finish\n"
+    ≡ codes "2 end finish\n"
 unfolding design digits
 finishes_at_two = refl

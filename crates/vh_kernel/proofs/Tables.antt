@@ -1,9 +1,8 @@
 -- The step and its table are one: proofs of the laws.
-use Rattle.std.proofs.Common.{◌≡◌, ℕ, ◌+◌, ◌<◌, ◌≤◌, List, [], ◌∷◌, ◌++◌, length, max, zero, suc, Bool, true, false, cond, not, Option, Some, None, slice_get, filter, map, nat_lt, nat_eq, refl, sym, ap, subst, ◌∙◌, arith, ◌⊎◌, inl, inr, get_or}
+use Rattle.std.proofs.Common.{◌≡◌, ℕ, ◌+◌, ◌<◌, ◌≤◌, List, [], ◌∷◌, ◌++◌, length, max, zero, suc, Bool, true, false, cond, not, Option, Some, None, slice_get, filter, nat_lt, nat_eq, refl, sym, ap, subst, ◌∙◌, arith, inl, inr, get_or}
 use Rattle.std.proofs.lemmas.Bool.{ltb-true, ltb-false, lt-ltb}
 use Rattle.std.proofs.lemmas.Option.{slice_get-get_or, slice_get_within}
 use Rattle.vh_base.specs.declared.faults.Cause.{Cause}
-use Rattle.vh_base.specs.declared.faults.Cause.TheVariants as cause
 use Rattle.vh_base.specs.declared.faults.Fault.{Fault}
 use Rattle.vh_base.specs.declared.faults.Fault.TheVariants as fault
 use Rattle.vh_base.specs.declared.first.FirstCode.{FirstCode}
@@ -13,7 +12,6 @@ use Rattle.vh_kernel.specs.declared.control.Control.TheVariants as top
 use Rattle.vh_kernel.specs.declared.events.Entry.{Entry}
 use Rattle.vh_kernel.specs.declared.events.Work.{Work}
 use Rattle.vh_kernel.specs.declared.events.Work.TheVariants as work
-use Rattle.vh_kernel.specs.declared.label.Ending.{Ending}
 use Rattle.vh_kernel.specs.declared.label.Ending.TheVariants as ending
 use Rattle.vh_kernel.specs.declared.label.Label.{Label}
 use Rattle.vh_kernel.specs.declared.label.Label.TheVariants as label
@@ -22,10 +20,10 @@ use Rattle.vh_kernel.specs.declared.label.Region.TheVariants as region
 use Rattle.vh_kernel.specs.declared.phase.Phase.{Phase}
 use Rattle.vh_kernel.specs.declared.phase.Phase.TheVariants as phase
 use Rattle.vh_kernel.specs.Entry.{is_ripe, is_due}
-use Rattle.vh_kernel.specs.Events.{Events, any_due, eligible, without, without_serial, added, is_full, next_region, activated, activated_of, activated_entry, least_time, advanced, emptied, evaluations}
+use Rattle.vh_kernel.specs.Events.{any_due, eligible, without, is_full, next_region, activated, activated_of, activated_entry, least_time, advanced, emptied, evaluations}
 use Rattle.vh_kernel.specs.State.{State}
-use Rattle.vh_kernel.specs.Step.{Move, finished, rest_of, next_of, went_on, popped, waited, delayed, showed, performed, later, quiet, worked, picked, by_top, is_crowded, by_room, by_phase, step_of, top_choices, room_choices, phase_choices, choices_of}
-use Rattle.vh_kernel.specs.Table.{HasTop, IsIdle, WaitsNext, Exceeds, FinishIsDue, Step, Rises, IsSound, StepsByTable, TableBySteps, StaysSound, OneStateAfter, OpensSound}
+use Rattle.vh_kernel.specs.Step.{Move, finished, next_of, waited, delayed, performed, later, quiet, worked, picked, by_top, is_crowded, by_room, by_phase, step_of, top_choices, room_choices, phase_choices, choices_of}
+use Rattle.vh_kernel.specs.Table.{HasTop, IsIdle, WaitsNext, Step, Rises, IsSound, StepsByTable, TableBySteps, StaysSound, OneStateAfter, OpensSound}
 
 abbrev Fits : State → Move → Type 0
 Fits s m = Step s m.0 m.1

@@ -44,7 +44,7 @@ IsRun order s (m ∷ moves) =
 abbrev pub moves_of : Chooser → ℕ → State → List Move
 moves_of order zero s = []
 moves_of order (suc n) s =
-  move_from order s ∷ cond (is_end (move_from order s).0) [] (moves_of (chooser_after order (choices_of s)) n (move_from order s).1)
+    move_from order s ∷ cond (is_end (move_from order s).0) [] (moves_of (chooser_after order (choices_of s)) n (move_from order s).1)
 
 -- The line of a label, at the time after it, or nothing for a silent one.
 abbrev pub line_of_move : Move → List ℕ
@@ -58,4 +58,4 @@ text_of moves = flat_map line_of_move moves
 -- of the one list of labels.
 abbrev pub OneRun : Type 0
 OneRun = (order : Chooser) (n : ℕ) (s : State) (moves : List Move) → IsRun order s moves → length moves ≤ n
-  → moves ≡ take (length moves) (moves_of order n s)
+    → moves ≡ take (length moves) (moves_of order n s)

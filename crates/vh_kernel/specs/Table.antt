@@ -1,6 +1,6 @@
 -- The machine's step as a table: from which state a label leads to which, a row for each label.
 -- (IEEE 1364-2005, 11.4)
-use Rattle.std.specs.Prelude.{◌≡◌, ℕ, ◌+◌, ◌<◌, ◌≤◌, List, [], ◌∷◌, Bool, true, false, Option, Some, None, slice_get, ◌⊎◌}
+use Rattle.std.specs.Prelude.{◌≡◌, ℕ, ◌+◌, ◌<◌, ◌≤◌, List, [], ◌∷◌, true, false, Option, Some, None, slice_get, ◌⊎◌}
 use Rattle.vh_base.specs.declared.faults.Cause.{Cause}
 use Rattle.vh_base.specs.declared.faults.Cause.TheVariants as cause
 use Rattle.vh_base.specs.declared.faults.Fault.{Fault}
@@ -10,14 +10,13 @@ use Rattle.vh_base.specs.declared.first.FirstCode.TheVariants as code
 use Rattle.vh_kernel.specs.declared.control.Control.{Control}
 use Rattle.vh_kernel.specs.declared.control.Control.TheVariants as top
 use Rattle.vh_kernel.specs.declared.events.Entry.{Entry}
-use Rattle.vh_kernel.specs.declared.label.Ending.{Ending}
 use Rattle.vh_kernel.specs.declared.label.Ending.TheVariants as ending
 use Rattle.vh_kernel.specs.declared.label.Label.{Label}
 use Rattle.vh_kernel.specs.declared.label.Label.TheVariants as label
 use Rattle.vh_kernel.specs.declared.phase.Phase.TheVariants as phase
-use Rattle.vh_kernel.specs.Events.{Events, eligible, without, is_full, next_region, activated, least_time, advanced, emptied}
+use Rattle.vh_kernel.specs.Events.{eligible, without, is_full, next_region, activated, least_time, advanced, emptied}
 use Rattle.vh_kernel.specs.State.{State, opening}
-use Rattle.vh_kernel.specs.Step.{Move, is_crowded, next_of, performed, worked, step_of, choices_of}
+use Rattle.vh_kernel.specs.Step.{is_crowded, next_of, performed, worked, step_of, choices_of}
 
 -- Before the finish, with this on top of control.
 abbrev pub HasTop : State → Option Control → Type 0

@@ -2,7 +2,6 @@ use Rattle.std.proofs.Common.{ℕ, List, sym, refl, subst}
 use Rattle.vh_base.specs.Outside.{IsAnswered}
 use Rattle.vh_host.specs.Words.{texts}
 use Rattle.vh_host.specs.Acceptance.{design_limit}
-use Rattle.vh_host.specs.declared.status.Status.TheVariants as status
 use Rattle.vh_host.proofs.Verdicts.{accounts_usage, accounts_text, accounts_any, read_failed, no_memory}
 use Rattle.vh_host.proofs.host.run_words.Goals as goal
 
