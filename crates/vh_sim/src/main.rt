@@ -7,6 +7,8 @@
 
 mod output;
 mod source;
+#[cfg(test)]
+mod tests;
 
 use crate::output::Output;
 use crate::source::Source;
