@@ -2,3 +2,4 @@ pub mod First
 pub mod Outside
 pub mod Memory
 pub mod Held
+pub mod Promise

@@ -1,4 +1,10 @@
-use crate::{Bytes, FetchFault, Files, MemoryFiles, MemorySink, Sequence, Short, Sink, SinkFault};
+ghost use Rattle.std.specs.Prelude.{◌≡◌};
+ghost use Rattle.vh_base.specs.Promise.{stop_at};
+
+use crate::{
+    Answer, Bytes, FetchFault, Files, HandleNo, MemoryFiles, MemorySink, Native, Order, Promise,
+    Reason, Seen, Sequence, Short, Sink, SinkFault,
+};
 use std::alloc::Global;
 use std::test::Fail;
 
@@ -63,5 +69,43 @@ fn a_sequence_gives_its_vector_back(rt: HostRuntime) -> Result<(), Fail> {
     let bytes: Bytes = Sequence::new(Vec::from_slice(rt.alloc(), b"top")?);
     assert_eq!(rt; bytes.as_slice(), b"top".as_slice());
     assert_eq!(rt; bytes.into_vec().as_slice(), b"top".as_slice());
+    Ok(())
+}
+
+// What the native `stop` answers.
+fn stop(seen: &Seen) -> Order
+    ensures { result ≡ stop_at seen.now.step seen.now }
+{
+    if seen.step == 0 {
+        Order::Control { stop: false }
+    } else {
+        Order::Return
+    }
+}
+
+#[test]
+fn a_native_answers_what_its_promise_allows(rt: HostRuntime) -> Result<(), Fail> {
+    let name = Short::new(b"stop").expect(&rt, "a short name");
+    let native = Native {
+        name,
+        promise: Promise::Stop,
+        body: Box::new(rt.alloc(), stop)?,
+    };
+    let mut seen = Seen {
+        reason: Reason::CbValueChange,
+        time: 5,
+        object: None,
+        me: Some(HandleNo::new(1)),
+        value: None,
+        index: None,
+        user_data: 0,
+        step: 0,
+        last: Answer::Null,
+    };
+    let first = native.order(&seen);
+    assert!(rt; matches!(first, Order::Control { stop: false }));
+    seen.step = 1;
+    let second = native.order(&seen);
+    assert!(rt; matches!(second, Order::Return));
     Ok(())
 }
