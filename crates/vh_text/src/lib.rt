@@ -1,8 +1,11 @@
 //! Numbers and value texts, as sources, displays and applications write them.
 #![tactic(auto)]
 
+mod digits;
 mod literal;
+mod pattern;
 mod radix;
+mod scan;
 mod text;
 
 pub use literal::LiteralFault;

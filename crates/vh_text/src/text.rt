@@ -3,16 +3,15 @@ ghost use Rattle.std.specs.Option.{option_map_or};
 ghost use Rattle.std.specs.Char.{digit_char};
 ghost use Rattle.std.specs.Fmt.{signed_decimal};
 ghost use Rattle.std.specs.String.{string_bytes};
-ghost use Rattle.std.specs.List.{list_all, list_any};
-ghost use Rattle.vh_logic.specs.Digit.{is_same};
 ghost use Rattle.vh_logic.specs.Vector.{width_of};
 ghost use Rattle.vh_logic.specs.Number.{integer_of, known_number};
 ghost use Rattle.vh_text.specs.Texts.{text, digits_text, character_text, unknown_letter};
 
+use crate::digits::{has, is_all};
 use crate::radix::Radix;
 use std::alloc::Global;
 use vh_base::NoMemory;
-use vh_logic::{Digit, MAX_WIDTH, Plane, Vec4, case_equal, select};
+use vh_logic::{Digit, MAX_WIDTH, Plane, Vec4, select};
 
 /// The text of a value in a base, as `%b`, `%o` and `%h` show it, and `%0d` for `Decimal`
 /// (IEEE 1364-2005, 17.1.1). It takes memory once, and time in the number of digits.
@@ -82,25 +81,6 @@ fn unknown(v: &Vec4) -> char
         return 'z';
     }
     if has(v, Digit::X) { 'X' } else { 'Z' }
-}
-
-/// Whether each digit is this one.
-fn is_all(v: &Vec4, digit: Digit) -> bool
-    ensures { result ≡ list_all (is_same digit) v.now.digits }
-{
-    case_equal(v, &Vec4::filled(v.width(), digit, false)) == Digit::One
-}
-
-/// Whether some digit is this one.
-fn has(v: &Vec4, digit: Digit) -> bool
-    ensures { result ≡ list_any (is_same digit) v.now.digits }
-{
-    for i in 0..v.width() {
-        if v.digit(i) == digit {
-            return true;
-        }
-    }
-    false
 }
 
 /// All digits as one number, with a minus where it is negative.

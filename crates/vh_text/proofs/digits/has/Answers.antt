@@ -1,7 +1,7 @@
 use Rattle.std.proofs.Common.{◌≡◌, ap, ◌∙◌, sym, true, false, add-one}
 use Rattle.vh_logic.specs.Digit.{is_same}
 use Rattle.vh_text.proofs.TextLemmas.{list_any-at, list_any-none, sameb-same}
-use Rattle.vh_text.proofs.text.has.Goals as goal
+use Rattle.vh_text.proofs.digits.has.Goals as goal
 
 pub returns-then-eq : goal.returns-then-eq
 returns-then-eq c =
