@@ -1,3 +1,4 @@
 mod Rows
 pub mod TextLemmas
 pub mod PatternLemmas
+pub mod LiteralLemmas

@@ -76,6 +76,12 @@ characters-next b bs e = rw (ne_eqb b 95 e) refl
 pub spelled-first : (b : ℕ) (bs : List ℕ) → IsSome (spelled (b ∷ bs)) → b ≡ 95 → ⊥
 spelled-first b bs h e = let P : ℕ → Type 0 = λ n. IsSome (spelled (n ∷ bs)) in let f = subst P e h in cc
 
+-- a text that begins with a digit, by its first byte
+pub characters-first : (bs rest : List ℕ) (b : ℕ) → bs ≡ b ∷ rest → IsSome (spelled bs) → characters bs ≡ question_as_z b ∷ characters rest
+characters-first bs rest b e begun =
+    let P : List ℕ → Type 0 = λ xs. IsSome (spelled xs) in
+    ap (λ (xs : List ℕ). characters xs) e ∙ characters-next b rest (spelled-first b rest (subst P e begun))
+
 joined-none : (a b : Option (List Digit)) → joined (joined a None) b ≡ None
 joined-none None b = refl
 joined-none (Some a) b = refl
@@ -173,7 +179,7 @@ is_held-short w ds h = rw (drop_all w ds h) refl
 k_or : (k w : ℕ) → k ≤ w → (k ≡ w) ⊎ (k < w)
 k_or k w h = elim (eqb_tells k w) [ inl e ↦ inl e.1 | inr n ↦ let ne : k ≡ w → ⊥ = n.1 in inr (omega arith) ]
 
-short_or : (n w : ℕ) → (n ≤ w) ⊎ (w < n)
+pub short_or : (n w : ℕ) → (n ≤ w) ⊎ (w < n)
 short_or n w = elim (leb_tells n w) [ inl h ↦ inl h.1 | inr h ↦ inr h.1 ]
 
 -- where the digits up to `w` are filled from `k`, the same digit fills above them

@@ -66,13 +66,16 @@ abbrev pub patterned : Size → Bool → Option (List Digit) → Reading
 patterned size s None = Err Malformed
 patterned size s (Some ds) = at_width (of_digits s ds) (width_by size (natural_width (is_held 32 ds) (is_held 64 ds)))
 
--- the characters of base d: one x or z for all digits, or a number (2.5.1)
-abbrev pub decimal_part : Size → Bool → List ℕ → Reading
-decimal_part size s [] = Err Malformed
-decimal_part size s (c ∷ []) =
-    if is_x_letter c then patterned size s (Some (X ∷ [])) else
-    (if is_z_letter c then patterned size s (Some (Z ∷ [])) else numbered size s (decimal_number (c ∷ [])))
-decimal_part size s (c ∷ d ∷ cs) = numbered size s (decimal_number (c ∷ d ∷ cs))
+-- the one x or z that base d may have for all digits (2.5.1)
+abbrev pub lone_letter : List ℕ → Option Digit
+lone_letter [] = None
+lone_letter (c ∷ []) = if is_x_letter c then Some X else (if is_z_letter c then Some Z else None)
+lone_letter (c ∷ d ∷ cs) = None
+
+-- the characters of base d: one letter, or else a number (2.5.1)
+abbrev pub decimal_part : Size → Bool → List ℕ → Option Digit → Reading
+decimal_part size s cs (Some d) = patterned size s (Some (d ∷ []))
+decimal_part size s cs None = numbered size s (decimal_number cs)
 
 -- the characters behind a base letter: 1, 3 or 4 binary digits each in bases b, o and h (2.5.1)
 abbrev pub digits_part : Size → Bool → Option Radix → Option (List ℕ) → Reading
@@ -81,7 +84,7 @@ digits_part size s (Some base) None = Err Malformed
 digits_part size s (Some Binary) (Some cs) = patterned size s (spelled_digits 1 cs)
 digits_part size s (Some Octal) (Some cs) = patterned size s (spelled_digits 3 cs)
 digits_part size s (Some Hex) (Some cs) = patterned size s (spelled_digits 4 cs)
-digits_part size s (Some Decimal) (Some cs) = decimal_part size s cs
+digits_part size s (Some Decimal) (Some cs) = decimal_part size s cs (lone_letter cs)
 
 -- a text without the white space that it begins with (2.2)
 abbrev pub after_white : List ℕ → List ℕ

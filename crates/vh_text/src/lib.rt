@@ -3,11 +3,12 @@
 
 mod digits;
 mod literal;
+mod number;
 mod pattern;
 mod radix;
 mod scan;
 mod text;
 
-pub use literal::LiteralFault;
+pub use literal::{LiteralFault, read_literal};
 pub use radix::Radix;
 pub use text::text_of;

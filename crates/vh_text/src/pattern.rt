@@ -53,7 +53,7 @@ fn pushed(pattern: &Pattern, group: &Vec4) -> Pattern
 }
 
 /// `?` is read as z.
-fn z_of_question(b: u8) -> u8
+pub(crate) fn z_of_question(b: u8) -> u8
     ensures { result ≡ question_as_z b }
 {
     if b == b'?' { b'z' } else { b }

@@ -1,11 +1,12 @@
 ghost use Rattle.std.specs.Prelude.{◌≡◌, ◌≤◌, length};
 ghost use Rattle.std.specs.List.{prefix_len};
-ghost use Rattle.vh_text.specs.Marks.{is_number_byte, is_white, is_x_letter, is_z_letter};
+ghost use Rattle.vh_text.specs.Marks.{is_number_byte, is_white, is_x_letter, is_z_letter, is_sign_mark};
 ghost use Rattle.vh_text.specs.Literals.{after_white};
 
 /// How many bytes at the front are digits or underscores.
 pub(crate) fn number_len(bytes: &[u8]) -> usize
-    ensures { result ≡ prefix_len is_number_byte bytes.now }
+    ensures value { result ≡ prefix_len is_number_byte bytes.now }
+    ensures inside { result ≤ length bytes.now }
 {
     for (i, b) in bytes.iter().enumerate() {
         if !is_number_byte(*b) {
@@ -62,4 +63,11 @@ pub(crate) fn is_z_letter(b: u8) -> bool
     ensures { result ≡ is_z_letter b }
 {
     b == b'z' || b == b'Z'
+}
+
+/// The mark of a signed number, in either case.
+pub(crate) fn is_sign_mark(b: u8) -> bool
+    ensures { result ≡ is_sign_mark b }
+{
+    b == b's' || b == b'S'
 }

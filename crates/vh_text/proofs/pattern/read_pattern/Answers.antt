@@ -7,15 +7,9 @@ use Rattle.vh_logic.specs.Vector.{Vector}
 use Rattle.vh_text.specs.declared.pattern.Pattern.{Pattern}
 use Rattle.vh_text.specs.Digits.{spelled, spelled_digits, characters, character_digits, joined, question_as_z}
 use Rattle.vh_text.specs.Patterns.{pattern_of, pattern_pushed}
-use Rattle.vh_text.proofs.PatternLemmas.{characters-next, characters-mark, spelled-first, spelled_digits-none, spelled_digits-first, spelled_digits-stop, spelled_digits-more, spelled_digits-nil, from_some, from_none, pattern_of-short, pattern_of-pushed}
+use Rattle.vh_text.proofs.PatternLemmas.{characters-first, characters-next, characters-mark, spelled-first, spelled_digits-none, spelled_digits-first, spelled_digits-stop, spelled_digits-more, spelled_digits-nil, from_some, from_none, pattern_of-short, pattern_of-pushed}
 use Rattle.vh_text.proofs.pattern.read_pattern.Goals as goal
 use Rattle.vh_text.proofs.pattern.read_pattern.Goals.{then-b-ne95+in_ok-digits, else-b-ne95}
-
--- a text that begins with a digit, by its first byte
-whole : (bs rest : List ℕ) (b : ℕ) → bs ≡ b ∷ rest → IsSome (spelled bs) → characters bs ≡ question_as_z b ∷ characters rest
-whole bs rest b e begun =
-    let P : List ℕ → Type 0 = λ xs. IsSome (spelled xs) in
-    ap (λ (xs : List ℕ). characters xs) e ∙ characters-next b rest (spelled-first b rest (subst P e begun))
 
 -- what is left of a text, by its next byte
 left-digit : (rest : List ℕ) (i : ℕ) → i < length rest → (get_or rest i 0 ≡ 95 → ⊥)
@@ -29,7 +23,7 @@ pub returns-in_err-character_digits : goal.returns-in_err-character_digits
 returns-in_err-character_digits c =
     let k = c.args.group in
     let none = ap (λ (n : ℕ). character_digits k n) (sym c.z_of_question.ensures) ∙ from_none (character_digits k c.z_of_question.result) c.in_err-character_digits.ensures.value in
-    let all = ap (λ (xs : List ℕ). spelled_digits k xs) (whole _ _ _ c.in_ok-first.ensures.cases.0 c.requires.begun) ∙ spelled_digits-none k _ _ none in
+    let all = ap (λ (xs : List ℕ). spelled_digits k xs) (characters-first _ _ _ c.in_ok-first.ensures.cases.0 c.requires.begun) ∙ spelled_digits-none k _ _ none in
     c.from_residual-in_err-character_digits.ensures ∙ sym (ap (λ (o : Option (List Digit)). option_map pattern_of o) all)
 
 pub loop-b-init : goal.loop-b-init
@@ -39,7 +33,7 @@ loop-b-init c =
     let digits = ap (λ (n : ℕ). character_digits k n) (sym c.z_of_question.ensures) ∙ got.0 in (
       c.in_ok-character_digits.field-0.digits,
       omega (arith, c.in_ok-character_digits.ensures.width, c.requires.least),
-      ap (λ (xs : List ℕ). spelled_digits k xs) (whole _ _ _ c.in_ok-first.ensures.cases.0 c.requires.begun) ∙ spelled_digits-first k _ _ _ digits,
+      ap (λ (xs : List ℕ). spelled_digits k xs) (characters-first _ _ _ c.in_ok-first.ensures.cases.0 c.requires.begun) ∙ spelled_digits-first k _ _ _ digits,
       pattern_of-short c.in_ok-character_digits.field-0 got.1 (omega (arith, c.in_ok-character_digits.ensures.width, c.requires.most)),
     )
 
