@@ -2,3 +2,4 @@ mod Rows
 pub mod TextLemmas
 pub mod PatternLemmas
 pub mod LiteralLemmas
+pub mod ValueLemmas

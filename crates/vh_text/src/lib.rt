@@ -8,7 +8,9 @@ mod pattern;
 mod radix;
 mod scan;
 mod text;
+mod value;
 
 pub use literal::{LiteralFault, read_literal};
 pub use radix::Radix;
 pub use text::text_of;
+pub use value::read_value;
