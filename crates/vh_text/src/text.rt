@@ -5,7 +5,7 @@ ghost use Rattle.std.specs.Fmt.{signed_decimal};
 ghost use Rattle.std.specs.String.{string_bytes};
 ghost use Rattle.vh_logic.specs.Vector.{width_of};
 ghost use Rattle.vh_logic.specs.Number.{integer_of, known_number};
-ghost use Rattle.vh_text.specs.Texts.{text, digits_text, character_text, unknown_letter};
+ghost use Rattle.vh_text.specs.Texts.{text, vector_text, digits_text, character_text, unknown_letter};
 
 use crate::digits::{has, is_all};
 use crate::radix::Radix;
@@ -24,6 +24,16 @@ pub fn text_of(alloc: Global, v: &Vec4, radix: Radix) -> Result<String, NoMemory
         Radix::Hex => grouped(alloc, v, 4),
         Radix::Decimal => decimal(alloc, v),
     }
+}
+
+/// The two planes of a value in lower-case hexadecimal, `AVAL:BVAL`, without leading zeros
+/// (IEEE 1364-2005, 27.14). It takes memory, and a constant time.
+pub fn vector_text_of(alloc: Global, v: &Vec4) -> Result<String, NoMemory>
+    ensures { IfOk result (λ t. string_bytes t ≡ vector_text v.now) }
+{
+    let aval = v.aval();
+    let bval = v.bval();
+    Ok(format!(in alloc; "{aval:x}:{bval:x}")?)
 }
 
 /// The digits in groups of `group`, one character each.
