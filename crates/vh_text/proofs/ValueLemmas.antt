@@ -1,0 +1,183 @@
+-- What the code of value texts owes its definitions.
+use Rattle.std.proofs.Common.{◌≡◌, ℕ, zero, suc, ◌+◌, ◌-◌, ◌*◌, ◌/◌, ◌%◌, ◌^◌, ◌<◌, ◌≤◌, List, [], ◌∷◌, ◌++◌, length, take, drop, replicate, map, refl, ap, arith, ◌∙◌, sym, subst, Bool, true, false, cond, eqb, ltb, leb, Option, Some, None, inl, inr}
+use Rattle.std.specs.Prelude.{◌&&◌, ◌||◌, not, ℤ, pos, neg_ℤ, ◌+ℤ◌, unsigned_abs}
+use Rattle.std.specs.Char.{digit_value, is_ascii_digit}
+use Rattle.std.specs.List.{list_all, list_any, filter}
+use Rattle.std.specs.Option.{option_map}
+use Rattle.std.specs.Str.{all_ascii_digits}
+use Rattle.std.specs.Str.Parse.{digits_value_after}
+use Rattle.std.proofs.lemmas.Int.{ints, int_rem_euclid_is}
+use Rattle.std.proofs.lemmas.List.{length-take-le, take-take, take_all, take-append-le}
+use Rattle.std.proofs.lemmas.Bool.{lt-ltb, le-leb, ltb-true, eq-eqb}
+use Rattle.std.proofs.lemmas.Bool.Decides.{eqb_tells}
+use Rattle.std.proofs.lemmas.Nat.{pow_pos, pow-add, shr_split}
+use Rattle.std.proofs.Math.Nat.{mod-eq_of_lt, pow-le-pow_right}
+use Rattle.std.proofs.Math.Pow.{pow_mono}
+use Rattle.vh_logic.specs.declared.digits.Digit.{Digit}
+use Rattle.vh_logic.specs.declared.digits.Digit.TheVariants.{Zero}
+use Rattle.vh_logic.specs.Vector.{Vector}
+use Rattle.vh_logic.specs.Number.{binary, wrapped, signed_integer, vector_of}
+use Rattle.vh_logic.specs.Planes.{digits_of}
+use Rattle.vh_text.specs.declared.number.Number.{Number}
+use Rattle.vh_text.specs.Digits.{character_digits, joined, spelled_digits, question_as_z, characters, decimal_number}
+use Rattle.vh_text.specs.Patterns.{number_kept, digits_alone}
+use Rattle.vh_text.specs.Values.{cut_or_padded, string_value, numeral, is_lower_hex, integer_value}
+use Rattle.vh_text.proofs.PatternLemmas.{base_is, digits_of-binary, character_digits-none, short_or}
+use Rattle.vh_text.proofs.LiteralLemmas.{binary-mod}
+
+-- what literals alone may have
+abbrev pub is_literal_mark : ℕ → Bool
+is_literal_mark b = eqb b 95 || eqb b 63
+
+or_false : (a b : Bool) → (a || b) ≡ false → (a ≡ false) × (b ≡ false)
+or_false true b h = cc
+or_false false b h = (refl, h)
+
+pub characters-plain : (bs : List ℕ) → list_any is_literal_mark bs ≡ false → characters bs ≡ bs
+characters-plain [] h = refl
+characters-plain (b ∷ bs) h =
+    let parts = or_false (is_literal_mark b) (list_any is_literal_mark bs) h in
+    let first = or_false (eqb b 95) (eqb b 63) parts.0 in
+    rw (first.0, first.1) (ap (λ (xs : List ℕ). b ∷ xs) (characters-plain bs parts.1))
+
+mark_digits : (k b : ℕ) → 1 ≤ k → k ≤ 4 → is_literal_mark b ≡ true → character_digits k b ≡ None
+mark_digits k b least most h =
+    let base = base_is k least most in
+    elim (eqb_tells b 95) [
+      | inl e ↦ let at : b ≡ 95 = e.1 in rw at (character_digits-none k 95 refl refl (omega (arith, base.2)))
+      | inr n ↦
+          elim (eqb_tells b 63) [
+            | inl e ↦ let at : b ≡ 63 = e.1 in rw at (character_digits-none k 63 refl refl (omega (arith, base.2)))
+            | inr m ↦ let no : is_literal_mark b ≡ false = rw (n.0, m.0) refl in cc
+          ]
+    ]
+
+joined-none_left : (b : Option (List Digit)) → joined None b ≡ None
+joined-none_left b = refl
+
+joined-none_right : (a : Option (List Digit)) → joined a None ≡ None
+joined-none_right None = refl
+joined-none_right (Some a) = refl
+
+or_cases : (P : Type 0) (a b : Bool) → (a || b) ≡ true → (a ≡ true → P) → (b ≡ true → P) → P
+or_cases P true b h p q = p refl
+or_cases P false b h p q = q h
+
+pub spelled_digits-marks : (k : ℕ) (bs : List ℕ) → 1 ≤ k → k ≤ 4 → list_any is_literal_mark bs ≡ true → spelled_digits k bs ≡ None
+unfolding spelled_digits
+spelled_digits-marks k [] least most h = cc
+spelled_digits-marks k (b ∷ bs) least most h =
+    or_cases (joined (spelled_digits k bs) (character_digits k b) ≡ None) (is_literal_mark b) (list_any is_literal_mark bs) h
+    (λ e. ap (λ (o : Option (List Digit)). joined (spelled_digits k bs) o) (mark_digits k b least most e) ∙ joined-none_right (spelled_digits k bs))
+    (λ e. ap (λ (o : Option (List Digit)). joined o (character_digits k b)) (spelled_digits-marks k bs least most e))
+
+and_false : (a b : Bool) → b ≡ false → (a && b) ≡ false
+and_false true b h = h
+and_false false b h = refl
+
+mark_no_digit : (b : ℕ) → is_literal_mark b ≡ true → is_ascii_digit b ≡ false
+mark_no_digit b h =
+    elim (eqb_tells b 95) [
+      | inl e ↦ let at : b ≡ 95 = e.1 in rw at refl
+      | inr n ↦
+          elim (eqb_tells b 63) [
+            | inl e ↦ let at : b ≡ 63 = e.1 in rw at refl
+            | inr m ↦ let no : is_literal_mark b ≡ false = rw (n.0, m.0) refl in cc
+          ]
+    ]
+
+all_digits-marks : (bs : List ℕ) → list_any is_literal_mark bs ≡ true → all_ascii_digits bs ≡ false
+all_digits-marks [] h = cc
+all_digits-marks (b ∷ bs) h =
+    or_cases ((is_ascii_digit b && all_ascii_digits bs) ≡ false) (is_literal_mark b) (list_any is_literal_mark bs) h
+    (λ e. ap (λ (t : Bool). t && all_ascii_digits bs) (mark_no_digit b e))
+    (λ e. and_false (is_ascii_digit b) (all_ascii_digits bs) (all_digits-marks bs e))
+
+pub numeral-marks : (bs : List ℕ) → (length bs ≡ 0 → ⊥) → list_any is_literal_mark bs ≡ true → numeral bs ≡ None
+numeral-marks [] h k = absurd (h refl)
+numeral-marks (b ∷ bs) h k = rw (all_digits-marks (b ∷ bs) k) refl
+
+pub numeral-plain : (bs : List ℕ) → (length bs ≡ 0 → ⊥) → list_any is_literal_mark bs ≡ false → numeral bs ≡ decimal_number (characters bs)
+numeral-plain [] h k = absurd (h refl)
+numeral-plain (b ∷ bs) h k = ap (λ (xs : List ℕ). decimal_number xs) (sym (characters-plain (b ∷ bs) k))
+
+-- what is kept of digits is enough to cut or pad them
+pub cut_or_padded-take : (w : ℕ) (ds : List Digit) → w ≤ 64 → cut_or_padded w (take 64 ds) ≡ cut_or_padded w ds
+cut_or_padded-take w ds h =
+    elim (short_or (length ds) 64) [
+      | inl short ↦ ap (λ (xs : List Digit). cut_or_padded w xs) (take_all 64 ds short)
+      | inr long ↦
+          let len : length (take 64 ds) ≡ 64 = length-take-le 64 ds (omega arith) in
+          ap (λ (xs : List Digit). digits_alone xs)
+          (take-append-le w (take 64 ds) (replicate w Zero) (omega (arith, len)) ∙ take-take w 64 ds h ∙ sym (take-append-le w ds (replicate w Zero) (omega arith)))
+    ]
+
+pub string_value-is : (k most w : ℕ) (bs : List ℕ) (ds : List Digit) → (length bs ≡ 0 → ⊥) → length bs ≤ most → spelled_digits k bs ≡ Some ds
+    → string_value k most w bs ≡ Some (cut_or_padded w ds)
+string_value-is k most w bs ds some short e =
+    let some' : 0 < length bs = omega arith in
+    rw (lt-ltb 0 (length bs) some', le-leb (length bs) most short, e) refl
+
+pub from_number : (o : Option ℕ) (m : Number) → Some m ≡ option_map number_kept o → (n : ℕ) × (o ≡ Some n) × (m ≡ number_kept n)
+from_number None m h = cc
+from_number (Some n) m h = (n, refl, cc)
+
+pub not_false : (b : Bool) → not b ≡ false → b ≡ true
+not_false true h = refl
+not_false false h = cc
+
+-- a number that fits is kept
+pub kept-fits : (m : Number) (n : ℕ) → m ≡ number_kept n → m.fits ≡ true → m.low ≡ n
+kept-fits m n e fits =
+    let below : n < 2 ^ 64 = ltb-true n (2 ^ 64) (sym (ap (λ (x : Number). x.fits) e) ∙ fits) in
+    ap (λ (x : Number). x.low) e ∙ mod-eq_of_lt below
+
+-- an integer modulo 2 ^ w
+wrapped_is : (w k m : ℕ) (z : ℤ) → z +ℤ pos (k * 2 ^ w) ≡ pos m → wrapped w z ≡ m % 2 ^ w
+wrapped_is w k m z e = ap (λ (y : ℤ). unsigned_abs y) (int_rem_euclid_is z (pos (2 ^ w)) (2 ^ w) k m (pow_pos w) refl e)
+
+pow_multiple : (w p : ℕ) → w ≤ p → 2 ^ p ≡ 2 ^ (p - w) * 2 ^ w
+pow_multiple w p h = let e : p ≡ p - w + w = omega arith in ap (λ k. 2 ^ k) e ∙ pow-add 2 (p - w) w
+
+pub digits_of-positive : (w n : ℕ) → digits_of w n 0 ≡ binary w (wrapped w (signed_integer false n))
+digits_of-positive w n =
+    digits_of-binary w n ∙ sym (ap (λ m. binary w m) (wrapped_is w 0 n (pos n) (omega (arith, ints))) ∙ binary-mod w w n (omega arith))
+
+pub digits_of-negative : (w n word : ℕ) → w ≤ 64 → (word + n) % 2 ^ 64 ≡ 0 → digits_of w word 0 ≡ binary w (wrapped w (signed_integer true n))
+digits_of-negative w n word h none =
+    let q : ℕ = (word + n) / 2 ^ 64 in
+    let whole : q * (2 ^ (64 - w) * 2 ^ w) ≡ word + n = rw (← pow_multiple w 64 h) (let e = shr_split (word + n) 64 in omega arith) in
+    let same : wrapped w (neg_ℤ (pos n)) ≡ word % 2 ^ w = wrapped_is w (q * 2 ^ (64 - w)) word (neg_ℤ (pos n)) (omega (arith, ints, whole)) in
+    digits_of-binary w word ∙ sym (ap (λ m. binary w m) same ∙ binary-mod w w word (omega arith))
+
+-- the number that hexadecimal digits write when they follow those of n
+abbrev pub hex_after : ℕ → List ℕ → Option ℕ
+hex_after n cs = cond (list_all is_lower_hex cs) (Some (digits_value_after 16 n cs)) None
+
+pub hex_after-stop : (n c : ℕ) (cs : List ℕ) → is_lower_hex c ≡ false → hex_after n (c ∷ cs) ≡ None
+hex_after-stop n c cs e = rw e refl
+
+pub hex_after-more : (n c : ℕ) (cs : List ℕ) → is_lower_hex c ≡ true → hex_after n (c ∷ cs) ≡ hex_after (n * 16 + digit_value c) cs
+hex_after-more n c cs e = rw e refl
+
+choice : (t : Bool) (d n : ℕ) → Some n ≡ cond t (Some d) None → (t ≡ true) × (n ≡ d)
+choice true d n h = (refl, cc)
+choice false d n h = cc
+
+pub from_hex : (c n : ℕ) → Some n ≡ cond (is_lower_hex c) (Some (digit_value c)) None → (is_lower_hex c ≡ true) × (n ≡ digit_value c)
+from_hex c n h = choice (is_lower_hex c) (digit_value c) n h
+
+no_choice : (t : Bool) (d : ℕ) → None ≡ cond t (Some d) None → t ≡ false
+no_choice true d h = cc
+no_choice false d h = refl
+
+pub from_no_hex : (c : ℕ) → None ≡ cond (is_lower_hex c) (Some (digit_value c)) None → is_lower_hex c ≡ false
+from_no_hex c h = no_choice (is_lower_hex c) (digit_value c) h
+
+-- at most 15 digits leave room for one more
+pub room : (n i : ℕ) → n < 16 ^ i → i < 16 → n < 2 ^ 60
+room n i h k = let most : 16 ^ i ≤ 16 ^ 15 = pow-le-pow_right {n = 16} (omega arith) {i = i} {j = 15} (omega arith) in omega (arith, most)
+
+pub integer_value-is : (w : ℕ) (negative : Bool) (most n : ℕ) → n ≤ most
+    → integer_value w negative most (Some n) ≡ Some (vector_of w false (Some (signed_integer negative n)))
+integer_value-is w negative most n h = rw (le-leb n most h) refl

@@ -1,0 +1,18 @@
+use Rattle.std.proofs.Common.{◌≡◌, ap, ◌∙◌, sym, ℕ, List, Option, length}
+use Rattle.std.specs.Option.{option_map}
+use Rattle.std.proofs.lemmas.Bool.{eqb-false}
+use Rattle.vh_text.specs.declared.number.Number.{Number}
+use Rattle.vh_text.specs.Patterns.{number_kept}
+use Rattle.vh_text.proofs.ValueLemmas.{numeral-marks, numeral-plain}
+use Rattle.vh_text.proofs.value.numeral.Goals as goal
+
+pub returns-then-has_literal_marks : goal.returns-then-has_literal_marks
+returns-then-has_literal_marks c =
+    let some = eqb-false (length c.args.bytes.now) 0 (sym c.is_empty.ensures ∙ c.if-is_empty.false) in
+    sym (ap (λ (o : Option ℕ). option_map number_kept o) (numeral-marks c.args.bytes.now some (sym c.has_literal_marks.ensures ∙ c.if-has_literal_marks.true)))
+
+pub returns : goal.returns
+returns c =
+    let some = eqb-false (length c.args.bytes.now) 0 (sym c.is_empty.ensures ∙ c.if-is_empty.false) in
+    c.read_number.ensures
+    ∙ sym (ap (λ (o : Option ℕ). option_map number_kept o) (numeral-plain c.args.bytes.now some (sym c.has_literal_marks.ensures ∙ c.if-has_literal_marks.false)))

@@ -1,0 +1,18 @@
+use Rattle.std.proofs.Common.{◌≡◌, ap, ◌∙◌, sym, ℕ, List, Option}
+use Rattle.std.specs.Option.{option_map}
+use Rattle.vh_logic.specs.declared.digits.Digit.{Digit}
+use Rattle.vh_text.specs.Digits.{spelled_digits}
+use Rattle.vh_text.specs.Patterns.{pattern_of}
+use Rattle.vh_text.proofs.ValueLemmas.{characters-plain, spelled_digits-marks}
+use Rattle.vh_text.proofs.value.plain_pattern.Goals as goal
+
+pub returns-then-has_literal_marks : goal.returns-then-has_literal_marks
+returns-then-has_literal_marks c =
+    sym (ap (λ (o : Option (List Digit)). option_map pattern_of o)
+    (spelled_digits-marks c.args.group c.args.bytes.now c.requires.group_least c.requires.group_most (sym c.has_literal_marks.ensures ∙ c.if-has_literal_marks.true)))
+
+pub returns : goal.returns
+returns c =
+    c.read_pattern.ensures
+    ∙ ap (λ (xs : List ℕ). option_map pattern_of (spelled_digits c.args.group xs))
+    (characters-plain c.args.bytes.now (sym c.has_literal_marks.ensures ∙ c.if-has_literal_marks.false))

@@ -1,0 +1,281 @@
+ghost use Rattle.std.specs.Prelude.{◌≡◌, ◌==◌, ℕ, List, Option, IsSome, IfOk, is_some};
+ghost use Rattle.std.specs.List.{list_all};
+ghost use Rattle.std.specs.Option.{option_map};
+ghost use Rattle.vh_logic.specs.declared.digits.Digit.{Digit};
+ghost use Rattle.vh_text.specs.Digits.{characters, spelled};
+ghost use Rattle.vh_text.specs.Literals.{literal, plain, size_of_number, natural_width, width_by, at_width, of_number, numbered, patterned, lone_letter, decimal_part, digits_part, base_part, signed_part, based};
+ghost use Rattle.vh_text.specs.Marks.{base_of};
+ghost use Rattle.vh_text.specs.Patterns.{pattern_of, number_kept, IsWidthIfSome, HasWidth};
+
+use crate::digits::{is_held, sized};
+use crate::number::{Number, read_number, unsigned_number};
+use crate::pattern::{Pattern, read_pattern, z_of_question};
+use crate::radix::Radix;
+use crate::scan::{after_white, is_sign_mark, is_x_letter, is_z_letter, number_len};
+use vh_logic::{Digit, Vec4};
+
+/// Why the bytes of a literal have no value.
+#[derive(Clone, Copy, Debug, PartialEq, Eq)]
+pub enum LiteralFault {
+    /// The bytes are no number (IEEE 1364-2005, 2.5.1).
+    Malformed,
+    /// The bytes are a number, but its size is above 64, or it has none and its value needs more
+    /// than 64 digits.
+    TooWide,
+}
+
+/// The size of a literal, in digits.
+#[derive(Clone, Copy, Debug, PartialEq, Eq)]
+pub(crate) enum Size {
+    /// No size is written.
+    Absent,
+    /// A size from 1 to 64.
+    Given(u32),
+    /// A size above 64.
+    Beyond,
+}
+
+/// The value of a number as a source writes it, from its first byte to its last (IEEE 1364-2005,
+/// 2.5.1). It takes time in the number of bytes.
+pub fn read_literal(bytes: &[u8]) -> Result<Vec4, LiteralFault>
+    ensures { result ≡ literal bytes.now }
+{
+    let (front, rest) = bytes.split_at(number_len(bytes));
+    if front.is_empty() {
+        return based(rest, Size::Absent);
+    }
+    let number = unsigned_number(front);
+    if rest.is_empty() {
+        return plain(number);
+    }
+    match size_of_number(number) {
+        Ok(size) => based(after_white(rest), size),
+        Err(fault) => Err(fault),
+    }
+}
+
+/// The size that a number gives.
+fn size_of_number(number: Option<Number>) -> Result<Size, LiteralFault>
+    ensures value { (n : Option ℕ) → number ≡ option_map number_kept n → result ≡ size_of_number n }
+    ensures width { IfOk result HasWidth }
+{
+    let Some(number) = number else {
+        return Err(LiteralFault::Malformed);
+    };
+    if !number.fits || number.low > 64 {
+        return Ok(Size::Beyond);
+    }
+    if number.low == 0 {
+        return Err(LiteralFault::Malformed);
+    }
+    Ok(Size::Given(number.low as u32))
+}
+
+/// A number without base.
+fn plain(number: Option<Number>) -> Result<Vec4, LiteralFault>
+    ensures { (n : Option ℕ) → number ≡ option_map number_kept n → result ≡ plain n }
+{
+    let Some(number) = number else {
+        return Err(LiteralFault::Malformed);
+    };
+    let is_short = number.fits && number.low < 1 << 31;
+    of_number(&number, true, natural_width(is_short, number.fits))
+}
+
+/// What stands behind the size: an apostrophe, the mark of a sign, a base, digits.
+fn based(bytes: &[u8], size: Size) -> Result<Vec4, LiteralFault>
+    requires { HasWidth size }
+    ensures { result ≡ based bytes.now size }
+{
+    let Some((first, rest)) = bytes.split_first() else {
+        return Err(LiteralFault::Malformed);
+    };
+    if *first == b'\'' {
+        signed_part(size, rest)
+    } else {
+        Err(LiteralFault::Malformed)
+    }
+}
+
+/// What stands behind the apostrophe.
+fn signed_part(size: Size, bytes: &[u8]) -> Result<Vec4, LiteralFault>
+    requires { HasWidth size }
+    ensures { result ≡ signed_part size bytes.now }
+{
+    let Some((first, rest)) = bytes.split_first() else {
+        return Err(LiteralFault::Malformed);
+    };
+    if is_sign_mark(*first) {
+        base_part(size, true, rest)
+    } else {
+        base_part(size, false, bytes)
+    }
+}
+
+/// A base letter, white space and digits.
+fn base_part(size: Size, signed: bool, bytes: &[u8]) -> Result<Vec4, LiteralFault>
+    requires { HasWidth size }
+    ensures { result ≡ base_part size signed bytes.now }
+{
+    let Some((first, rest)) = bytes.split_first() else {
+        return Err(LiteralFault::Malformed);
+    };
+    let Some(base) = base_of(*first) else {
+        return Err(LiteralFault::Malformed);
+    };
+    let digits = after_white(rest);
+    if is_begun(digits) {
+        digits_part(size, signed, base, digits)
+    } else {
+        Err(LiteralFault::Malformed)
+    }
+}
+
+/// The base that a letter names.
+fn base_of(b: u8) -> Option<Radix>
+    ensures { result ≡ base_of b }
+{
+    match b {
+        b'b' | b'B' => Some(Radix::Binary),
+        b'o' | b'O' => Some(Radix::Octal),
+        b'd' | b'D' => Some(Radix::Decimal),
+        b'h' | b'H' => Some(Radix::Hex),
+        _ => None,
+    }
+}
+
+/// Whether there is a first byte, and it is no underscore.
+fn is_begun(bytes: &[u8]) -> bool
+    ensures { result ≡ is_some (spelled bytes.now) }
+{
+    match bytes.first() {
+        Some(first) => *first != b'_',
+        None => false,
+    }
+}
+
+/// The digits behind a base letter.
+fn digits_part(size: Size, signed: bool, base: Radix, bytes: &[u8]) -> Result<Vec4, LiteralFault>
+    requires width { HasWidth size }
+    requires begun { IsSome (spelled bytes.now) }
+    ensures { result ≡ digits_part size signed (Some base) (spelled bytes.now) }
+{
+    match base {
+        Radix::Binary => patterned(size, signed, read_pattern(bytes, 1)),
+        Radix::Octal => patterned(size, signed, read_pattern(bytes, 3)),
+        Radix::Hex => patterned(size, signed, read_pattern(bytes, 4)),
+        Radix::Decimal => decimal_part(size, signed, bytes),
+    }
+}
+
+/// One x or z for all digits, or a number.
+fn decimal_part(size: Size, signed: bool, bytes: &[u8]) -> Result<Vec4, LiteralFault>
+    requires width { HasWidth size }
+    requires begun { IsSome (spelled bytes.now) }
+    ensures { result ≡ decimal_part size signed (characters bytes.now) (lone_letter (characters bytes.now)) }
+{
+    if let Some(digit) = lone_letter(bytes) {
+        let pattern = Pattern {
+            value: Vec4::filled(1, digit, false),
+            is_held: true,
+        };
+        return patterned(size, signed, Some(pattern));
+    }
+    numbered(size, signed, read_number(bytes))
+}
+
+/// The one x or z that stands for all digits.
+fn lone_letter(bytes: &[u8]) -> Option<Digit>
+    requires { IsSome (spelled bytes.now) }
+    ensures { result ≡ lone_letter (characters bytes.now) }
+{
+    let (first, rest) = bytes.split_first()?;
+    if !are_underscores(rest) {
+        return None;
+    }
+    let letter = z_of_question(*first);
+    if is_x_letter(letter) {
+        return Some(Digit::X);
+    }
+    if is_z_letter(letter) {
+        return Some(Digit::Z);
+    }
+    None
+}
+
+/// Whether all bytes are underscores.
+fn are_underscores(bytes: &[u8]) -> bool
+    ensures { result ≡ list_all (λ b. b == 95) bytes.now }
+{
+    bytes.iter().all(|b| *b == b'_')
+}
+
+/// A decimal number behind a base.
+fn numbered(size: Size, signed: bool, number: Option<Number>) -> Result<Vec4, LiteralFault>
+    requires { HasWidth size }
+    ensures { (n : Option ℕ) → number ≡ option_map number_kept n → result ≡ numbered size signed n }
+{
+    let Some(number) = number else {
+        return Err(LiteralFault::Malformed);
+    };
+    let is_short = number.fits && number.low < 1 << 32;
+    of_number(
+        &number,
+        signed,
+        width_by(size, natural_width(is_short, number.fits)),
+    )
+}
+
+/// Digits behind a base.
+fn patterned(size: Size, signed: bool, pattern: Option<Pattern>) -> Result<Vec4, LiteralFault>
+    requires { HasWidth size }
+    ensures { (ds : Option (List Digit)) → pattern ≡ option_map pattern_of ds → result ≡ patterned size signed ds }
+{
+    let Some(pattern) = pattern else {
+        return Err(LiteralFault::Malformed);
+    };
+    let is_short = pattern.is_held && is_held(&pattern.value, 32);
+    match width_by(size, natural_width(is_short, pattern.is_held)) {
+        Some(width) => Ok(sized(&pattern.value, width, signed)),
+        None => Err(LiteralFault::TooWide),
+    }
+}
+
+/// The lowest digits of a number, at the width that there is.
+fn of_number(number: &Number, signed: bool, width: Option<u32>) -> Result<Vec4, LiteralFault>
+    requires { IsWidthIfSome width }
+    ensures { (n : ℕ) → number.now ≡ number_kept n → result ≡ at_width (of_number signed n) width }
+{
+    match width {
+        Some(width) => Ok(Vec4::from_planes(width, number.low, 0, signed)),
+        None => Err(LiteralFault::TooWide),
+    }
+}
+
+/// The width of a literal without a size.
+fn natural_width(is_short: bool, is_long: bool) -> Option<u32>
+    ensures value { result ≡ natural_width is_short is_long }
+    ensures width { IsWidthIfSome result }
+{
+    if is_short {
+        Some(32)
+    } else if is_long {
+        Some(64)
+    } else {
+        None
+    }
+}
+
+/// The width of a literal, by its size or its natural width.
+fn width_by(size: Size, natural: Option<u32>) -> Option<u32>
+    requires size { HasWidth size }
+    requires natural { IsWidthIfSome natural }
+    ensures value { result ≡ width_by size natural }
+    ensures width { IsWidthIfSome result }
+{
+    match size {
+        Size::Absent => natural,
+        Size::Given(width) => Some(width),
+        Size::Beyond => None,
+    }
+}

@@ -1,0 +1,130 @@
+ghost use Rattle.std.specs.Prelude.{◌≡◌, ◌≤◌, ◌<◌, ◌^◌, ◌∷◌, [], length, IfOk, IfSome, pos, neg_ℤ};
+ghost use Rattle.std.specs.Option.{option_map_or};
+ghost use Rattle.std.specs.Char.{digit_char};
+ghost use Rattle.std.specs.Fmt.{signed_decimal};
+ghost use Rattle.std.specs.String.{string_bytes};
+ghost use Rattle.vh_logic.specs.Vector.{width_of};
+ghost use Rattle.vh_logic.specs.Number.{integer_of, known_number};
+ghost use Rattle.vh_text.specs.Texts.{text, vector_text, digits_text, character_text, unknown_letter};
+
+use crate::digits::{has, is_all};
+use crate::radix::Radix;
+use std::alloc::Global;
+use vh_base::NoMemory;
+use vh_logic::{Digit, MAX_WIDTH, Plane, Vec4, select};
+
+/// The text of a value in a base, as `%b`, `%o` and `%h` show it, and `%0d` for `Decimal`
+/// (IEEE 1364-2005, 17.1.1). It takes memory once, and time in the number of digits.
+pub fn text_of(alloc: Global, v: &Vec4, radix: Radix) -> Result<String, NoMemory>
+    ensures { IfOk result (λ t. string_bytes t ≡ text radix v.now) }
+{
+    match radix {
+        Radix::Binary => grouped(alloc, v, 1),
+        Radix::Octal => grouped(alloc, v, 3),
+        Radix::Hex => grouped(alloc, v, 4),
+        Radix::Decimal => decimal(alloc, v),
+    }
+}
+
+/// The two planes of a value in lower-case hexadecimal, `AVAL:BVAL`, without leading zeros
+/// (IEEE 1364-2005, 27.14). It takes memory, and a constant time.
+pub fn vector_text_of(alloc: Global, v: &Vec4) -> Result<String, NoMemory>
+    ensures { IfOk result (λ t. string_bytes t ≡ vector_text v.now) }
+{
+    let aval = v.aval();
+    let bval = v.bval();
+    Ok(format!(in alloc; "{aval:x}:{bval:x}")?)
+}
+
+/// The digits in groups of `group`, one character each.
+fn grouped(alloc: Global, v: &Vec4, group: u32) -> Result<String, NoMemory>
+    requires least { 1 ≤ group }
+    requires most { group ≤ 4 }
+    ensures { IfOk result (λ t. string_bytes t ≡ digits_text group v.now) }
+{
+    let width = v.width();
+    let mut left = (width + (group - 1)) / group;
+    let mut text = String::with_capacity(alloc, left as usize)?;
+    while left > 0 {
+        left -= 1;
+        let low = left * group;
+        let part = select(v, low, group.min(width - low));
+        text.push(character(&part))?;
+    }
+    Ok(text)
+}
+
+/// The character of a group of digits.
+fn character(v: &Vec4) -> char
+    requires { width_of v.now ≤ 4 }
+    ensures value { result ∷ [] ≡ character_text v.now.digits }
+    ensures ascii { result < 128 }
+{
+    match v.number() {
+        Some(n) => digit_character(n),
+        None => unknown(v),
+    }
+}
+
+/// The character of a number below 16.
+fn digit_character(n: Plane) -> char
+    requires { n < 16 }
+    ensures value { result ≡ digit_char n }
+    ensures ascii { result < 128 }
+{
+    if n < 10 {
+        (b'0' + n as u8) as char
+    } else {
+        (b'a' + (n as u8 - 10)) as char
+    }
+}
+
+/// The letter of digits that have no number.
+fn unknown(v: &Vec4) -> char
+    ensures value { result ≡ unknown_letter v.now.digits }
+    ensures ascii { result < 128 }
+{
+    if is_all(v, Digit::X) {
+        return 'x';
+    }
+    if is_all(v, Digit::Z) {
+        return 'z';
+    }
+    if has(v, Digit::X) { 'X' } else { 'Z' }
+}
+
+/// All digits as one number, with a minus where it is negative.
+fn decimal(alloc: Global, v: &Vec4) -> Result<String, NoMemory>
+    ensures { IfOk result (λ t. string_bytes t ≡ text Radix.Decimal v.now) }
+{
+    let Some(n) = v.number() else {
+        return letter(alloc, v);
+    };
+    match negative_size(v, n) {
+        Some(size) => Ok(format!(in alloc; "-{size}")?),
+        None => Ok(format!(in alloc; "{n}")?),
+    }
+}
+
+/// The letter of digits that have no number, as a text.
+fn letter(alloc: Global, v: &Vec4) -> Result<String, NoMemory>
+    ensures { IfOk result (λ t. string_bytes t ≡ unknown_letter v.now.digits ∷ []) }
+{
+    let mut text = String::with_capacity(alloc, 1)?;
+    text.push(unknown(v))?;
+    Ok(text)
+}
+
+/// The size of a negative integer, whose digits are those of the number `n`; `None` where it is
+/// `n` itself.
+fn negative_size(v: &Vec4, n: Plane) -> Option<Plane>
+    requires { known_number v.now.digits ≡ Some n }
+    ensures value { integer_of v.now ≡ Some (option_map_or (λ size. neg_ℤ (pos size)) result (pos n)) }
+    ensures positive { IfSome result (λ size. 0 < size) }
+{
+    let width = v.width();
+    if v.is_signed() && n >> (width - 1) == 1 {
+        return Some((Plane::MAX >> (MAX_WIDTH - width)) - n + 1);
+    }
+    None
+}
