@@ -207,6 +207,10 @@ any_block = after (exactly (is_mark open_brace)) (before commands (exactly (is_m
 abbrev pub grammar : (p : Production) → G (Tree p)
 grammar block = any_block
 
+-- block, one level deeper (own)
+abbrev pub nested_block : G (List Command)
+nested_block = nested block
+
 -- NAME { "," NAME } (own)
 unfoldable pub names : G (List (List ℕ))
 names = listed (is_mark comma) (exactly (is_mark comma)) (tok name_in)
@@ -237,7 +241,7 @@ procedure_named word list = record { name = word; commands = list }
 
 -- "proc" NAME block (own)
 unfoldable pub procedure : G Procedure
-procedure = after (exactly (is_word (codes "proc"))) (two procedure_named (tok name_in) (nested block))
+procedure = after (exactly (is_word (codes "proc"))) (two procedure_named (tok name_in) nested_block)
 
 -- { "proc" NAME block } (own)
 unfoldable pub procedures : G (List Procedure)

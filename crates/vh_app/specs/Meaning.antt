@@ -80,16 +80,19 @@ abbrev pub script_with : Option (List ℕ) → Option (List (List ℕ)) → Opti
 script_with name variables startup procedures =
     option_and_then (λ n. option_and_then (λ v. option_and_then (λ s. option_map (λ p. record { name = n; variables = v; startup = s; procedures = p }) procedures) startup) variables) name
 
--- the names that a procedure has
+-- the script whose variables have these names
+abbrev pub parts_of : List (List ℕ) → tree.App → Option ScriptData
+parts_of names a = script_with (name_of a.name) (each name_of names) (each (command_of names) a.startup) (each (procedure_of names) a.procedures)
+
+-- the names that procedures have
 abbrev pub procedure_names : List tree.Procedure → List (List ℕ)
 procedure_names list = map (λ p. p.name) list
 
--- the script whose variables have these names, if no variable and no procedure is declared twice, and the
--- procedures have at most 65,536 commands (own)
+-- the same, if no variable and no procedure is declared twice, and the procedures have at most 65,536
+-- commands (own)
 abbrev pub script_named : List (List ℕ) → tree.App → Option ScriptData
 script_named names a =
-    cond (all_differ names && all_differ (procedure_names a.procedures) && nat_le (count a.procedures) 65536)
-    (script_with (name_of a.name) (each name_of names) (each (command_of names) a.startup) (each (procedure_of names) a.procedures)) None
+    cond (all_differ names && all_differ (procedure_names a.procedures) && nat_le (count a.procedures) 65536) (parts_of names a) None
 
 -- the names of all declarations
 abbrev pub all_names : List (List (List ℕ)) → List (List ℕ)

@@ -6,14 +6,14 @@
 //! vh_grammar, in whose parts the grammar is written, and on indexmap, which numbers the variables.
 #![tactic(auto)]
 
-// mod bytes;
+mod bytes;
 mod command;
 mod fault;
 mod lexer;
-// mod meaning;
-// mod parser;
+mod meaning;
+mod parser;
 mod point;
-// mod read;
+mod read;
 mod script;
 mod token;
 mod tree;
@@ -21,6 +21,6 @@ mod vars;
 
 pub use fault::ScriptFault;
 pub use point::Point;
-// pub use read::read_app;
+pub use read::read_app;
 pub use script::Script;
 pub use vars::Vars;
