@@ -1,0 +1,9 @@
+use Rattle.std.proofs.Common.{◌≡◌, drop}
+use Rattle.vh_app.specs.Meaning.{each, name_of}
+use Rattle.vh_app.specs.Seen.{names_seen}
+use Rattle.vh_app.proofs.Each.{onto}
+use Rattle.vh_app.proofs.meaning.names.Given as goal
+
+abbrev pub invariant-loop-name : goal.invariant-loop-name
+invariant-loop-name l =
+    onto l.found.items (each name_of (names_seen (drop l.name-index l.names))) ≡ each name_of (names_seen l.names)

@@ -1,0 +1,9 @@
+pub mod Token
+pub mod Spelling
+pub mod Tree
+pub mod Grammar
+pub mod Script
+pub mod Meaning
+pub mod Next
+pub mod Seen
+pub mod Fault
