@@ -3,14 +3,14 @@ use Rattle.std.proofs.Common.{◌≡◌, ℕ, ◌<◌, Bool, true, false, List, 
 use Rattle.std.proofs.lemmas.List.{length-map}
 use Rattle.vh_grammar.specs.declared.stop.Stop.{Stop as Stopped}
 use Rattle.vh_grammar.specs.declared.stop.Stop.TheVariants.{Lost, Deep, LeftOut, Memory}
-use Rattle.vh_grammar.specs.Part.{tok, rep, after}
+use Rattle.vh_grammar.specs.Part.{tok, rep, only, after}
 use Rattle.vh_grammar.specs.Reading.{Fault, lost, deep, left_out, Out, got, stop, then_, next_is, token_of, read, joined}
 use Rattle.vh_grammar.specs.Conditions.{eats}
 use Rattle.vh_grammar.specs.Says.{Stops}
 use Rattle.vh_grammar.proofs.Turns.{rep_fault, joined_none, joined_turn, joined_end, read_less}
 use Rattle.vh_app.specs.declared.token.Token.{Token as Held}
 use Rattle.vh_app.specs.Token.{Token}
-use Rattle.vh_app.specs.Grammar.{Production, block, G, grammar, only, exactly, is_word, is_mark, is_name, name_in, comma, any_block, commands, command, command_from, startup_command, order, procedure, declaration, names}
+use Rattle.vh_app.specs.Grammar.{Production, block, G, grammar, is_mark, name_in, comma, any_block, command, startup_command, order, procedure, declaration, names}
 use Rattle.vh_app.specs.Seen.{token_seen, tokens_seen}
 
 -- what stops one reading stops another, if each fault does
@@ -66,7 +66,7 @@ procedure-eats = refl
 
 -- "," NAME
 abbrev pub one_name : G (List ℕ)
-one_name = after (exactly (is_mark comma)) (tok name_in)
+one_name = after (only (is_mark comma)) (tok name_in)
 
 -- { "," NAME }
 abbrev pub more_names : G (List (List ℕ))
@@ -81,9 +81,9 @@ names-begin levels name ts rest e = rw e (nest (read grammar levels more_names r
     nest (stop fault left) = refl
 
 -- "," NAME, where both stand there
-pub one_name-read : (levels : ℕ) (name : List ℕ) (ts mid rest : List Token) → token_of (only (is_mark comma)) ts ≡ got tt mid → token_of name_in mid ≡ got name rest → read grammar levels one_name ts ≡ got name rest
+pub one_name-read : (levels : ℕ) (name : List ℕ) (ts mid rest : List Token) → read grammar levels (only (is_mark comma)) ts ≡ got tt mid → token_of name_in mid ≡ got name rest → read grammar levels one_name ts ≡ got name rest
 one_name-read levels name ts mid rest f g = rw (f, g) refl
 
 -- "," without a NAME
-pub one_name-stopped : (levels : ℕ) (ts mid : List Token) (stopped : Stopped) → token_of (only (is_mark comma)) ts ≡ got tt mid → Stops (token_of name_in mid) stopped → Stops (read grammar levels one_name ts) stopped
+pub one_name-stopped : (levels : ℕ) (ts mid : List Token) (stopped : Stopped) → read grammar levels (only (is_mark comma)) ts ≡ got tt mid → Stops (token_of name_in mid) stopped → Stops (read grammar levels one_name ts) stopped
 one_name-stopped levels ts mid stopped f h = stops-also (token_of name_in mid) (read grammar levels one_name ts) stopped (λ fault left g. rw (f, g) refl) h

@@ -9,7 +9,7 @@
 use Rattle.std.specs.Prelude.{ℕ, ◌+◌, ◌*◌, ◌-◌, Bool, true, false, cond, List, Option, Some, None, if◌then◌else◌, codes, fold, nat_eq, nat_lt, bytes_eq}
 use Rattle.vh_base.specs.declared.words.Reason.{Reason}
 use Rattle.vh_base.specs.declared.words.Reason.TheVariants.{CbValueChange, CbEndOfCompile, CbStartOfSimulation, CbEndOfSimulation}
-use Rattle.vh_grammar.specs.Part.{Part, tok, seq, bind, alt, rep, nested, act, two, after, before, listed}
+use Rattle.vh_grammar.specs.Part.{Part, tok, seq, bind, alt, rep, nested, only, act, two, after, before, listed}
 use Rattle.vh_grammar.specs.Reading.{Out, read, whole}
 use Rattle.vh_app.specs.declared.tree.Block.{Block}
 use Rattle.vh_app.specs.declared.tree.Block.TheVariants as blocks
@@ -29,13 +29,6 @@ Tree block = List Command
 -- a part of the grammar
 abbrev pub G : Type 0 → Type 1
 G A = Part Token Tree A
-
--- a token of the class, which means no more than that it stands there
-abbrev pub only : (Token → Bool) → Token → Option (Unit {0})
-only class t = cond (class t) (Some tt) None
-
-abbrev pub exactly : (Token → Bool) → G (Unit {0})
-exactly class = tok (only class)
 
 -- a word or a mark, spelled exactly so
 abbrev pub is_word : List ℕ → Token → Bool
@@ -136,7 +129,7 @@ close_brace = 125
 
 -- "by_name" TEXT "null", after its word (own)
 unfoldable pub by_name_arguments : G Order
-by_name_arguments = before (act by_name (tok text_in)) (exactly (is_word (codes "null")))
+by_name_arguments = before (act by_name (tok text_in)) (only (is_word (codes "null")))
 
 -- "register" REASON h "0" "proc" NAME NUMBER, after its word (own)
 abbrev pub registers : Reason → Handle × (List ℕ × ℕ) → Order
@@ -145,7 +138,7 @@ registers reason rest = register reason rest.0 rest.1.0 rest.1.1
 unfoldable pub register_arguments : Block → G Order
 register_arguments place =
     two registers (tok reason_in) (seq (tok (handle_in place))
-    (after (exactly is_zero) (after (exactly (is_word (codes "proc"))) (seq (tok name_in) (tok number_in)))))
+    (after (only is_zero) (after (only (is_word (codes "proc"))) (seq (tok name_in) (tok number_in)))))
 
 -- "remove" h, after its word (own)
 unfoldable pub remove_arguments : Block → G Order
@@ -175,7 +168,7 @@ aimed word asked = record { target = Some word; order = asked }
 
 -- order ";" (own)
 unfoldable pub startup_command : G Command
-startup_command = before (act plain (order blocks.Startup)) (exactly (is_mark semicolon))
+startup_command = before (act plain (order blocks.Startup)) (only (is_mark semicolon))
 
 -- no token at all can stand there
 abbrev pub no_meaning : Token → Option Order
@@ -189,11 +182,11 @@ order_of None = tok no_meaning
 -- [ NAME "=" ] order after its first word (own)
 unfoldable pub command_from : List ℕ → G Command
 command_from word =
-    alt (is_mark equals) (act (aimed word) (after (exactly (is_mark equals)) (order blocks.Procedure))) (act plain (order_of (routine_of word)))
+    alt (is_mark equals) (act (aimed word) (after (only (is_mark equals)) (order blocks.Procedure))) (act plain (order_of (routine_of word)))
 
 -- [ NAME "=" ] order ";" (own)
 unfoldable pub command : G Command
-command = before (bind (tok name_in) command_from) (exactly (is_mark semicolon))
+command = before (bind (tok name_in) command_from) (only (is_mark semicolon))
 
 -- { [ NAME "=" ] order ";" } (own)
 unfoldable pub commands : G (List Command)
@@ -201,7 +194,7 @@ commands = rep is_name command
 
 -- block (own)
 unfoldable pub any_block : G (List Command)
-any_block = after (exactly (is_mark open_brace)) (before commands (exactly (is_mark close_brace)))
+any_block = after (only (is_mark open_brace)) (before commands (only (is_mark close_brace)))
 
 -- the table
 abbrev pub grammar : (p : Production) → G (Tree p)
@@ -213,11 +206,11 @@ nested_block = nested block
 
 -- NAME { "," NAME } (own)
 unfoldable pub names : G (List (List ℕ))
-names = listed (is_mark comma) (exactly (is_mark comma)) (tok name_in)
+names = listed (is_mark comma) (only (is_mark comma)) (tok name_in)
 
 -- "var" NAME { "," NAME } ";" (own)
 unfoldable pub declaration : G (List (List ℕ))
-declaration = after (exactly (is_word (codes "var"))) (before names (exactly (is_mark semicolon)))
+declaration = after (only (is_word (codes "var"))) (before names (only (is_mark semicolon)))
 
 -- { "var" NAME { "," NAME } ";" } (own)
 unfoldable pub declarations : G (List (List (List ℕ)))
@@ -225,7 +218,7 @@ declarations = rep (is_word (codes "var")) declaration
 
 -- "app" NAME ";" (own)
 unfoldable pub heading : G (List ℕ)
-heading = after (exactly (is_word (codes "app"))) (before (tok name_in) (exactly (is_mark semicolon)))
+heading = after (only (is_word (codes "app"))) (before (tok name_in) (only (is_mark semicolon)))
 
 -- { order ";" } (own)
 unfoldable pub startup_commands : G (List Command)
@@ -234,14 +227,14 @@ startup_commands = rep is_name startup_command
 -- "startup" "{" { order ";" } "}" (own)
 unfoldable pub startup : G (List Command)
 startup =
-    after (exactly (is_word (codes "startup"))) (after (exactly (is_mark open_brace)) (before startup_commands (exactly (is_mark close_brace))))
+    after (only (is_word (codes "startup"))) (after (only (is_mark open_brace)) (before startup_commands (only (is_mark close_brace))))
 
 abbrev pub procedure_named : List ℕ → List Command → Procedure
 procedure_named word list = record { name = word; commands = list }
 
 -- "proc" NAME block (own)
 unfoldable pub procedure : G Procedure
-procedure = after (exactly (is_word (codes "proc"))) (two procedure_named (tok name_in) nested_block)
+procedure = after (only (is_word (codes "proc"))) (two procedure_named (tok name_in) nested_block)
 
 -- { "proc" NAME block } (own)
 unfoldable pub procedures : G (List Procedure)

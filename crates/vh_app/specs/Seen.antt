@@ -13,12 +13,13 @@ use Rattle.vh_app.specs.declared.tree.Command.{Command as HeldCommand}
 use Rattle.vh_app.specs.declared.tree.Procedure.{Procedure as HeldProcedure}
 use Rattle.vh_app.specs.declared.tree.App.{App as HeldApp}
 use Rattle.vh_grammar.specs.declared.stop.Stop.{Stop}
+use Rattle.vh_grammar.specs.Part.{only}
 use Rattle.vh_grammar.specs.Reading.{Out, got, next_is, token_of, read}
 use Rattle.vh_grammar.specs.Says.{Stops}
 use Rattle.vh_app.specs.Token.{Token, name, digits, text, mark}
 use Rattle.vh_app.specs.Spelling.{Piece, space, token, wrong, unescaped}
 use Rattle.vh_app.specs.Tree.{Handle, null, me, variable, Order, by_name, register, remove, print, Command, Procedure, App}
-use Rattle.vh_app.specs.Grammar.{G, grammar, only}
+use Rattle.vh_app.specs.Grammar.{G, grammar}
 
 -- a token of the code, which holds a text with its escapes (own)
 abbrev pub token_seen : Held → Token
@@ -93,7 +94,7 @@ ReadsPart view levels part tokens result = Says view (read grammar levels part (
 
 -- a token of the class is what the code takes (own)
 abbrev pub TakesToken : (Token → Bool) → List Held → Result (Bor (List Held)) Stop → Type 0
-TakesToken class tokens result = Passes (token_of (only class) (tokens_seen tokens)) result
+TakesToken class tokens result = Passes (read grammar 0 (only class) (tokens_seen tokens)) result
 
 -- a token with a meaning is what the code takes (own)
 abbrev pub TakesMeaning : {A X : Type 0} → (X → A) → (Token → Option A) → List Held → Result (X × Bor (List Held)) Stop → Type 0

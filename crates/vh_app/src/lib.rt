@@ -15,6 +15,8 @@ mod parser;
 mod point;
 mod read;
 mod script;
+#[cfg(test)]
+mod tests;
 mod token;
 mod tree;
 mod vars;

@@ -3,7 +3,7 @@ ghost use Rattle.vh_app.specs.Next.{opening};
 
 /// The startup or a procedure, by its number.
 #[derive(Clone, Copy, Debug, PartialEq, Eq)]
-pub enum Body {
+pub(crate) enum Body {
     Startup,
     Procedure(usize),
 }
@@ -11,16 +11,16 @@ pub enum Body {
 /// How far an activation is.
 #[derive(Clone, Copy, Debug, PartialEq, Eq)]
 pub struct Point {
-    pub body: Body,
+    pub(crate) body: Body,
     /// The number of the next command.
-    pub at: usize,
+    pub(crate) at: usize,
     /// The variable that waits for the answer of the last order.
-    pub waiting: Option<usize>,
+    pub(crate) waiting: Option<usize>,
 }
 
 impl Point {
     /// Where a body begins.
-    pub fn new(body: Body) -> Point
+    pub(crate) fn new(body: Body) -> Point
         ensures { result ≡ opening body }
     {
         Point {

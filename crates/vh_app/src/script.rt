@@ -11,10 +11,10 @@ use vh_base::{BodyName, HandleNo, Order, ProcName, Seen, Sequence, Short};
 /// A script that was read.
 #[derive(Drop)]
 pub struct Script {
-    pub name: Short,
-    pub variables: Sequence<Short>,
-    pub startup: Sequence<Command>,
-    pub procedures: Sequence<Procedure>,
+    name: Short,
+    variables: Sequence<Short>,
+    startup: Sequence<Command>,
+    procedures: Sequence<Procedure>,
 }
 
 impl Model for Script {
@@ -25,7 +25,7 @@ impl Model for Script {
 
 impl Script {
     /// A script of these parts.
-    pub fn new(
+    pub(crate) fn new(
         name: Short,
         variables: Vec<Short>,
         startup: Vec<Command>,
@@ -49,7 +49,7 @@ impl Script {
     }
 
     /// How many variables it has.
-    pub fn variable_count(&self) -> usize
+    pub(crate) fn variable_count(&self) -> usize
         ensures { result ≡ length self.now.variables }
     {
         self.variables.as_slice().len()

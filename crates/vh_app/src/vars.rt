@@ -33,7 +33,7 @@ impl Vars {
     }
 
     /// The variable that waits, if one does, gets the answer.
-    pub fn store(&mut self, waiting: Option<usize>, last: &Answer)
+    pub(crate) fn store(&mut self, waiting: Option<usize>, last: &Answer)
         ensures { self.new ≡ Next.stored waiting last.now self.old }
     {
         if let Some(number) = waiting
@@ -44,7 +44,7 @@ impl Vars {
     }
 
     /// The handle that a variable holds; anything but a handle is null.
-    pub fn handle(&self, number: usize) -> Option<HandleNo>
+    pub(crate) fn handle(&self, number: usize) -> Option<HandleNo>
         ensures { result ≡ Next.held (slice_get self.now number) }
     {
         match self.values.get(number) {

@@ -1,29 +1,33 @@
 -- From turns to runs: a run that hasn't ended goes on by one label.
-use Rattle.std.proofs.Common.{◌≡◌, ◌≢◌, ℕ, ◌+◌, ◌<◌, List, [], ◌∷◌, ◌++◌, length, take, true, false, Option, Some, None, refl, ap, sym, subst, ◌∙◌, append_assoc, append-nil, arith, length-append}
-use Rattle.std.proofs.Math.Seq.{take-append-add}
+use Rattle.std.proofs.Common.{◌≡◌, ◌≢◌, ℕ, ◌+◌, ◌<◌, List, [], ◌∷◌, ◌++◌, length, take, true, false, Option, Some, None, refl, ap, sym, subst, inl, inr, ◌∙◌, append_assoc, append-nil, arith, length-append}
+use Rattle.std.proofs.Math.Seq.{take-append-add, take-length}
 use Rattle.vh_base.specs.Outside.{appended, AppendsFront}
 use Rattle.vh_kernel.specs.declared.label.Ending.{Ending}
 use Rattle.vh_kernel.specs.declared.label.Ending.TheVariants as ending
 use Rattle.vh_kernel.specs.declared.label.Label.{Label}
 use Rattle.vh_kernel.specs.declared.label.Label.TheVariants as label
 use Rattle.vh_kernel.specs.State.{State}
-use Rattle.vh_kernel.specs.Step.{Move}
-use Rattle.vh_kernel.specs.Run.{fifo, move_from, IsRun, is_end, line_of_move, text_of}
+use Rattle.vh_kernel.specs.Step.{Move, is_end}
+use Rattle.vh_kernel.specs.Run.{fifo, IsMove, IsRun, line_of_move, text_of}
 use Rattle.vh_host.specs.declared.status.Status.{Status}
 use Rattle.vh_host.specs.declared.status.Status.TheVariants as status
-use Rattle.vh_host.specs.Turn.{Turned, TurnsTo}
+use Rattle.vh_host.specs.Turn.{Turned, TurnsTo, IsCut}
 use Rattle.vh_host.specs.Transcript.{none_ends, WroteEnded, WroteFront, Wrote}
 use Rattle.vh_host.proofs.Appended.{appended_twice, appended_nothing}
 
 -- From a state the machine makes these labels, none of them an end, and comes to another state.
 abbrev pub Goes : State → List Move → State → Type 0
 Goes s [] t = s ≡ t
-Goes s (m ∷ moves) t = (move_from fifo s ≡ m) × (is_end m.0 ≡ false) × Goes m.1 moves t
+Goes s (m ∷ moves) t = IsMove fifo s m × (is_end m.0 ≡ false) × Goes m.1 moves t
+
+-- A step from a state is one from the same state.
+from_same : (s t : State) (m : Move) → s ≡ t → IsMove fifo t m → IsMove fifo s m
+from_same s t m same e = let P : State → Type 0 = λ z. IsMove fifo z m in subst P (sym same) e
 
 -- It goes on by one label more.
 pub goes_more : (s t u : State) (l : Label) (moves : List Move)
-    → Goes s moves t → move_from fifo t ≡ (l, u) → is_end l ≡ false → Goes s (moves ++ (l, u) ∷ []) u
-goes_more s t u l [] g m open_yet = (ap (λ (z : State). move_from fifo z) g ∙ m, open_yet, refl)
+    → Goes s moves t → IsMove fifo t (l, u) → is_end l ≡ false → Goes s (moves ++ (l, u) ∷ []) u
+goes_more s t u l [] g m open_yet = (from_same s t (l, u) g m, open_yet, refl)
 goes_more s t u l (n ∷ moves) g m open_yet = (g.0, g.1, goes_more n.1 t u l moves g.2 m open_yet)
 
 -- What hasn't ended is a run.
@@ -33,8 +37,8 @@ goes_run s t (n ∷ moves) g = (g.0, (λ e. cc (g.1)), goes_run n.1 t moves g.2)
 
 -- With any one label more it is a run.
 pub goes_last : (s t : State) (m : Move) (moves : List Move)
-    → Goes s moves t → move_from fifo t ≡ m → IsRun fifo s (moves ++ m ∷ [])
-goes_last s t m [] g e = (ap (λ (z : State). move_from fifo z) g ∙ e, (λ _. refl), tt)
+    → Goes s moves t → IsMove fifo t m → IsRun fifo s (moves ++ m ∷ [])
+goes_last s t m [] g e = (from_same s t m g e, (λ _. refl), tt)
 goes_last s t m (n ∷ moves) g e = (g.0, (λ h. cc (g.1)), goes_last n.1 t m moves g.2 e)
 
 -- None of its labels is an end.
@@ -92,20 +96,37 @@ ends_with s t u n budget e old mid new f below turn =
 
 -- A turn that is cut short leaves a front of the text with its line.
 cut_short : (s t : State) (n budget : ℕ) (old mid new : Option (List ℕ))
-    → SoFar s t n old mid → n < budget → AppendsFront mid new (line_of_move (move_from fifo t))
+    → SoFar s t n old mid → n < budget → IsCut t mid new
     → (written : List ℕ) × (new ≡ appended old written) × WroteFront fifo budget s written
-cut_short s t n budget old mid new f below cut =
-    let last : Move = move_from fifo t in (
+cut_short s t n budget old mid new f below turn =
+    let last : Move = turn.0 in
+    let cut : AppendsFront mid new (line_of_move last) = turn.2 in (
       text_of f.moves ++ take cut.0 (line_of_move last),
       cut.1 ∙ ap (λ (w : Option (List ℕ)). appended w (take cut.0 (line_of_move last))) f.told ∙ appended_twice old (text_of f.moves) (take cut.0 (line_of_move last)),
       (
         f.moves ++ last ∷ [],
         length (text_of f.moves) + cut.0,
-        goes_last s t last f.moves f.goes refl,
+        goes_last s t last f.moves f.goes turn.1,
         (let c = f.counted in omega (arith, length-append f.moves (last ∷ []))),
         sym (ap (λ (w : List ℕ). take (length (text_of f.moves) + cut.0) w) (text_more f.moves last) ∙ take-append-add (text_of f.moves) (line_of_move last) cut.0),
       ),
     )
+
+-- A turn that makes no label leaves the text so far.
+cut_before : (s t : State) (n budget : ℕ) (old mid new : Option (List ℕ))
+    → SoFar s t n old mid → n < budget → new ≡ mid
+    → (written : List ℕ) × (new ≡ appended old written) × WroteFront fifo budget s written
+cut_before s t n budget old mid new f below same = (
+  text_of f.moves,
+  same ∙ f.told,
+  (
+    f.moves,
+    length (text_of f.moves),
+    goes_run s t f.moves f.goes,
+    (let c = f.counted in omega arith),
+    sym (take-length (text_of f.moves)),
+  ),
+)
 
 -- A turn that answers a status ends the run with it.
 pub so_far_ends : (s t u : State) (n budget : ℕ) (st : Status) (old mid new : Option (List ℕ))
@@ -113,7 +134,10 @@ pub so_far_ends : (s t u : State) (n budget : ℕ) (st : Status) (old mid new : 
 so_far_ends s t u n budget (status.Done c) old mid new f below turn = ends_with s t u n budget (ending.Cause c) old mid new f below turn
 so_far_ends s t u n budget (status.RunFault x) old mid new f below turn = ends_with s t u n budget (ending.Fault x) old mid new f below turn
 so_far_ends s t u n budget status.WriteFault old mid new f below turn = cut_short s t n budget old mid new f below turn
-so_far_ends s t u n budget status.NoMemory old mid new f below turn = cut_short s t n budget old mid new f below turn
+so_far_ends s t u n budget status.NoMemory old mid new f below turn = elim turn [
+  | inl same ↦ cut_before s t n budget old mid new f below same
+  | inr cut ↦ cut_short s t n budget old mid new f below cut
+]
 so_far_ends s t u n budget status.Usage old mid new f below turn = absurd turn
 so_far_ends s t u n budget (status.ReadFault k) old mid new f below turn = absurd turn
 so_far_ends s t u n budget (status.TooLong k) old mid new f below turn = absurd turn

@@ -1,13 +1,15 @@
 -- The headline: what `run` writes is exactly the text of a run of the machine.
-use Rattle.std.specs.Prelude.{◌≡◌, ℕ, ◌++◌, List, [], Option, Some, ◌⊎◌}
+use Rattle.std.specs.Prelude.{◌≡◌, ℕ, ◌++◌, List, [], map, Option, Some, ◌⊎◌}
+use Rattle.std.specs.List.{AllZip}
 use Rattle.vh_base.specs.declared.first.First.{First}
 use Rattle.vh_base.specs.Outside.{IsAnswered, appended}
 use Rattle.vh_kernel.specs.Run.{fifo, moves_of, text_of}
-use Rattle.vh_kernel.specs.State.{opening}
+use Rattle.vh_kernel.specs.Settle.{opening}
+use Rattle.vh_app.specs.Script.{ScriptData}
 use Rattle.vh_host.specs.declared.status.Status.{Status}
 use Rattle.vh_host.specs.declared.status.Status.TheVariants as status
-use Rattle.vh_host.specs.Words.{file_word}
-use Rattle.vh_host.specs.Acceptance.{Verdict, accepts, refuses, verdict, design_limit}
+use Rattle.vh_host.specs.Words.{file_words}
+use Rattle.vh_host.specs.Acceptance.{Verdict, accepts, refuses, verdict, limit_of}
 use Rattle.vh_host.specs.Transcript.{Wrote}
 
 -- How many labels a run has at most.
@@ -35,38 +37,42 @@ IsCutShort status.WriteFault = ⊥
 -- written, unless the source failed or memory was refused before; an accepted one gets a run.
 abbrev pub Answers : Verdict → Status → List ℕ → Type 0
 Answers (refuses refusal) s written = ((s ≡ refusal) ⊎ IsCutShort s) × (written ≡ [])
-Answers (accepts design) s written = Wrote fifo default_budget (opening design) s written
+Answers (accepts design scripts) s written = Wrote fifo default_budget (opening design scripts) s written
 
--- The bytes are those that the source may have answered for the file of the words.
-abbrev pub WasAnswered : List (List ℕ) → Holds → List ℕ → Type 0
-WasAnswered words holds bytes = (file : List ℕ) → file_word words 1 ≡ Some file → IsAnswered (holds file) design_limit bytes
+-- The contents are those that the source may have answered for the files, in word order.
+abbrev pub WereAnswered : Holds → List (List ℕ) → List (List ℕ) → Type 0
+WereAnswered holds files contents = AllZip (λ file bytes. IsAnswered (holds file) (limit_of file) bytes) files contents
 
--- What is written once the file's bytes are there: nothing, or a run's text.
+-- The source tells that the files have these contents, in word order.
+abbrev pub Tells : Holds → List (List ℕ) → List (List ℕ) → Type 0
+Tells holds files contents = map holds files ≡ map Some contents
+
+-- What is written once the files' contents are there: nothing, or a run's text.
 abbrev pub AnswersWith : Verdict → Status → Option (List ℕ) → Option (List ℕ) → Type 0
 AnswersWith v s old new = (written : List ℕ) × (new ≡ appended old written) × Answers v s written
 
--- The whole account of a call: on the bytes that the source answered, whatever it tells, the status
+-- The whole account of a call: on the contents that the source answered, whatever it tells, the status
 -- and the written bytes are those of the verdict.
 abbrev pub Accounts : List (List ℕ) → Holds → Status → Option (List ℕ) → Option (List ℕ) → Type 0
 Accounts words holds s old new =
-    (bytes : List ℕ) × WasAnswered words holds bytes × AnswersWith (verdict words bytes) s old new
+    (contents : List (List ℕ)) × WereAnswered holds (file_words words) contents × AnswersWith (verdict words contents) s old new
 
--- The headline. For accepted words and text, where the source tells the file's bytes and the sink
--- tells its own, the bytes written are exactly the text of a run of the machine from the design's
--- opening state under fifo, ending only at its end or at the budget, or a front of that text after
--- want of memory or a failed write.
+-- The headline. For accepted words, texts and scripts, where the source tells the files' contents and the
+-- sink tells its own, the bytes written are exactly the text of a run of the machine from the opening
+-- state of the design with its scripts under fifo, ending only at its end or at the budget, or a front of
+-- that text after want of memory or a failed write.
 abbrev pub Transcribes : List (List ℕ) → Holds → Status → Option (List ℕ) → Option (List ℕ) → Type 0
 Transcribes words holds s old new =
-    (file bytes before : List ℕ) (design : First) →
-    file_word words 1 ≡ Some file → holds file ≡ Some bytes → verdict words bytes ≡ accepts design → old ≡ Some before →
-    (written : List ℕ) × (new ≡ Some (before ++ written)) × Wrote fifo default_budget (opening design) s written
+    (contents : List (List ℕ)) (before : List ℕ) (design : First) (scripts : List ScriptData) →
+    Tells holds (file_words words) contents → verdict words contents ≡ accepts design scripts → old ≡ Some before →
+    (written : List ℕ) × (new ≡ Some (before ++ written)) × Wrote fifo default_budget (opening design scripts) s written
 
 -- A refused input gets its refusal, and nothing is written, unless the source failed or memory was
--- refused before; where the source tells the file's bytes.
+-- refused before; where the source tells the files' contents.
 abbrev pub Refuses : List (List ℕ) → Holds → Status → Option (List ℕ) → Option (List ℕ) → Type 0
 Refuses words holds s old new =
-    (file bytes : List ℕ) (refusal : Status) →
-    file_word words 1 ≡ Some file → holds file ≡ Some bytes → verdict words bytes ≡ refuses refusal →
+    (contents : List (List ℕ)) (refusal : Status) →
+    Tells holds (file_words words) contents → verdict words contents ≡ refuses refusal →
     ((s ≡ refusal) ⊎ IsCutShort s) × (new ≡ old)
 
 -- A status comes exactly where a fact holds, unless memory was refused.
@@ -76,4 +82,4 @@ Exactly s given P = (s ≡ given → P) × (P → (s ≡ given) ⊎ (s ≡ statu
 -- The text of the run that a verdict allows, of so many labels at most; none for a refused input.
 abbrev pub text_by : Verdict → ℕ → List ℕ
 text_by (refuses r) budget = []
-text_by (accepts design) budget = text_of (moves_of fifo budget (opening design))
+text_by (accepts design scripts) budget = text_of (moves_of fifo budget (opening design scripts))

@@ -1,13 +1,13 @@
 -- One turn of a run: a step, and its line offered to the sink.
-use Rattle.std.specs.Prelude.{◌≡◌, ◌<◌, ℕ, List, false, Option, Some, None}
+use Rattle.std.specs.Prelude.{◌≡◌, ◌<◌, ℕ, List, false, Option, Some, None, ◌⊎◌}
 use Rattle.vh_base.specs.Outside.{appended, AppendsFront}
 use Rattle.vh_kernel.specs.declared.label.Ending.{Ending}
 use Rattle.vh_kernel.specs.declared.label.Ending.TheVariants as ending
 use Rattle.vh_kernel.specs.declared.label.Label.{Label}
 use Rattle.vh_kernel.specs.declared.label.Label.TheVariants as label
 use Rattle.vh_kernel.specs.State.{State}
-use Rattle.vh_kernel.specs.Step.{choices_of}
-use Rattle.vh_kernel.specs.Run.{fifo, move_from, is_end, line_of_move}
+use Rattle.vh_kernel.specs.Step.{Move, is_end, choices_of}
+use Rattle.vh_kernel.specs.Run.{fifo, IsMove, line_of_move}
 use Rattle.vh_host.specs.declared.status.Status.{Status}
 use Rattle.vh_host.specs.declared.status.Status.TheVariants as status
 
@@ -18,6 +18,12 @@ status_of_end (ending.Fault f) = status.RunFault f
 
 -- The status with which a label ends the run, if it does.
 abbrev pub status_after : Label → Option Status
+status_after (label.Startup k) = None
+status_after (label.Do who order answer) = None
+status_after (label.Ret who) = None
+status_after (label.Occ n reason object) = None
+status_after (label.Fire n c) = None
+status_after (label.Done n) = None
 status_after (label.Activate region) = None
 status_after (label.Advance time) = None
 status_after (label.Pick serial shown) = None
@@ -27,15 +33,20 @@ status_after (label.End e) = Some (status_of_end e)
 
 -- The turn's label, and the whole of its line.
 abbrev pub TurnsTo : Label → State → State → Option (List ℕ) → Option (List ℕ) → Type 0
-TurnsTo l s t old new = (move_from fifo s ≡ (l, t)) × (new ≡ appended old (line_of_move (l, t)))
+TurnsTo l s t old new = IsMove fifo s (l, t) × (new ≡ appended old (line_of_move (l, t)))
+
+-- The turn wrote a front of its label's line.
+abbrev pub IsCut : State → Option (List ℕ) → Option (List ℕ) → Type 0
+IsCut s old new = (m : Move) × IsMove fifo s m × AppendsFront old new (line_of_move m)
 
 -- By what a turn answers: it goes on, or the run is over, or a front of the line was written.
 abbrev pub Turned : Option Status → State → State → Option (List ℕ) → Option (List ℕ) → Type 0
 Turned None s t old new = (l : Label) × TurnsTo l s t old new × (is_end l ≡ false) × (0 < choices_of t)
 Turned (Some (status.Done c)) s t old new = TurnsTo (label.End (ending.Cause c)) s t old new
 Turned (Some (status.RunFault f)) s t old new = TurnsTo (label.End (ending.Fault f)) s t old new
-Turned (Some status.WriteFault) s t old new = AppendsFront old new (line_of_move (move_from fifo s))
-Turned (Some status.NoMemory) s t old new = AppendsFront old new (line_of_move (move_from fifo s))
+Turned (Some status.WriteFault) s t old new = IsCut s old new
+-- memory was refused before the label was made, or with its line
+Turned (Some status.NoMemory) s t old new = (new ≡ old) ⊎ IsCut s old new
 Turned (Some status.Usage) s t old new = ⊥
 Turned (Some (status.ReadFault n)) s t old new = ⊥
 Turned (Some (status.TooLong n)) s t old new = ⊥

@@ -1,14 +1,20 @@
-//! The call that runs a design: words and files to the transcript's bytes.
+//! The call that runs a design with a script: words and files to the transcript's bytes.
 //!
 //! The one contract used above: [`run`] writes exactly the text of a run of the machine
-//! for accepted words and text, and its status says how the run ended, or which input was
-//! refused; [`status_line`] and [`exit_number`] are the table of statuses. Stands on
-//! vh_parse for the text's design and on vh_kernel for the machine.
+//! for accepted words, texts and scripts, and its status says how the run ended, or which
+//! input was refused; [`status_line`] and [`exit_number`] are the table of statuses. Stands on
+//! vh_parse for the text's design, on vh_app for the scripts, which are read and not run yet,
+//! and on vh_kernel for the machine.
 #![tactic(auto)]
 
+mod file;
 mod host;
+mod judging;
 mod plain;
+mod reading;
 mod report;
+#[cfg(test)]
+mod script_tests;
 mod status;
 #[cfg(test)]
 mod tests;

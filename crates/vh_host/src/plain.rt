@@ -1,43 +1,100 @@
-ghost use Rattle.std.specs.Prelude.{◌≡◌, ◌<◌, ◌++◌, List, [], IfOk, OnOk};
-ghost use Rattle.vh_base.specs.First.{are_declared};
+ghost use Rattle.std.specs.Prelude.{◌≡◌, ◌<◌, ◌≤◌, ◌++◌, List, [], None, length, map, IfOk, OnOk};
+ghost use Rattle.std.specs.List.{list_any};
 ghost use Rattle.vh_kernel.specs.Shown.{state_of};
-ghost use Rattle.vh_kernel.specs.State.{opening};
 ghost use Rattle.vh_kernel.specs.Step.{choices_of};
-ghost use Rattle.vh_kernel.specs.Run.{fifo, move_from, moves_of, text_of, line_of_move, is_end};
+ghost use Rattle.vh_kernel.specs.Run.{fifo, moves_of, text_of, line_of_move};
 ghost use Rattle.vh_host.specs.Words.{texts};
-ghost use Rattle.vh_host.specs.Acceptance.{verdict};
+ghost use Rattle.vh_host.specs.Acceptance.{verdict, by_files, by_texts, files_with, first_too_long, is_too_long};
+ghost use Rattle.vh_host.specs.Reading.{file_seen, files_seen};
 ghost use Rattle.vh_host.specs.Headline.{text_by};
 
-use crate::words::file_to_run;
+use crate::file::TextFile;
+use crate::judging::{Refusal, judge};
+use crate::reading::limit_of;
+use crate::words::files_to_run;
 use std::alloc::Global;
-use vh_base::NoMemory;
+use vh_base::{Bytes, NoMemory};
 use vh_kernel::{Kernel, Label, line_of};
-use vh_parse::{FirstFault, parse_first};
-
-// How many bytes a Verilog file may have.
-const DESIGN_LIMIT: usize = 4_194_304;
 
 /// The plain program beside the definitions: the text of the run that these words and these
-/// bytes of their file ask for, of so many labels at most, all of it in memory; no bytes
-/// where they are refused. Tests compare `run` with it.
+/// contents of their files, in word order, ask for, of so many labels at most, all of it in
+/// memory; no bytes where they are refused. Tests compare `run` with it.
 pub fn plain_text(
     alloc: Global,
     words: &[String],
-    bytes: &[u8],
+    contents: &[Bytes],
     budget: u64,
 ) -> Result<Vec<u8>, NoMemory>
-    ensures { IfOk result (λ text. text.items ≡ text_by (verdict (texts words.now) bytes.now) budget) }
+    ensures { IfOk result (λ text. text.items ≡ text_by (verdict (texts words.now) contents.now) budget) }
 {
-    if file_to_run(words).is_none() || bytes.len() > DESIGN_LIMIT {
+    let Some(names) = files_to_run(words) else {
+        return Ok(Vec::new(alloc));
+    };
+    let files = files_with(alloc, names, contents)?;
+    text_of_files(alloc, files.as_slice(), budget)
+}
+
+// The files of these words with these contents.
+fn files_with<'a>(
+    alloc: Global,
+    words: &'a [String],
+    contents: &[Bytes],
+) -> Result<Vec<TextFile<'a>>, NoMemory>
+    ensures files { IfOk result (λ files. files_seen files.items ≡ files_with (texts words.now) contents.now) }
+    ensures few { IfOk result (λ files. length files.items ≤ length words.now) }
+{
+    let mut files = Vec::new(alloc);
+    for word in words {
+        let number = files.len();
+        if number >= contents.len() {
+            return Ok(files);
+        }
+        let copied = Vec::from_slice(alloc, contents[number].as_slice())?;
+        files.push(TextFile {
+            word: word.as_str(),
+            bytes: copied,
+        })?;
+    }
+    Ok(files)
+}
+
+// Does the file have more bytes than it may have?
+fn is_too_long(file: &TextFile<'_>) -> bool
+    ensures { result ≡ is_too_long (file_seen file.now) }
+{
+    file.bytes.len() > limit_of(file.word)
+}
+
+// The text of the run of files.
+fn text_of_files(alloc: Global, files: &[TextFile<'_>], budget: u64) -> Result<Vec<u8>, NoMemory>
+    requires { length files.now ≤ 8 }
+    ensures { IfOk result (λ text. text.items ≡ text_by (by_files (files_seen files.now)) budget) }
+{
+    if any_too_long(files) {
         return Ok(Vec::new(alloc));
     }
-    match parse_first(alloc, bytes) {
-        Ok(design) => {
-            let mut kernel = Kernel::new(alloc, design)?;
+    text_of_texts(alloc, files, budget)
+}
+
+// Is one of the files too long?
+fn any_too_long(files: &[TextFile<'_>]) -> bool
+    ensures { result ≡ list_any (λ file. is_too_long (file_seen file)) files.now }
+{
+    files.iter().any(|file| is_too_long(file))
+}
+
+// The text of the run of files, none of which is too long.
+fn text_of_texts(alloc: Global, files: &[TextFile<'_>], budget: u64) -> Result<Vec<u8>, NoMemory>
+    requires { length files.now ≤ 8 }
+    ensures { IfOk result (λ text. text.items ≡ text_by (by_texts (files_seen files.now)) budget) }
+{
+    match judge(alloc, files) {
+        Ok((design, scripts)) => {
+            let mut kernel = Kernel::new(alloc, design, scripts)?;
             text_from(alloc, &mut kernel, budget)
         }
-        Err(FirstFault::NotBuilt) => Ok(Vec::new(alloc)),
-        Err(FirstFault::NoMemory) => Err(NoMemory),
+        Err(Refusal::NoMemory) => Err(NoMemory),
+        Err(Refusal::Design(_, _) | Refusal::Script(_, _, _)) => Ok(Vec::new(alloc)),
     }
 }
 
@@ -50,7 +107,7 @@ fn text_from(alloc: Global, kernel: &mut Kernel, budget: u64) -> Result<Vec<u8>,
     for made in 0..budget {
         let label = kernel.step(alloc, 0)?;
         push_line(alloc, &mut text, kernel, &label)?;
-        if is_end(&label) {
+        if label.is_end() {
             return Ok(text);
         }
     }
@@ -70,11 +127,4 @@ fn push_line(
         text.extend_from_slice(line.as_bytes())?;
     }
     Ok(())
-}
-
-// Is the run over after the label?
-fn is_end(label: &Label) -> bool
-    ensures { result ≡ is_end label.now }
-{
-    matches!(label, Label::End(_))
 }

@@ -1,11 +1,11 @@
-ghost use Rattle.std.specs.Prelude.{◌≡◌, ◌++◌, codes, string_bytes, IfOk, Some, [], unwrap_or};
+ghost use Rattle.std.specs.Prelude.{◌≡◌, ◌++◌, codes, string_bytes, IfOk, Some, [], unwrap_or, slice_get};
 ghost use Rattle.std.specs.Option.{option_map};
 ghost use Rattle.std.specs.Fmt.{decimal};
-ghost use Rattle.vh_host.specs.Words.{texts, file_word};
+ghost use Rattle.vh_host.specs.Words.{texts, file_word, numbered};
 ghost use Rattle.vh_host.specs.Report.{line_of_status, exit_of, design_fault_name, app_fault_name, fault_name, name_of_file};
 
 use crate::status::Status;
-use crate::words::file_to_run;
+use crate::words::files_to_run;
 use std::alloc::{AllocError, Global};
 use vh_base::{AppFault, DesignFault, Fault, NoMemory, Place};
 
@@ -73,9 +73,29 @@ fn line_of_app(alloc: Global, name: &str, fault: &str, place: &Place) -> Result<
 fn file_name(words: &[String], n: u32) -> &str
     ensures { result.now ≡ name_of_file (texts words.now) n }
 {
-    match file_to_run(words) {
-        Some(file) if n == 1 => file,
-        _ => "",
+    match files_to_run(words) {
+        Some(files) => name_in(files, n),
+        None => "",
+    }
+}
+
+// The same among the file words.
+fn name_in(files: &[String], n: u32) -> &str
+    ensures { result.now ≡ unwrap_or (numbered (texts files.now) n) [] }
+{
+    if n == 0 {
+        return "";
+    }
+    word_at(files, n as usize - 1)
+}
+
+// The word at an index, or nothing where there is none.
+fn word_at(files: &[String], index: usize) -> &str
+    ensures { result.now ≡ unwrap_or (option_map string_bytes (slice_get files.now index)) [] }
+{
+    match files.get(index) {
+        Some(file) => file.as_str(),
+        None => "",
     }
 }
 

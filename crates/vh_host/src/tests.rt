@@ -2,7 +2,7 @@ use crate::{Status, exit_number, plain_text, run, status_line};
 use std::alloc::Global;
 use std::process::Abort;
 use std::test::Fail;
-use vh_base::{Cause, DesignFault, MemoryFiles, MemorySink, Place};
+use vh_base::{AppFault, Bytes, Cause, DesignFault, MemoryFiles, MemorySink, Place};
 
 const FIRST: &str =
     "module top; reg a; initial begin a = 1; #3 $display(\"hi\"); $finish; end endmodule\n";
@@ -17,6 +17,14 @@ fn words_of(alloc: Global, list: &[&str]) -> Result<Vec<String>, Fail> {
     Ok(words)
 }
 
+fn contents_of(alloc: Global, list: &[&str]) -> Result<Vec<Bytes>, Fail> {
+    let mut contents = Vec::new(alloc);
+    for text in list {
+        contents.push(Bytes::new(Vec::from_slice(alloc, text.as_bytes())?))?;
+    }
+    Ok(contents)
+}
+
 // Runs the words over one file `top.v`, read and written with the faults of these numbers.
 fn ran(
     rt: &impl Abort,
@@ -27,13 +35,26 @@ fn ran(
     most: usize,
     failing_writes: &[u64],
 ) -> Result<(Status, Vec<u8>), Fail> {
-    let words = words_of(alloc, list)?;
     let mut held = Vec::new(alloc);
     held.push((
         String::from_str(alloc, "top.v")?,
         Vec::from_slice(alloc, text)?,
     ))?;
-    let mut files = MemoryFiles::new(held, Vec::from_slice(alloc, failing_reads)?);
+    let files = MemoryFiles::new(held, Vec::from_slice(alloc, failing_reads)?);
+    ran_over(rt, alloc, list, files, most, failing_writes)
+}
+
+// Runs the words over these files, written with the faults of these numbers.
+fn ran_over(
+    rt: &impl Abort,
+    alloc: Global,
+    list: &[&str],
+    source: MemoryFiles,
+    most: usize,
+    failing_writes: &[u64],
+) -> Result<(Status, Vec<u8>), Fail> {
+    let words = words_of(alloc, list)?;
+    let mut files = source;
     let mut out = MemorySink::new(
         alloc,
         most.max(1),
@@ -99,7 +120,8 @@ fn a_design_runs_to_its_end(rt: HostRuntime) -> Result<(), Fail> {
         assert_eq!(rt; told, status, "{design}");
         assert_eq!(rt; written.as_slice(), text.as_bytes(), "{design}");
         let words = words_of(rt.alloc(), &["run", "top.v"])?;
-        let plain = plain_text(rt.alloc(), &words, design.as_bytes(), 1000).expect(&rt, "memory");
+        let contents = contents_of(rt.alloc(), &[design])?;
+        let plain = plain_text(rt.alloc(), &words, &contents, 1000).expect(&rt, "memory");
         assert_eq!(rt; plain.as_slice(), text.as_bytes(), "{design}");
     }
     Ok(())
@@ -198,5 +220,335 @@ fn a_failed_read_or_write_leaves_a_front(rt: HostRuntime) -> Result<(), Fail> {
         assert!(rt; n <= FIRST_TEXT.len());
         assert_eq!(rt; written.as_slice(), &FIRST_TEXT.as_bytes()[..n]);
     }
+    Ok(())
+}
+
+const SCRIPT: &str =
+    "app watch; var r; startup { by_name \"top\" null; print \"on\"; } proc p { r = remove me; }\n";
+
+// What it writes before the design of `FIRST` does.
+const SCRIPT_TEXT: &str = "0 startup watch
+0 do s1 by_name \"top\" null => E9
+0 do s1 print \"on\" => ok
+3 out \"hi\\n\"
+3 end finish
+";
+
+// A source with the files `a.v`, `b.app`, `c.v` and `d.app`.
+fn two_of_each(
+    alloc: Global,
+    design: &[u8],
+    script: &[u8],
+    failing: &[u64],
+) -> Result<MemoryFiles, Fail> {
+    let mut held = Vec::new(alloc);
+    for (name, bytes) in [
+        ("a.v", design),
+        ("b.app", script),
+        ("c.v", design),
+        ("d.app", script),
+    ] {
+        held.push((
+            String::from_str(alloc, name)?,
+            Vec::from_slice(alloc, bytes)?,
+        ))?;
+    }
+    Ok(MemoryFiles::new(held, Vec::from_slice(alloc, failing)?))
+}
+
+// A text with spaces behind it, so many bytes in all.
+fn padded(alloc: Global, text: &[u8], length: usize) -> Result<Vec<u8>, Fail> {
+    let mut bytes = Vec::from_slice(alloc, text)?;
+    for _ in text.len()..length {
+        bytes.push(b' ')?;
+    }
+    Ok(bytes)
+}
+
+// Words, and the contents of their files.
+static SIDES: [(&[&str], &[&str], &str); 3] = [
+    (&["run", "a.v"], &[FIRST], FIRST_TEXT),
+    (&["run", "a.v", "b.app"], &[FIRST, SCRIPT], SCRIPT_TEXT),
+    (&["run", "b.app", "a.v"], &[SCRIPT, FIRST], SCRIPT_TEXT),
+];
+
+#[test]
+fn a_script_may_stand_on_either_side(rt: HostRuntime) -> Result<(), Fail> {
+    let alloc = rt.alloc();
+    let design = FIRST.as_bytes();
+    let script = SCRIPT.as_bytes();
+    for (list, texts, text) in &SIDES {
+        let source = two_of_each(alloc, design, script, &[])?;
+        let (told, written) = ran_over(&rt, alloc, list, source, 1024, &[])?;
+        assert_eq!(rt; told, Status::Done(Cause::Finish));
+        assert_eq!(rt; written.as_slice(), text.as_bytes());
+        let words = words_of(alloc, list)?;
+        let contents = contents_of(alloc, texts)?;
+        let plain = plain_text(alloc, &words, &contents, 1000).expect(&rt, "memory");
+        assert_eq!(rt; plain.as_slice(), text.as_bytes());
+    }
+    Ok(())
+}
+
+// The one design of these tests that is no text of the first subset, and the one script.
+const NO_DESIGN: &str = "module top; always #1; endmodule";
+
+const NO_SCRIPT: &str = "app watch; startup { print \"on\" }";
+
+// A design that is refused, at its place.
+const DESIGN_REFUSED: Status = Status::DesignRefused(
+    DesignFault::S3,
+    Place {
+        file: 1,
+        line: 1,
+        column: 1,
+    },
+);
+
+// The script is refused, as the first file or as the second.
+const FIRST_REFUSED: Status = Status::AppRefused(
+    1,
+    AppFault::A2,
+    Place {
+        file: 1,
+        line: 1,
+        column: 1,
+    },
+);
+
+const SECOND_REFUSED: Status = Status::AppRefused(
+    2,
+    AppFault::A2,
+    Place {
+        file: 2,
+        line: 1,
+        column: 1,
+    },
+);
+
+const USAGE: &str = "usage: vhost run [--order fifo|lifo|seeded:N] [--budget N] FILES..";
+
+// Words, the design's and the script's text, the reads that fail, and the status with its
+// line and exit number.
+static REFUSALS: [(&[&str], &str, &str, &[u64], Status, &str, u8); 19] = [
+    (
+        &["run", "a.v", "c.v"],
+        FIRST,
+        SCRIPT,
+        &[],
+        Status::Usage,
+        USAGE,
+        1,
+    ),
+    (
+        &["run", "a.v", "c.v", "b.app"],
+        FIRST,
+        SCRIPT,
+        &[],
+        Status::Usage,
+        USAGE,
+        1,
+    ),
+    (
+        &["run", "a.v", "b.app", "d.app"],
+        FIRST,
+        SCRIPT,
+        &[],
+        Status::Usage,
+        USAGE,
+        1,
+    ),
+    (
+        &["run", "a.v", "b.app", "b.app"],
+        FIRST,
+        SCRIPT,
+        &[],
+        Status::Usage,
+        USAGE,
+        1,
+    ),
+    (
+        &["run", "b.app"],
+        FIRST,
+        SCRIPT,
+        &[],
+        Status::Usage,
+        USAGE,
+        1,
+    ),
+    (
+        &["run", "b.app", "d.app"],
+        FIRST,
+        SCRIPT,
+        &[],
+        Status::Usage,
+        USAGE,
+        1,
+    ),
+    (
+        &["run", "a.v", "-b.app"],
+        FIRST,
+        SCRIPT,
+        &[],
+        Status::Usage,
+        USAGE,
+        1,
+    ),
+    (
+        &["run", "a.v", "b.apps"],
+        FIRST,
+        SCRIPT,
+        &[],
+        Status::Usage,
+        USAGE,
+        1,
+    ),
+    (
+        &["gen", "a.v", "b.app"],
+        FIRST,
+        SCRIPT,
+        &[],
+        Status::Usage,
+        USAGE,
+        1,
+    ),
+    (
+        &["run", "a.v", "b.app"],
+        FIRST,
+        NO_SCRIPT,
+        &[],
+        SECOND_REFUSED,
+        "application refused: b.app: A2 at 1:1",
+        3,
+    ),
+    (
+        &["run", "b.app", "a.v"],
+        FIRST,
+        NO_SCRIPT,
+        &[],
+        FIRST_REFUSED,
+        "application refused: b.app: A2 at 1:1",
+        3,
+    ),
+    // The Verilog text is refused before the script, wherever they stand.
+    (
+        &["run", "b.app", "a.v"],
+        NO_DESIGN,
+        NO_SCRIPT,
+        &[],
+        DESIGN_REFUSED,
+        "design refused: S3 at 1:1:1",
+        2,
+    ),
+    (
+        &["run", "a.v", "b.app"],
+        NO_DESIGN,
+        SCRIPT,
+        &[],
+        DESIGN_REFUSED,
+        "design refused: S3 at 1:1:1",
+        2,
+    ),
+    // Reads that fail come first.
+    (
+        &["run", "a.v", "b.app"],
+        NO_DESIGN,
+        NO_SCRIPT,
+        &[2],
+        Status::ReadFault(2),
+        "cannot read b.app",
+        6,
+    ),
+    (
+        &["run", "b.app", "a.v"],
+        FIRST,
+        SCRIPT,
+        &[2],
+        Status::ReadFault(2),
+        "cannot read a.v",
+        6,
+    ),
+    (
+        &["run", "a.v", "b.app"],
+        FIRST,
+        SCRIPT,
+        &[1, 2],
+        Status::ReadFault(1),
+        "cannot read a.v",
+        6,
+    ),
+    (
+        &["run", "a.v", "other.app"],
+        FIRST,
+        SCRIPT,
+        &[],
+        Status::ReadFault(2),
+        "cannot read other.app",
+        6,
+    ),
+    (
+        &["run", ".app", "a.v"],
+        FIRST,
+        SCRIPT,
+        &[],
+        Status::ReadFault(1),
+        "cannot read .app",
+        6,
+    ),
+    (
+        &["run", "a.v", "b.app"],
+        FIRST,
+        "",
+        &[],
+        SECOND_REFUSED,
+        "application refused: b.app: A2 at 1:1",
+        3,
+    ),
+];
+
+#[test]
+fn the_first_refusal_is_told_and_nothing_is_written(rt: HostRuntime) -> Result<(), Fail> {
+    let alloc = rt.alloc();
+    for (list, design, script, failing, status, line, exit) in &REFUSALS {
+        let source = two_of_each(alloc, design.as_bytes(), script.as_bytes(), failing)?;
+        let (told, written) = ran_over(&rt, alloc, list, source, 1024, &[])?;
+        assert_eq!(rt; told, *status, "{line}");
+        assert!(rt; written.is_empty(), "{line}");
+        let words = words_of(alloc, list)?;
+        let said = status_line(alloc, &words, &told).expect(&rt, "memory");
+        assert_eq!(rt; said.as_bytes(), line.as_bytes());
+        assert_eq!(rt; exit_number(&told), *exit);
+    }
+    Ok(())
+}
+
+#[test]
+fn a_script_has_1048576_bytes_at_most(rt: HostRuntime) -> Result<(), Fail> {
+    let alloc = rt.alloc();
+    let list = ["run", "a.v", "b.app"];
+    let longest = padded(alloc, SCRIPT.as_bytes(), 1_048_576)?;
+    let source = two_of_each(alloc, FIRST.as_bytes(), &longest, &[])?;
+    let (told, written) = ran_over(&rt, alloc, &list, source, 1024, &[])?;
+    assert_eq!(rt; told, Status::Done(Cause::Finish));
+    assert_eq!(rt; written.as_slice(), SCRIPT_TEXT.as_bytes());
+    // One byte more is too long, also where the design would be refused.
+    let longer = padded(alloc, SCRIPT.as_bytes(), 1_048_577)?;
+    let source = two_of_each(alloc, NO_DESIGN.as_bytes(), &longer, &[])?;
+    let (told, written) = ran_over(&rt, alloc, &list, source, 1024, &[])?;
+    assert_eq!(rt; told, Status::TooLong(2));
+    assert!(rt; written.is_empty());
+    // The first file that is too long is told, and the read behind it isn't made.
+    let source = two_of_each(alloc, FIRST.as_bytes(), &longer, &[2])?;
+    let (told, _) = ran_over(&rt, alloc, &["run", "b.app", "a.v"], source, 1024, &[])?;
+    assert_eq!(rt; told, Status::TooLong(1));
+    let words = words_of(alloc, &["run", "b.app", "a.v"])?;
+    let said = status_line(alloc, &words, &told).expect(&rt, "memory");
+    assert_eq!(rt; said.as_bytes(), b"too long: b.app".as_slice());
+    assert_eq!(rt; exit_number(&told), 6);
+    // A Verilog file may be longer than that.
+    let design = padded(alloc, FIRST.as_bytes(), 1_048_577)?;
+    let source = two_of_each(alloc, &design, SCRIPT.as_bytes(), &[])?;
+    let (told, _) = ran_over(&rt, alloc, &list, source, 1024, &[])?;
+    assert_eq!(rt; told, Status::Done(Cause::Finish));
     Ok(())
 }

@@ -76,7 +76,13 @@ fn status_after(label: &Label) -> Option<Status>
     match label {
         Label::End(Ending::Cause(cause)) => Some(Status::Done(*cause)),
         Label::End(Ending::Fault(fault)) => Some(Status::RunFault(*fault)),
-        Label::Activate(_)
+        Label::Startup(_)
+        | Label::Do(_, _, _)
+        | Label::Ret(_)
+        | Label::Occ(_, _, _)
+        | Label::Fire(_, _)
+        | Label::Done(_)
+        | Label::Activate(_)
         | Label::Advance(_)
         | Label::Pick(_, _)
         | Label::Stmt(_, _)

@@ -1,23 +1,89 @@
-ghost use Rattle.std.specs.Prelude.{◌≡◌, Some, None, [], ◌∷◌, map, string_bytes};
+ghost use Rattle.std.specs.Prelude.{◌≡◌, ◌≤◌, Some, None, length, map, string_bytes, IfSome};
 ghost use Rattle.std.specs.Option.{option_map};
-ghost use Rattle.vh_host.specs.Words.{Reading, reading, is_design_word, texts, file_word};
+ghost use Rattle.std.specs.List.{list_all, count_by};
+ghost use Rattle.vh_host.specs.Words.{Reading, reading, can_be_run, is_option, is_design_word, is_script_word, is_file_word, texts};
 
-/// The file that the words ask to run, where they have a reading.
-pub fn file_to_run(words: &[String]) -> Option<&str>
-    ensures reading { option_map (λ file. record { files = file.now ∷ [] }) result ≡ reading (texts words.now) }
-    ensures named { file_word (texts words.now) 1 ≡ option_map (λ file. file.now) result }
+// How many file words there are at most.
+const FILE_LIMIT: usize = 8;
+
+/// The file words that are asked to be run, where the words have a reading.
+pub fn files_to_run(words: &[String]) -> Option<&[String]>
+    ensures reading { option_map (λ files. record { files = texts files.now }) result ≡ reading (texts words.now) }
+    ensures few { IfSome result (λ files. length files.now ≤ 8) }
 {
-    if let [mode, file] = words {
-        if mode.as_str() == "run" && is_design_word(file.as_str()) {
-            return Some(file.as_str());
-        }
+    let [mode, files @ ..] = words else {
+        return None;
+    };
+    if mode.as_str() == "run" && can_be_run(files) {
+        return Some(files);
     }
     None
 }
 
-// Does the word name a Verilog file?
-fn is_design_word(word: &str) -> bool
+// Can the file words be run?
+fn can_be_run(files: &[String]) -> bool
+    ensures { result ≡ can_be_run (texts files.now) }
+{
+    if files.len() > FILE_LIMIT {
+        return false;
+    }
+    if !all_files(files) {
+        return false;
+    }
+    design_count(files) == 1 && script_count(files) <= 1
+}
+
+// Does each word name a file?
+fn all_files(files: &[String]) -> bool
+    ensures { result ≡ list_all (λ file. is_file_word (string_bytes file)) files.now }
+{
+    files.iter().all(|file| is_file_word(file.as_str()))
+}
+
+// How many of the words name a Verilog file.
+fn design_count(files: &[String]) -> usize
+    ensures { result ≡ count_by (λ file. is_design_word (string_bytes file)) files.now }
+{
+    files
+        .iter()
+        .filter(|file| is_design_word(file.as_str()))
+        .count()
+}
+
+// How many of the words name a script.
+fn script_count(files: &[String]) -> usize
+    ensures { result ≡ count_by (λ file. is_script_word (string_bytes file)) files.now }
+{
+    files
+        .iter()
+        .filter(|file| is_script_word(file.as_str()))
+        .count()
+}
+
+// Does the word name a file?
+fn is_file_word(word: &str) -> bool
+    ensures { result ≡ is_file_word word.now }
+{
+    is_design_word(word) || is_script_word(word)
+}
+
+/// Does the word name a Verilog file?
+pub fn is_design_word(word: &str) -> bool
     ensures { result ≡ is_design_word word.now }
 {
-    word.as_bytes().ends_with(b".v") && !word.as_bytes().starts_with(b"-")
+    word.as_bytes().ends_with(b".v") && !is_option(word)
+}
+
+/// Does the word name an application's script?
+pub fn is_script_word(word: &str) -> bool
+    ensures { result ≡ is_script_word word.now }
+{
+    word.as_bytes().ends_with(b".app") && !is_option(word)
+}
+
+// Is the word written as an option is?
+fn is_option(word: &str) -> bool
+    ensures { result ≡ is_option word.now }
+{
+    word.as_bytes().starts_with(b"-")
 }

@@ -1,32 +1,45 @@
--- The step and its table are one: proofs of the laws.
-use Rattle.std.proofs.Common.{◌≡◌, ℕ, ◌+◌, ◌<◌, ◌≤◌, List, [], ◌∷◌, ◌++◌, length, max, zero, suc, Bool, true, false, cond, not, Option, Some, None, slice_get, filter, nat_lt, nat_eq, refl, sym, ap, subst, ◌∙◌, arith, inl, inr, get_or}
-use Rattle.std.proofs.lemmas.Bool.{ltb-true, ltb-false, lt-ltb}
+-- The step and its table are one.
+use Rattle.std.proofs.Common.{◌≡◌, ℕ, ◌+◌, ◌-◌, ◌<◌, ◌≤◌, List, [], ◌∷◌, length, max, Bool, true, false, Option, Some, None, slice_get, slice_set, nat_lt, nat_le, nat_eq, refl, sym, ap, subst, ◌∙◌, arith, inl, inr, get_or}
+use Rattle.std.proofs.lemmas.Bool.{ltb-true, ltb-false, leb-true, leb-false, lt-ltb, le-ltb, le-leb, lt-leb, ne_eqb}
 use Rattle.std.proofs.lemmas.Option.{slice_get-get_or, slice_get_within}
+use Rattle.std.specs.List.{list_any}
 use Rattle.vh_base.specs.declared.faults.Cause.{Cause}
 use Rattle.vh_base.specs.declared.faults.Fault.{Fault}
 use Rattle.vh_base.specs.declared.faults.Fault.TheVariants as fault
 use Rattle.vh_base.specs.declared.first.FirstCode.{FirstCode}
 use Rattle.vh_base.specs.declared.first.FirstCode.TheVariants as code
+use Rattle.vh_base.specs.declared.orders.Answer.{Answer}
+use Rattle.vh_base.specs.declared.orders.Order.{Order}
+use Rattle.vh_app.specs.declared.point.Point.{Point}
+use Rattle.vh_app.specs.Next.{next_of as next_order}
+use Rattle.vh_app.specs.Script.{ScriptData}
+use Rattle.vh_callbacks.specs.Callbacks.{info_of}
+use Rattle.vh_kernel.specs.declared.activation.Activation.{Activation}
 use Rattle.vh_kernel.specs.declared.control.Control.{Control}
 use Rattle.vh_kernel.specs.declared.control.Control.TheVariants as top
 use Rattle.vh_kernel.specs.declared.events.Entry.{Entry}
-use Rattle.vh_kernel.specs.declared.events.Work.{Work}
-use Rattle.vh_kernel.specs.declared.events.Work.TheVariants as work
 use Rattle.vh_kernel.specs.declared.label.Ending.TheVariants as ending
 use Rattle.vh_kernel.specs.declared.label.Label.{Label}
 use Rattle.vh_kernel.specs.declared.label.Label.TheVariants as label
 use Rattle.vh_kernel.specs.declared.label.Region.{Region}
-use Rattle.vh_kernel.specs.declared.label.Region.TheVariants as region
+use Rattle.vh_kernel.specs.declared.occurrence.Agendum.{Agendum}
+use Rattle.vh_kernel.specs.declared.occurrence.Agendum.TheVariants as agendum
+use Rattle.vh_kernel.specs.declared.occurrence.Frame.{Frame}
+use Rattle.vh_kernel.specs.declared.occurrence.Occurrence.{Occurrence}
 use Rattle.vh_kernel.specs.declared.phase.Phase.{Phase}
 use Rattle.vh_kernel.specs.declared.phase.Phase.TheVariants as phase
-use Rattle.vh_kernel.specs.Entry.{is_ripe, is_due}
-use Rattle.vh_kernel.specs.Events.{any_due, eligible, without, is_full, next_region, activated, activated_of, activated_entry, least_time, advanced, emptied, evaluations}
+use Rattle.vh_kernel.specs.Control.{frames}
+use Rattle.vh_kernel.specs.Events.{eligible, without, is_full, next_region, activated, least_time, advanced}
+use Rattle.vh_kernel.specs.Handles.{is_given}
+use Rattle.vh_kernel.specs.Numbers.{without_number}
+use Rattle.vh_kernel.specs.Orders.{is_return}
+use Rattle.vh_kernel.specs.Settle.{occurrence_of}
 use Rattle.vh_kernel.specs.State.{State}
-use Rattle.vh_kernel.specs.Step.{Move, finished, next_of, waited, delayed, performed, later, quiet, worked, picked, by_top, is_crowded, by_room, by_phase, step_of, top_choices, room_choices, phase_choices, choices_of}
-use Rattle.vh_kernel.specs.Table.{HasTop, IsIdle, WaitsNext, Step, Rises, IsSound, StepsByTable, TableBySteps, StaysSound, OneStateAfter, OpensSound}
+use Rattle.vh_kernel.specs.Step.{Move, pushed, popped, finished, next_of, waited, delayed, performed, counted, framed, occurs, called, fired, acted, asked, asks_with, asks, later, quiet, worked, picked, started, taken_up, by_agenda, idle, by_top, is_crowded, by_room, by_phase, after, item_choices, agenda_choices, running_choices, finished_choices, room_choices, phase_choices, choices_of}
+use Rattle.vh_kernel.specs.Table.{IsGoing, HasTop, HasNext, IsIdle, TellsNext, WaitsNext, Exceeds, Row, Step, StepsByTable, TableBySteps}
 
 abbrev Fits : State → Move → Type 0
-Fits s m = Step s m.0 m.1
+Fits s m = Row s m.0 m.1
 
 -- Where the k-th of some choices isn't there, there are none.
 none_left : {X : Type 0} (xs : List X) (k : ℕ) → k < max (length xs) 1 → slice_get xs k ≡ None → xs ≡ []
@@ -35,31 +48,95 @@ none_left (x ∷ xs) k below none =
     let there : slice_get (x ∷ xs) k ≡ Some (get_or (x ∷ xs) k x) = slice_get-get_or (x ∷ xs) k x (omega arith) in cc
 
 -- A move of a statement that isn't a fault is the row of its label.
-waited_fits : (b : Bool) (p d : ℕ) (s : State) → HasTop s (Some (top.Process p)) → next_of p s ≡ Some (code.Wait d)
+waited_fits : (b : Bool) (p d : ℕ) (s : State) → HasTop s (top.Process p) → next_of p s ≡ Some (code.Wait d)
     → nat_lt 9223372036854775807 (s.queue.time + d) ≡ false → is_full s.queue ≡ b
-    → Fits s (waited b p (s.queue.time + d) s)
-waited_fits true p d s on next early full =
-    (inr (s.queue.time + d, (p, d, on, next, refl), ltb-false 9223372036854775807 (s.queue.time + d) early, full), refl)
+    → Fits s (waited b p (s.queue.time + d) (popped s))
+waited_fits true p d s on next early full = (
+  pushed (top.Process p) (popped s),
+  inr (inl (p, s.queue.time + d, (d, on, next, refl), ltb-false 9223372036854775807 (s.queue.time + d) early, full, refl)),
+  refl,
+)
 waited_fits false p d s on next early full = (
   on,
-  ap (λ (o : Option FirstCode). performed p o s) next
-      ∙ ap (λ (b : Bool). delayed b p (s.queue.time + d) s) early
-      ∙ ap (λ (b : Bool). waited b p (s.queue.time + d) s) full,
+  ap (λ (o : Option FirstCode). performed p o (popped s)) next
+      ∙ ap (λ (b : Bool). delayed b p (s.queue.time + d) (popped s)) early
+      ∙ ap (λ (b : Bool). waited b p (s.queue.time + d) (popped s)) full,
 )
 
-delayed_fits : (b : Bool) (p d : ℕ) (s : State) → HasTop s (Some (top.Process p)) → next_of p s ≡ Some (code.Wait d)
-    → nat_lt 9223372036854775807 (s.queue.time + d) ≡ b → Fits s (delayed b p (s.queue.time + d) s)
-delayed_fits true p d s on next late =
-    ((s.queue.time + d, (p, d, on, next, refl), ltb-true 9223372036854775807 (s.queue.time + d) late), refl)
+delayed_fits : (b : Bool) (p d : ℕ) (s : State) → HasTop s (top.Process p) → next_of p s ≡ Some (code.Wait d)
+    → nat_lt 9223372036854775807 (s.queue.time + d) ≡ b → Fits s (delayed b p (s.queue.time + d) (popped s))
+delayed_fits true p d s on next late = (
+  pushed (top.Process p) (popped s),
+  (p, s.queue.time + d, (d, on, next, refl), ltb-true 9223372036854775807 (s.queue.time + d) late, refl),
+  refl,
+)
 delayed_fits false p d s on next early = waited_fits (is_full s.queue) p d s on next early refl
 
-performed_fits : (p : ℕ) (o : Option FirstCode) (s : State) → HasTop s (Some (top.Process p)) → next_of p s ≡ o
-    → Fits s (performed p o s)
-performed_fits p None s on next = (on, ap (λ (o : Option FirstCode). performed p o s) next)
+performed_fits : (p : ℕ) (o : Option FirstCode) (s : State) → HasTop s (top.Process p) → next_of p s ≡ o
+    → Fits s (performed p o (popped s))
+performed_fits p None s on next = (on, ap (λ (o : Option FirstCode). performed p o (popped s)) next)
 performed_fits p (Some (code.Wait d)) s on next = delayed_fits (nat_lt 9223372036854775807 (s.queue.time + d)) p d s on next refl
-performed_fits p (Some (code.Assign reg bit)) s on next = (on, ap (λ (o : Option FirstCode). performed p o s) next)
-performed_fits p (Some (code.Show text)) s on next = (on, ap (λ (o : Option FirstCode). performed p o s) next)
-performed_fits p (Some code.Finish) s on next = (on, ap (λ (o : Option FirstCode). performed p o s) next)
+performed_fits p (Some (code.Assign reg value)) s on next = (on, ap (λ (o : Option FirstCode). performed p o (popped s)) next)
+performed_fits p (Some (code.Show text)) s on next = (on, ap (λ (o : Option FirstCode). performed p o (popped s)) next)
+performed_fits p (Some code.Finish) s on next = (on, ap (λ (o : Option FirstCode). performed p o (popped s)) next)
+
+-- An occurrence that is told next leaves the number of the next one.
+pub tells_number : (s : State) (o : Occurrence) (r : State) → TellsNext s o r → r.occurrence ≡ s.occurrence
+tells_number s o r tells = elim tells [
+  | inl here ↦ ap (λ (t : State). t.occurrence) here.1
+  | inr next ↦ ap (λ (t : State). t.occurrence) next.3
+]
+
+counted_fits : (b : Bool) (o : Occurrence) (s r : State) → TellsNext s o r → frames r.control < 64
+    → nat_lt 9223372036854775808 r.occurrence ≡ b → Fits s (counted b o r)
+counted_fits true o s r tells few late =
+    let many : 9223372036854775808 < s.occurrence =
+    (let e = tells_number s o r tells in let h = ltb-true 9223372036854775808 r.occurrence late in omega arith) in
+    (pushed (top.Pending o) r, inr (inr (o, r, tells, few, many, refl)), refl)
+counted_fits false o s r tells few early =
+    let few_told : s.occurrence ≤ 9223372036854775808 =
+    (let e = tells_number s o r tells in let h = ltb-false 9223372036854775808 r.occurrence early in omega arith) in
+    (o, r, tells, few, few_told, refl)
+
+framed_fits : (b : Bool) (o : Occurrence) (s r : State) → TellsNext s o r → nat_le 64 (frames r.control) ≡ b
+    → Fits s (framed b o r)
+framed_fits true o s r tells many =
+    (pushed (top.Pending o) r, (o, r, tells, leb-true 64 (frames r.control) many, refl), refl)
+framed_fits false o s r tells few =
+    counted_fits (nat_lt 9223372036854775808 r.occurrence) o s r tells (leb-false 64 (frames r.control) few) refl
+
+occurs_fits : (o : Occurrence) (s r : State) → TellsNext s o r → Fits s (occurs o r)
+occurs_fits o s r tells = framed_fits (nat_le 64 (frames r.control)) o s r tells refl
+
+fired_fits : (o : Option ℕ) (f : Frame) (s : State) (k : ℕ) → HasTop s (top.Frame f) → k < max (length f.left) 1
+    → slice_get f.left k ≡ o → Fits s (fired o f (popped s))
+fired_fits None f s k on below is = (f, on, refl, none_left f.left k below is, refl)
+fired_fits (Some c) f s k on below is = (f, k, on, refl, is, refl)
+
+-- What the activation on top does is the row of its label.
+abbrev Asks : State → Activation → ℕ → Move → Type 0
+Asks s a h m = HasTop s (top.Activation a) × (is_given h s.handles ≡ false) × (asks (slice_get s.scripts a.script) a (popped s) h ≡ m)
+
+acted_fits : (b : Bool) (o : Order) (c : Activation) (t : State) (a : Activation) (s : State) (h : ℕ) → Asks s a h (acted b o c t h)
+    → Fits s (acted b o c t h)
+acted_fits true o c t a s h is = (a, h, is.0, is.1, is.2)
+acted_fits false o c t a s h is = (a, h, is.0, is.1, is.2)
+
+asked_fits : (given : Order × Point × List Answer) (a : Activation) (s : State) (h : ℕ) → Asks s a h (asked given a (popped s) h)
+    → Fits s (asked given a (popped s) h)
+asked_fits given a s h is =
+    acted_fits (is_return given.0) given.0 (record a { at = given.1 })
+    (record (popped s) { variables = slice_set s.variables a.script given.2 }) a s h is
+
+asks_with_fits : (o : Option (List Answer)) (script : ScriptData) (a : Activation) (s : State) (h : ℕ)
+    → Asks s a h (asks_with o script a (popped s) h) → Fits s (asks_with o script a (popped s) h)
+asks_with_fits None script a s h is = (a, h, is.0, is.1, is.2)
+asks_with_fits (Some vars) script a s h is = asked_fits (next_order script a.at vars a.seen) a s h is
+
+asks_fits : (o : Option ScriptData) (a : Activation) (s : State) (h : ℕ) → Asks s a h (asks o a (popped s) h)
+    → Fits s (asks o a (popped s) h)
+asks_fits None a s h is = (a, h, is.0, is.1, is.2)
+asks_fits (Some script) a s h is = asks_with_fits (slice_get s.variables a.script) script a s h is
 
 later_fits : (o : Option ℕ) (s : State) → IsIdle s → next_region s.queue ≡ None → least_time s.queue.entries ≡ o → Fits s (later o s)
 later_fits None s idle calm least = (inr (idle, calm, least, refl), refl)
@@ -69,265 +146,280 @@ quiet_fits : (o : Option Region) (s : State) → IsIdle s → next_region s.queu
 quiet_fits None s idle next = later_fits (least_time s.queue.entries) s idle next refl
 quiet_fits (Some r) s idle next = (idle, next, refl)
 
-picked_fits : (o : Option Entry) (s : State) (k : ℕ) → HasTop s None → k < max (length (eligible s.queue)) 1
+picked_fits : (o : Option Entry) (s : State) (k : ℕ) → HasNext s None → k < max (length (eligible s.queue)) 1
     → slice_get (eligible s.queue) k ≡ o → Fits s (picked o s)
 picked_fits None s k on below is = quiet_fits (next_region s.queue) s (on, none_left (eligible s.queue) k below is) refl
 picked_fits (Some e) s k on below is = (on, refl, (k, e, is, refl, refl))
 
-by_top_fits : (o : Option Control) (s : State) (k : ℕ) → HasTop s o → k < top_choices o s → Fits s (by_top o s k)
-by_top_fits None s k on below = picked_fits (slice_get (eligible s.queue) k) s k on below refl
-by_top_fits (Some (top.Process p)) s k on below = performed_fits p (next_of p s) s on refl
-by_top_fits (Some (top.Leave c)) s k on below = (inl on, refl)
+by_agenda_fits : (o : Option Agendum) (s : State) (k : ℕ) → HasNext s o → k < agenda_choices o s → Fits s (by_agenda o s k)
+by_agenda_fits None s k on below = picked_fits (slice_get (eligible s.queue) k) s k on below refl
+by_agenda_fits (Some (agendum.Startup number)) s k on below = (on, refl)
+by_agenda_fits (Some (agendum.Occurrence reason)) s k on below =
+    occurs_fits (occurrence_of reason) s (taken_up s) (inr (reason, on, refl, refl))
 
-by_room_fits : (b : Bool) (s : State) (k : ℕ) → s.phase ≡ phase.Running → is_crowded s ≡ b → k < room_choices b s → Fits s (by_room b s k)
-by_room_fits true s k running crowded below = (inl (running, crowded), refl)
-by_room_fits false s k running roomy below = by_top_fits (slice_get s.control 0) s k (running, roomy, refl) below
+top_fits : (c : Control) (s : State) (k h : ℕ) → HasTop s c → is_given h s.handles ≡ false → k < item_choices c
+    → Fits s (by_top (Some c) s k h)
+top_fits (top.Process p) s k h on fresh below = performed_fits p (next_of p s) s on refl
+top_fits (top.Pending o) s k h on fresh below = occurs_fits o s (popped s) (inl (on, refl))
+top_fits (top.Frame f) s k h on fresh below = fired_fits (slice_get f.left k) f s k on below refl
+top_fits (top.Activation a) s k h on fresh below = asks_fits (slice_get s.scripts a.script) a s h (on, fresh, refl)
+top_fits (top.Leave c) s k h on fresh below = (inl on, refl)
 
-by_phase_fits : (f : Phase) (s : State) (k : ℕ) → s.phase ≡ f → k < phase_choices f s → Fits s (by_phase f s k)
-by_phase_fits phase.Running s k is below = by_room_fits (is_crowded s) s k is refl below
-by_phase_fits (phase.Finished c) s k is below = (is, refl)
-by_phase_fits (phase.Ended e) s k is below = absurd (omega arith)
+running_fits : (o : Option Control) (s : State) (k h : ℕ) → s.phase ≡ phase.Running → is_crowded s ≡ false
+    → slice_get s.control 0 ≡ o → is_given h s.handles ≡ false → k < running_choices o s → Fits s (by_top o s k h)
+running_fits None s k h running roomy is fresh below =
+    let P : Phase → Type 0 = λ f. Fits s (idle f s k) in
+    subst P (sym running) (by_agenda_fits (slice_get s.agenda 0) s k (running, roomy, is, refl) below)
+running_fits (Some c) s k h running roomy is fresh below = top_fits c s k h (inl (running, roomy), is) fresh below
+
+finished_fits : (o : Option Control) (c : Cause) (s : State) (k h : ℕ) → s.phase ≡ phase.Finished c
+    → slice_get s.control 0 ≡ o → is_given h s.handles ≡ false → k < finished_choices o → Fits s (by_top o s k h)
+finished_fits None c s k h over is fresh below =
+    let P : Phase → Type 0 = λ f. Fits s (idle f s k) in subst P (sym over) (over, is, refl)
+finished_fits (Some item) c s k h over is fresh below = top_fits item s k h (inr (c, over), is) fresh below
+
+by_room_fits : (b : Bool) (s : State) (k h : ℕ) → s.phase ≡ phase.Running → is_crowded s ≡ b → is_given h s.handles ≡ false
+    → k < room_choices b s → Fits s (by_room b s k h)
+by_room_fits true s k h running crowded fresh below = (s, inl (running, crowded, refl), refl)
+by_room_fits false s k h running roomy fresh below = running_fits (slice_get s.control 0) s k h running roomy refl fresh below
+
+by_phase_fits : (f : Phase) (s : State) (k h : ℕ) → s.phase ≡ f → is_given h s.handles ≡ false → k < phase_choices f s
+    → Fits s (by_phase f s k h)
+by_phase_fits phase.Running s k h is fresh below = by_room_fits (is_crowded s) s k h is refl fresh below
+by_phase_fits (phase.Finished c) s k h is fresh below = finished_fits (slice_get s.control 0) c s k h is refl fresh below
+by_phase_fits (phase.Ended e) s k h is fresh below = absurd (omega arith)
 
 pub steps_by_table : StepsByTable
-steps_by_table s k below = by_phase_fits s.phase s k refl below
+steps_by_table s t k l below step =
+    let m : Move = by_phase s.phase s k step.0 in
+    let P : Move → Type 0 = λ x. Step s x.0 x.1 in
+    subst P step.2 (m.1, by_phase_fits s.phase s k step.0 refl step.1 below, refl)
 
--- The step and the number of choices by the top of control, before the finish.
-step_by_top : (o : Option Control) (s : State) (k : ℕ) → HasTop s o → step_of s k ≡ by_top o s k
-step_by_top o s k on =
-    ap (λ (f : Phase). by_phase f s k) on.0 ∙ ap (λ (b : Bool). by_room b s k) on.1 ∙ ap (λ (x : Option Control). by_top x s k) on.2
+-- A number that was never given.
+above : List ℕ → ℕ
+above [] = 0
+above (n ∷ ns) = max (n + 1) (above ns)
 
-choices_by_top : (o : Option Control) (s : State) → HasTop s o → choices_of s ≡ top_choices o s
-choices_by_top o s on =
-    ap (λ (f : Phase). phase_choices f s) on.0 ∙ ap (λ (b : Bool). room_choices b s) on.1 ∙ ap (λ (x : Option Control). top_choices x s) on.2
+above_fresh : (ns : List ℕ) (h : ℕ) → above ns ≤ h → list_any (nat_eq h) ns ≡ false
+unfolding above
+above_fresh [] h high = refl
+above_fresh (n ∷ ns) h high =
+    let apart : nat_eq h n ≡ false = ne_eqb h n (λ same. omega arith) in rw apart (above_fresh ns h (omega arith))
 
--- There is a choice before the finish.
-some_choice : (o : Option Control) (s : State) → HasTop s o → 0 < choices_of s
-some_choice None s on = rw (choices_by_top None s on) (omega arith)
-some_choice (Some c) s on = rw (choices_by_top (Some c) s on) (omega arith)
+unused : State → ℕ
+unused s = above s.handles.given
+
+unused_fresh : (s : State) → is_given (unused s) s.handles ≡ false
+unfolding unused
+unused_fresh s = above_fresh s.handles.given (above s.handles.given) (omega arith)
+
+-- What is to be shown of a row: the choice that makes it, and where it gives no handle, by any number.
+abbrev Chosen : State → Label → State → Type 0
+Chosen s l u = (k : ℕ) × (h : ℕ) × (k < choices_of s) × (is_given h s.handles ≡ false) × (by_phase s.phase s k h ≡ (l, u))
+
+abbrev Makes : State → ℕ → Label → State → Type 0
+Makes s k l u = (k < choices_of s) × (by_phase s.phase s k (unused s) ≡ (l, u))
+
+chosen_by : (s u v : State) (k : ℕ) (l : Label) → Makes s k l v → u ≡ v → Chosen s l u
+chosen_by s u v k l makes same =
+    (k, unused s, makes.0, unused_fresh s, makes.1 ∙ ap (λ (x : State). (let m : Move = (l, x) in m)) (sym same))
+
+-- The move and the number of choices by the top of control,
+by_going : (s : State) (k h : ℕ) → IsGoing s → by_phase s.phase s k h ≡ by_top (slice_get s.control 0) s k h
+by_going s k h going = elim going [
+  | inl on ↦ ap (λ (f : Phase). by_phase f s k h) on.0 ∙ ap (λ (b : Bool). by_room b s k h) on.1
+  | inr over ↦ ap (λ (f : Phase). by_phase f s k h) over.1
+]
+
+step_by_top : (s : State) (c : Control) (k h : ℕ) → HasTop s c → by_phase s.phase s k h ≡ by_top (Some c) s k h
+step_by_top s c k h on = by_going s k h on.0 ∙ ap (λ (o : Option Control). by_top o s k h) on.1
+
+choices_by_top : (s : State) (c : Control) → HasTop s c → choices_of s ≡ item_choices c
+choices_by_top s c on = elim on.0 [
+  | inl going ↦
+      ap (λ (f : Phase). phase_choices f s) going.0 ∙ ap (λ (b : Bool). room_choices b s) going.1
+      ∙ ap (λ (o : Option Control). running_choices o s) on.1
+  | inr over ↦ ap (λ (f : Phase). phase_choices f s) over.1 ∙ ap (λ (o : Option Control). finished_choices o) on.1
+]
+
+some_item : (c : Control) → 0 < item_choices c
+some_item (top.Process p) = omega arith
+some_item (top.Pending o) = omega arith
+some_item (top.Frame f) = omega arith
+some_item (top.Activation a) = omega arith
+some_item (top.Leave c) = omega arith
+
+some_choice : (s : State) (c : Control) → HasTop s c → 0 < choices_of s
+some_choice s c on = rw (choices_by_top s c on) (some_item c)
+
+-- and by the agenda, with nothing on control.
+step_by_agenda : (s : State) (o : Option Agendum) (k h : ℕ) → HasNext s o → by_phase s.phase s k h ≡ by_agenda o s k
+step_by_agenda s o k h on =
+    by_going s k h (inl (on.0, on.1)) ∙ ap (λ (c : Option Control). by_top c s k h) on.2
+    ∙ ap (λ (f : Phase). idle f s k) on.0 ∙ ap (λ (x : Option Agendum). by_agenda x s k) on.3
+
+choices_by_agenda : (s : State) (o : Option Agendum) → HasNext s o → choices_of s ≡ agenda_choices o s
+choices_by_agenda s o on =
+    ap (λ (f : Phase). phase_choices f s) on.0 ∙ ap (λ (b : Bool). room_choices b s) on.1
+    ∙ ap (λ (c : Option Control). running_choices c s) on.2 ∙ ap (λ (x : Option Agendum). agenda_choices x s) on.3
+
+some_next : (s : State) (o : Option Agendum) → HasNext s o → 0 < choices_of s
+some_next s None on = rw (choices_by_agenda s None on) (omega arith)
+some_next s (Some item) on = rw (choices_by_agenda s (Some item) on) (omega arith)
 
 -- With no entry to pick, the step is quiet.
-idle_step : (s : State) → IsIdle s → step_of s 0 ≡ quiet (next_region s.queue) s
-idle_step s idle = step_by_top None s 0 idle.0 ∙ ap (λ (xs : List Entry). picked (slice_get xs 0) s) idle.1
+step_idle : (s : State) (h : ℕ) → IsIdle s → by_phase s.phase s 0 h ≡ quiet (next_region s.queue) s
+step_idle s h idle = step_by_agenda s None 0 h idle.0 ∙ ap (λ (xs : List Entry). picked (slice_get xs 0) s) idle.1
 
--- A move that the table gives is that of some choice.
-abbrev IsChosen : State → Label → State → Type 0
-IsChosen s l t = (k : ℕ) × (k < choices_of s) × (step_of s k ≡ (l, t))
+-- An occurrence that is told next occurs.
+step_tells : (s : State) (o : Occurrence) (r : State) (h : ℕ) → TellsNext s o r → by_phase s.phase s 0 h ≡ occurs o r
+step_tells s o r h tells = elim tells [
+  | inl here ↦ step_by_top s (top.Pending o) 0 h here.0 ∙ ap (λ (x : State). occurs o x) (sym here.1)
+  | inr next ↦
+      step_by_agenda s (Some (agendum.Occurrence next.0)) 0 h next.1
+      ∙ ap (λ (x : Occurrence). occurs x (taken_up s)) (sym next.2) ∙ ap (λ (x : State). occurs o x) (sym next.3)
+]
 
--- A row that fixes the state after it.
-to_state : (s t u : State) (l : Label) → IsChosen s l u → t ≡ u → IsChosen s l t
-to_state s t u l c e = let P : State → Type 0 = λ v. IsChosen s l v in subst P (sym e) c
+some_told : (s : State) (o : Occurrence) (r : State) → TellsNext s o r → 0 < choices_of s
+some_told s o r tells = elim tells [
+  | inl here ↦ some_choice s (top.Pending o) here.0
+  | inr next ↦ some_next s (Some (agendum.Occurrence next.0)) next.1
+]
 
--- A time that isn't above the last.
-not_late_so : (b : Bool) (time : ℕ) → nat_lt 9223372036854775807 time ≡ b → time ≤ 9223372036854775807 → b ≡ false
-not_late_so true time is early = let h : 9223372036854775807 < time = ltb-true 9223372036854775807 time is in absurd (omega arith)
-not_late_so false time is early = refl
+-- A process that waits next.
+step_waits : (s : State) (p time h : ℕ) → WaitsNext s p time
+    → by_phase s.phase s 0 h ≡ delayed (nat_lt 9223372036854775807 time) p time (popped s)
+step_waits s p time h w =
+    step_by_top s (top.Process p) 0 h w.1 ∙ ap (λ (o : Option FirstCode). performed p o (popped s)) w.2
+    ∙ ap (λ (n : ℕ). delayed (nat_lt 9223372036854775807 n) p n (popped s)) (sym w.3)
 
-not_late : (time : ℕ) → time ≤ 9223372036854775807 → nat_lt 9223372036854775807 time ≡ false
-not_late time early = not_late_so (nat_lt 9223372036854775807 time) time refl early
+-- The faults.
+exceeded : (s u r : State) (f : Fault) → Exceeds s f r → u ≡ record r { phase = phase.Ended (ending.Fault f) }
+    → Chosen s (label.End (ending.Fault f)) u
+exceeded s u r fault.F1 (o, t, tells, many, left) after =
+    let same : u ≡ record (pushed (top.Pending o) t) { phase = phase.Ended (ending.Fault fault.F1) } =
+    after ∙ ap (λ (x : State). (let y : State = record x { phase = phase.Ended (ending.Fault fault.F1) } in y)) left in
+    chosen_by s u (record (pushed (top.Pending o) t) { phase = phase.Ended (ending.Fault fault.F1) }) 0 (label.End (ending.Fault fault.F1)) (
+      some_told s o t tells,
+      step_tells s o t (unused s) tells ∙ ap (λ (b : Bool). framed b o t) (le-leb 64 (frames t.control) many),
+    ) same
+exceeded s u r fault.F2 (p, time, w, late, left) after =
+    let same : u ≡ record (pushed (top.Process p) (popped s)) { phase = phase.Ended (ending.Fault fault.F2) } =
+    after ∙ ap (λ (x : State). (let y : State = record x { phase = phase.Ended (ending.Fault fault.F2) } in y)) left in
+    chosen_by s u (record (pushed (top.Process p) (popped s)) { phase = phase.Ended (ending.Fault fault.F2) }) 0
+    (label.End (ending.Fault fault.F2)) (
+      some_choice s (top.Process p) w.1,
+      step_waits s p time (unused s) w
+          ∙ ap (λ (b : Bool). delayed b p time (popped s)) (lt-ltb 9223372036854775807 time late),
+    ) same
+exceeded s u r fault.F3 (inl crowded) after =
+    let same : u ≡ record s { phase = phase.Ended (ending.Fault fault.F3) } =
+    after ∙ ap (λ (x : State). (let y : State = record x { phase = phase.Ended (ending.Fault fault.F3) } in y)) crowded.2 in
+    let one : choices_of s ≡ 1 = ap (λ (f : Phase). phase_choices f s) crowded.0 ∙ ap (λ (b : Bool). room_choices b s) crowded.1 in
+    chosen_by s u (record s { phase = phase.Ended (ending.Fault fault.F3) }) 0 (label.End (ending.Fault fault.F3)) (
+      omega arith,
+      ap (λ (f : Phase). by_phase f s 0 (unused s)) crowded.0 ∙ ap (λ (b : Bool). by_room b s 0 (unused s)) crowded.1,
+    ) same
+exceeded s u r fault.F3 (inr (inl (p, time, w, early, full, left))) after =
+    let same : u ≡ record (pushed (top.Process p) (popped s)) { phase = phase.Ended (ending.Fault fault.F3) } =
+    after ∙ ap (λ (x : State). (let y : State = record x { phase = phase.Ended (ending.Fault fault.F3) } in y)) left in
+    chosen_by s u (record (pushed (top.Process p) (popped s)) { phase = phase.Ended (ending.Fault fault.F3) }) 0
+    (label.End (ending.Fault fault.F3)) (
+      some_choice s (top.Process p) w.1,
+      step_waits s p time (unused s) w
+          ∙ ap (λ (b : Bool). delayed b p time (popped s)) (le-ltb 9223372036854775807 time early)
+          ∙ ap (λ (b : Bool). waited b p time (popped s)) full,
+    ) same
+exceeded s u r fault.F3 (inr (inr (o, t, tells, few, many, left))) after =
+    let same : u ≡ record (pushed (top.Pending o) t) { phase = phase.Ended (ending.Fault fault.F3) } =
+    after ∙ ap (λ (x : State). (let y : State = record x { phase = phase.Ended (ending.Fault fault.F3) } in y)) left in
+    let late : 9223372036854775808 < t.occurrence = (let e = tells_number s o t tells in omega arith) in
+    chosen_by s u (record (pushed (top.Pending o) t) { phase = phase.Ended (ending.Fault fault.F3) }) 0 (label.End (ending.Fault fault.F3)) (
+      some_told s o t tells,
+      step_tells s o t (unused s) tells ∙ ap (λ (b : Bool). framed b o t) (lt-leb 64 (frames t.control) few)
+          ∙ ap (λ (b : Bool). counted b o t) (lt-ltb 9223372036854775808 t.occurrence late),
+    ) same
+exceeded s u r fault.F4 never after = absurd never
 
 -- A pick by its entry is the pick by its serial.
-pick_move : (s t : State) (n : ℕ) (shown : Option (List ℕ)) (e : Entry) → shown ≡ None → e.serial ≡ n
-    → t ≡ worked e.work (record s { queue = without n s.queue }) → picked (Some e) s ≡ (label.Pick n shown, t)
-pick_move s t n shown e silent is after =
+pick_move : (s u : State) (n : ℕ) (shown : Option (List ℕ)) (e : Entry) → shown ≡ None → e.serial ≡ n
+    → u ≡ worked e.work (record s { queue = without n s.queue }) → picked (Some e) s ≡ (label.Pick n shown, u)
+pick_move s u n shown e silent is after =
     ap (λ (m : ℕ). (let x : Move = (label.Pick m None, worked e.work (record s { queue = without m s.queue })) in x)) is
     ∙ ap (λ (o : Option (List ℕ)). (let x : Move = (label.Pick n o, worked e.work (record s { queue = without n s.queue })) in x)) (sym silent)
-    ∙ ap (λ (u : State). (let x : Move = (label.Pick n shown, u) in x)) (sym after)
+    ∙ ap (λ (t : State). (let x : Move = (label.Pick n shown, t) in x)) (sym after)
 
-exceeded : (s t : State) (f : Fault) → Step s (label.End (ending.Fault f)) t → IsChosen s (label.End (ending.Fault f)) t
-exceeded s t fault.F1 step = absurd step.0
-exceeded s t fault.F2 step =
-    let w : WaitsNext s step.0.0 = step.0.1 in
-    let late : nat_lt 9223372036854775807 (s.queue.time + w.1) ≡ true =
-    lt-ltb 9223372036854775807 (s.queue.time + w.1) (let e = w.4 in let h = step.0.2 in omega arith) in
-    to_state s t (record s { phase = phase.Ended (ending.Fault fault.F2) }) (label.End (ending.Fault fault.F2)) (
+-- A row is made by a choice.
+row_chosen : (s u : State) (l : Label) → Row s l u → Chosen s l u
+row_chosen s u (label.Startup k) row =
+    chosen_by s u (started (slice_get s.scripts (k - 1)) k (taken_up s)) 0 (label.Startup k)
+    (some_next s (Some (agendum.Startup k)) row.0, step_by_agenda s (Some (agendum.Startup k)) 0 (unused s) row.0) row.1
+row_chosen s u (label.Do who order answer) (a, h, on, fresh, is) =
+    (0, h, some_choice s (top.Activation a) on, fresh, step_by_top s (top.Activation a) 0 h on ∙ is)
+row_chosen s u (label.Ret who) (a, h, on, fresh, is) =
+    (0, h, some_choice s (top.Activation a) on, fresh, step_by_top s (top.Activation a) 0 h on ∙ is)
+row_chosen s u (label.Occ n reason object) (o, r, tells, few, few_told, is) =
+    let early : r.occurrence ≤ 9223372036854775808 = (let e = tells_number s o r tells in omega arith) in (
       0,
-      some_choice (Some (top.Process w.0)) s w.2,
-      step_by_top (Some (top.Process w.0)) s 0 w.2 ∙ ap (λ (o : Option FirstCode). performed w.0 o s) w.3
-          ∙ ap (λ (b : Bool). delayed b w.0 (s.queue.time + w.1) s) late,
+      unused s,
+      some_told s o r tells,
+      unused_fresh s,
+      step_tells s o r (unused s) tells ∙ ap (λ (b : Bool). framed b o r) (lt-leb 64 (frames r.control) few)
+          ∙ ap (λ (b : Bool). counted b o r) (le-ltb 9223372036854775808 r.occurrence early) ∙ is,
     )
-    step.1
-exceeded s t fault.F3 step = elim step.0 [
-  | inl crowded ↦ to_state s t (record s { phase = phase.Ended (ending.Fault fault.F3) }) (label.End (ending.Fault fault.F3)) (
-    0,
-    (let e : choices_of s ≡ 1 = ap (λ (f : Phase). phase_choices f s) crowded.0 ∙ ap (λ (b : Bool). room_choices b s) crowded.1 in omega arith),
-    ap (λ (f : Phase). by_phase f s 0) crowded.0 ∙ ap (λ (b : Bool). by_room b s 0) crowded.1,
-  )
-      step.1
-  | inr full ↦
-      let w : WaitsNext s full.0 = full.1 in
-      let early : nat_lt 9223372036854775807 (s.queue.time + w.1) ≡ false =
-      not_late (s.queue.time + w.1) (let e = w.4 in let h = full.2 in omega arith) in
-      to_state s t (record s { phase = phase.Ended (ending.Fault fault.F3) }) (label.End (ending.Fault fault.F3)) (
-        0,
-        some_choice (Some (top.Process w.0)) s w.2,
-        step_by_top (Some (top.Process w.0)) s 0 w.2 ∙ ap (λ (o : Option FirstCode). performed w.0 o s) w.3
-            ∙ ap (λ (b : Bool). delayed b w.0 (s.queue.time + w.1) s) early
-            ∙ ap (λ (b : Bool). waited b w.0 (s.queue.time + w.1) s) full.3,
-      )
-      step.1
-]
-exceeded s t fault.F4 step = absurd step.0
+row_chosen s u (label.Fire n c) (f, k, on, number, is, after) =
+    let next : State = called (info_of c s.callbacks) c f.what (pushed (top.Frame (record f { left = without_number c f.left })) (popped s)) in
+    let within : k < length f.left = slice_get_within f.left k c is in
+    let below : k < choices_of s = rw (choices_by_top s (top.Frame f) on) (omega arith) in
+    chosen_by s u next k (label.Fire n c) (
+      below,
+      step_by_top s (top.Frame f) k (unused s) on ∙ ap (λ (o : Option ℕ). fired o f (popped s)) is
+          ∙ ap (λ (m : ℕ). (let x : Move = (label.Fire m c, next) in x)) (sym number),
+    ) after
+row_chosen s u (label.Done n) (f, on, number, none, after) =
+    chosen_by s u (popped s) 0 (label.Done n) (
+      some_choice s (top.Frame f) on,
+      step_by_top s (top.Frame f) 0 (unused s) on ∙ ap (λ (xs : List ℕ). fired (slice_get xs 0) f (popped s)) none
+          ∙ ap (λ (m : ℕ). (let x : Move = (label.Done m, popped s) in x)) (sym number),
+    ) after
+row_chosen s u (label.Activate r) row =
+    chosen_by s u (record s { queue = activated r s.queue }) 0 (label.Activate r)
+    (some_next s None row.0.0, step_idle s (unused s) row.0 ∙ ap (λ (o : Option Region). quiet o s) row.1) row.2
+row_chosen s u (label.Advance time) row =
+    chosen_by s u (record s { queue = advanced time s.queue }) 0 (label.Advance time) (
+      some_next s None row.0.0,
+      step_idle s (unused s) row.0 ∙ ap (λ (o : Option Region). quiet o s) row.1 ∙ ap (λ (o : Option ℕ). later o s) row.2,
+    ) row.3
+row_chosen s u (label.Pick n shown) (on, silent, (k, e, is, serial, after)) =
+    let within : k < length (eligible s.queue) = slice_get_within (eligible s.queue) k e is in
+    let below : k < choices_of s = rw (choices_by_agenda s None on) (omega arith) in (
+      k,
+      unused s,
+      below,
+      unused_fresh s,
+      step_by_agenda s None k (unused s) on ∙ ap (λ (o : Option Entry). picked o s) is ∙ pick_move s u n shown e silent serial after,
+    )
+row_chosen s u (label.Stmt p shown) row =
+    (0, unused s, some_choice s (top.Process p) row.0, unused_fresh s, step_by_top s (top.Process p) 0 (unused s) row.0 ∙ row.1)
+row_chosen s u (label.Finish c) (inl on, after) =
+    chosen_by s u (finished c s).1 0 (label.Finish c)
+    (some_choice s (top.Leave c) on, step_by_top s (top.Leave c) 0 (unused s) on) after
+row_chosen s u (label.Finish c) (inr (idle, calm, least, none), after) =
+    chosen_by s u (finished c s).1 0 (label.Finish c) (
+      some_next s None idle.0,
+      step_idle s (unused s) idle ∙ ap (λ (o : Option Region). quiet o s) calm ∙ ap (λ (o : Option ℕ). later o s) least
+          ∙ ap (λ (x : Cause). finished x s) (sym none),
+    ) after
+row_chosen s u (label.End (ending.Cause c)) row =
+    let one : choices_of s ≡ 1 = ap (λ (f : Phase). phase_choices f s) row.0 ∙ ap (λ (o : Option Control). finished_choices o) row.1 in
+    chosen_by s u (record s { phase = phase.Ended (ending.Cause c) }) 0 (label.End (ending.Cause c)) (
+      omega arith,
+      by_going s 0 (unused s) (inr (c, row.0)) ∙ ap (λ (o : Option Control). by_top o s 0 (unused s)) row.1
+          ∙ ap (λ (f : Phase). idle f s 0) row.0,
+    ) row.2
+row_chosen s u (label.End (ending.Fault f)) row = exceeded s u row.0 f row.1 row.2
 
 pub table_by_steps : TableBySteps
-table_by_steps s t (label.Activate r) step =
-    to_state s t (record s { queue = activated r s.queue }) (label.Activate r)
-    (0, some_choice None s step.0.0, idle_step s step.0 ∙ ap (λ (o : Option Region). quiet o s) step.1) step.2
-table_by_steps s t (label.Advance time) step =
-    to_state s t (record s { queue = advanced time s.queue }) (label.Advance time) (
-      0,
-      some_choice None s step.0.0,
-      idle_step s step.0 ∙ ap (λ (o : Option Region). quiet o s) step.1 ∙ ap (λ (o : Option ℕ). later o s) step.2,
-    )
-    step.3
-table_by_steps s t (label.Pick n shown) step = (
-  step.2.0,
-  (let within : step.2.0 < length (eligible s.queue) = slice_get_within (eligible s.queue) step.2.0 step.2.1 step.2.2 in
-      rw (choices_by_top None s step.0) (omega arith)),
-  step_by_top None s step.2.0 step.0 ∙ ap (λ (o : Option Entry). picked o s) step.2.2
-      ∙ pick_move s t n shown step.2.1 step.1 step.2.3 step.2.4,
-)
-table_by_steps s t (label.Stmt p shown) step =
-    (0, some_choice (Some (top.Process p)) s step.0, step_by_top (Some (top.Process p)) s 0 step.0 ∙ step.1)
-table_by_steps s t (label.Finish c) step = elim step.0 [
-  | inl asked ↦ to_state s t (record s { queue = emptied s.queue; control = []; phase = phase.Finished c }) (label.Finish c)
-      (0, some_choice (Some (top.Leave c)) s asked, step_by_top (Some (top.Leave c)) s 0 asked) step.1
-  | inr out ↦ to_state s t (record s { queue = emptied s.queue; control = []; phase = phase.Finished c }) (label.Finish c) (
-    0,
-    some_choice None s out.0.0,
-    idle_step s out.0 ∙ ap (λ (o : Option Region). quiet o s) out.1 ∙ ap (λ (o : Option ℕ). later o s) out.2
-        ∙ ap (λ (x : Cause). finished x s) (sym out.3),
-  ) step.1
-]
-table_by_steps s t (label.End (ending.Cause c)) step =
-    to_state s t (record s { phase = phase.Ended (ending.Cause c) }) (label.End (ending.Cause c)) (
-      0,
-      (let e : choices_of s ≡ 1 = ap (λ (f : Phase). phase_choices f s) step.0 in omega arith),
-      ap (λ (f : Phase). by_phase f s 0) step.0,
-    ) step.1
-table_by_steps s t (label.End (ending.Fault f)) step = exceeded s t f step
-
--- Rising serials: below a lower bound, without some entries, with another region, with one more.
-rises_lower : (low lower high : ℕ) (es : List Entry) → lower ≤ low → Rises low high es → Rises lower high es
-rises_lower low lower high [] below r = omega arith
-rises_lower low lower high (e ∷ es) below r = ((let h = r.0 in omega arith), r.1)
-
-rises_filter_by : (b : Bool) (keep : Entry → Bool) (low high : ℕ) (e : Entry) (es : List Entry)
-    → low ≤ e.serial → Rises (e.serial + 1) high (filter keep es) → Rises low high (cond b (e ∷ filter keep es) (filter keep es))
-rises_filter_by true keep low high e es below r = (below, r)
-rises_filter_by false keep low high e es below r = rises_lower (e.serial + 1) low high (filter keep es) (omega arith) r
-
-rises_filter : (keep : Entry → Bool) (low high : ℕ) (es : List Entry) → Rises low high es → Rises low high (filter keep es)
-rises_filter keep low high [] r = r
-rises_filter keep low high (e ∷ es) r =
-    rises_filter_by (keep e) keep low high e es r.0 (rises_filter keep (e.serial + 1) high es r.1)
-
-activated_serial : (b : Bool) (e : Entry) → (cond b (record e { region = region.Active }) e).serial ≡ e.serial
-activated_serial true e = refl
-activated_serial false e = refl
-
-rises_activated : (r : Region) (now low high : ℕ) (es : List Entry) → Rises low high es → Rises low high (activated_of r now es)
-rises_activated r now low high [] rises = rises
-rises_activated r now low high (e ∷ es) rises =
-    let same : (activated_entry r now e).serial ≡ e.serial = activated_serial (is_due r now e) e in (
-      (let h = rises.0 in omega arith),
-      (let P : ℕ → Type 0 = λ n. Rises (n + 1) high (activated_of r now es) in
-          subst P (sym same) (rises_activated r now (e.serial + 1) high es rises.1)),
-    )
-
-rises_added : (time : Option ℕ) (r : Region) (w : Work) (low high : ℕ) (es : List Entry) → Rises low high es
-    → Rises low (high + 1) (es ++ record { serial = high; time = time; region = r; work = w } ∷ [])
-rises_added time r w low high [] rises = (rises, omega arith)
-rises_added time r w low high (e ∷ es) rises = (rises.0, rises_added time r w (e.serial + 1) high es rises.1)
-
-rises_empty : (low high : ℕ) (es : List Entry) → Rises low high es → low ≤ high
-rises_empty low high [] rises = rises
-rises_empty low high (e ∷ es) rises = let h = rises_empty (e.serial + 1) high es rises.1 in let k = rises.0 in omega arith
-
--- Every statement leaves a sound state.
-waited_sound : (b : Bool) (p time : ℕ) (s : State) → IsSound s → IsSound (waited b p time s).1
-waited_sound true p time s sound = sound
-waited_sound false p time s sound = rises_added (Some time) region.Inactive (work.Evaluation p) 1 s.queue.next s.queue.entries sound
-
-delayed_sound : (b : Bool) (p time : ℕ) (s : State) → IsSound s → IsSound (delayed b p time s).1
-delayed_sound true p time s sound = sound
-delayed_sound false p time s sound = waited_sound (is_full s.queue) p time s sound
-
-performed_sound : (p : ℕ) (o : Option FirstCode) (s : State) → IsSound s → IsSound (performed p o s).1
-performed_sound p None s sound = sound
-performed_sound p (Some (code.Wait d)) s sound = delayed_sound (nat_lt 9223372036854775807 (s.queue.time + d)) p (s.queue.time + d) s sound
-performed_sound p (Some (code.Assign reg bit)) s sound = sound
-performed_sound p (Some (code.Show text)) s sound = sound
-performed_sound p (Some code.Finish) s sound = sound
-
-worked_sound : (w : Work) (s : State) → IsSound s → IsSound (worked w s)
-worked_sound (work.Evaluation p) s sound = sound
-
--- A state that equals a sound one.
-sound_at : (t u : State) → t ≡ u → IsSound u → IsSound t
-sound_at t u e sound = let P : State → Type 0 = λ v. IsSound v in subst P (sym e) sound
-
-pub stays_sound : StaysSound
-stays_sound s t (label.Activate r) sound step =
-    sound_at t (record s { queue = activated r s.queue }) step.2 (rises_activated r s.queue.time 1 s.queue.next s.queue.entries sound)
-stays_sound s t (label.Advance time) sound step =
-    sound_at t (record s { queue = advanced time s.queue }) step.3 (rises_activated region.Inactive time 1 s.queue.next s.queue.entries sound)
-stays_sound s t (label.Pick n shown) sound step =
-    sound_at t (worked step.2.1.work (record s { queue = without n s.queue })) step.2.4
-    (worked_sound step.2.1.work (record s { queue = without n s.queue })
-    (rises_filter (λ e. not (nat_eq e.serial n)) 1 s.queue.next s.queue.entries sound))
-stays_sound s t (label.Stmt p shown) sound step =
-    let P : Move → Type 0 = λ m. IsSound m.1 in subst P step.1 (performed_sound p (next_of p s) s sound)
-stays_sound s t (label.Finish c) sound step =
-    sound_at t (record s { queue = emptied s.queue; control = []; phase = phase.Finished c }) step.1
-    (rises_empty 1 s.queue.next s.queue.entries sound)
-stays_sound s t (label.End (ending.Cause c)) sound step = sound_at t (record s { phase = phase.Ended (ending.Cause c) }) step.1 sound
-stays_sound s t (label.End (ending.Fault f)) sound step = sound_at t (record s { phase = phase.Ended (ending.Fault f) }) step.1 sound
-
--- An element of rising entries is at least the lower bound, and its serial tells it.
-rises_above : (low high : ℕ) (es : List Entry) (k : ℕ) (e : Entry) → Rises low high es → slice_get es k ≡ Some e → low ≤ e.serial
-rises_above low high [] k e rises is = absurd (cc)
-rises_above low high (x ∷ es) zero e rises is =
-    let same : x ≡ e = cc in let P : Entry → Type 0 = λ y. low ≤ y.serial in subst P same rises.0
-rises_above low high (x ∷ es) (suc k) e rises is =
-    let h : x.serial + 1 ≤ e.serial = rises_above (x.serial + 1) high es k e rises.1 is in let m = rises.0 in omega arith
-
-rises_one : (low high : ℕ) (es : List Entry) (i j : ℕ) (e f : Entry) → Rises low high es
-    → slice_get es i ≡ Some e → slice_get es j ≡ Some f → e.serial ≡ f.serial → e ≡ f
-rises_one low high [] i j e f rises at_i at_j same = absurd (cc)
-rises_one low high (x ∷ es) zero zero e f rises at_i at_j same = cc
-rises_one low high (x ∷ es) zero (suc j) e f rises at_i at_j same =
-    let h : x.serial + 1 ≤ f.serial = rises_above (x.serial + 1) high es j f rises.1 at_j in
-    let here : x.serial ≡ e.serial = (let xe : x ≡ e = cc in ap (λ (y : Entry). y.serial) xe) in absurd (omega arith)
-rises_one low high (x ∷ es) (suc i) zero e f rises at_i at_j same =
-    let h : x.serial + 1 ≤ e.serial = rises_above (x.serial + 1) high es i e rises.1 at_i in
-    let here : x.serial ≡ f.serial = (let xf : x ≡ f = cc in ap (λ (y : Entry). y.serial) xf) in absurd (omega arith)
-rises_one low high (x ∷ es) (suc i) (suc j) e f rises at_i at_j same =
-    rises_one (x.serial + 1) high es i j e f rises.1 at_i at_j same
-
-pub one_state_after : OneStateAfter
-one_state_after s t u (label.Activate r) sound one other = one.2 ∙ sym other.2
-one_state_after s t u (label.Advance time) sound one other = one.3 ∙ sym other.3
-one_state_after s t u (label.Pick n shown) sound one other =
-    let same : one.2.1 ≡ other.2.1 =
-    rises_one 1 s.queue.next (eligible s.queue) one.2.0 other.2.0 one.2.1 other.2.1
-    (rises_filter (is_ripe (any_due region.Start s.queue) s.queue.time) 1 s.queue.next s.queue.entries sound)
-    one.2.2 other.2.2 (one.2.3 ∙ sym other.2.3) in
-    one.2.4 ∙ ap (λ (e : Entry). worked e.work (record s { queue = without n s.queue })) same ∙ sym other.2.4
-one_state_after s t u (label.Stmt p shown) sound one other = ap (λ (m : Move). m.1) (sym one.1 ∙ other.1)
-one_state_after s t u (label.Finish c) sound one other = one.1 ∙ sym other.1
-one_state_after s t u (label.End (ending.Cause c)) sound one other = one.1 ∙ sym other.1
-one_state_after s t u (label.End (ending.Fault f)) sound one other = one.1 ∙ sym other.1
-
--- A design opens with the serials from 1 on.
-rises_opening : (n p : ℕ) → Rises (p + 1) (p + n + 1) (evaluations n p)
-rises_opening zero p = omega arith
-rises_opening (suc n) p = (
-  omega arith,
-  (let e : p + 1 + n + 1 ≡ p + suc n + 1 = omega arith in
-      let P : ℕ → Type 0 = λ high. Rises (p + 1 + 1) high (evaluations n (p + 1)) in subst P e (rises_opening n (p + 1))),
-)
-
-pub opens_sound : OpensSound
-opens_sound f =
-    let e : 0 + length f.blocks + 1 ≡ length f.blocks + 1 = omega arith in
-    let P : ℕ → Type 0 = λ high. Rises 1 high (evaluations (length f.blocks) 0) in subst P e (rises_opening (length f.blocks) 0)
+table_by_steps s t l (u, row, arrives) =
+    let c : Chosen s l u = row_chosen s u l row in
+    (c.0, c.2, (c.1, c.3, ap (λ (m : Move). after m) c.4 ∙ ap (λ (x : State). (let m : Move = (l, x) in m)) (sym arrives)))

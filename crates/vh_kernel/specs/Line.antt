@@ -1,31 +1,20 @@
 -- The transcript's lines. (own)
-use Rattle.std.specs.Prelude.{ℕ, ◌+◌, ◌/◌, ◌%◌, ◌++◌, List, [], ◌∷◌, cond, ◌&&◌, nat_lt, nat_le, nat_eq, Option, Some, None, codes}
-use Rattle.std.specs.List.{flat_map}
+use Rattle.std.specs.Prelude.{ℕ, ◌-◌, ◌++◌, List, [], ◌∷◌, Option, Some, None, codes, slice_get, unwrap_or}
 use Rattle.std.specs.Fmt.{decimal}
+use Rattle.std.specs.Option.{option_map}
 use Rattle.vh_base.specs.declared.faults.Cause.TheVariants as cause
 use Rattle.vh_base.specs.declared.faults.Fault.TheVariants as fault
+use Rattle.vh_base.specs.declared.orders.Object.{Object}
+use Rattle.vh_kernel.specs.declared.activation.Who.{Who}
+use Rattle.vh_kernel.specs.declared.activation.Who.TheVariants as who_is
 use Rattle.vh_kernel.specs.declared.label.Ending.{Ending}
 use Rattle.vh_kernel.specs.declared.label.Ending.TheVariants as ending
 use Rattle.vh_kernel.specs.declared.label.Label.{Label}
 use Rattle.vh_kernel.specs.declared.label.Label.TheVariants as label
-
--- A hexadecimal digit, lower case.
-abbrev pub hex_digit : ℕ → ℕ
-hex_digit n = cond (nat_lt n 10) (48 + n) (87 + n)
-
--- A byte in a quoted text: newline, tab, the quote and the backslash by their escapes, a printable
--- byte as it is, and any other as \x with two digits.
-abbrev pub escaped : ℕ → List ℕ
-escaped b =
-    cond (nat_eq b 10) (codes "\\n")
-    (cond (nat_eq b 9) (codes "\\t")
-    (cond (nat_eq b 34) (codes "\\\"")
-    (cond (nat_eq b 92) (codes "\\\\")
-    (cond (nat_le 32 b && nat_le b 126) (b ∷ [])
-    (codes "\\x" ++ hex_digit (b / 16) ∷ hex_digit (b % 16) ∷ [])))))
-
-abbrev pub quoted : List ℕ → List ℕ
-quoted text = 34 ∷ flat_map escaped text ++ 34 ∷ []
+use Rattle.vh_kernel.specs.Names.{name_of}
+use Rattle.vh_kernel.specs.OrderText.{order_text, answer_text, reason_text}
+use Rattle.vh_kernel.specs.Quoted.{quoted, plain_text}
+use Rattle.vh_kernel.specs.State.{State}
 
 -- The name of an end.
 abbrev pub ending_name : Ending → List ℕ
@@ -37,16 +26,46 @@ ending_name (ending.Fault fault.F2) = codes "F2"
 ending_name (ending.Fault fault.F3) = codes "F3"
 ending_name (ending.Fault fault.F4) = codes "F4"
 
--- The line of a text that was shown.
-abbrev pub shown_line : ℕ → Option (List ℕ) → Option (List ℕ)
-shown_line time None = None
-shown_line time (Some text) = Some (decimal time ++ codes " out " ++ quoted text ++ codes "\n")
+-- A line at the present time, with its newline.
+abbrev pub stamped : List ℕ → State → List ℕ
+stamped text s = decimal s.queue.time ++ 32 ∷ text ++ 10 ∷ []
 
--- The line of a label at a time, with its newline: a row for each label. Silent labels have none.
-abbrev pub line_at : ℕ → Label → Option (List ℕ)
-line_at time (label.Activate region) = None
-line_at time (label.Advance to) = None
-line_at time (label.Pick serial shown) = shown_line time shown
-line_at time (label.Stmt process shown) = shown_line time shown
-line_at time (label.Finish cause) = None
-line_at time (label.End end) = Some (decimal time ++ codes " end " ++ ending_name end ++ codes "\n")
+-- The text of what was shown, if something was.
+abbrev pub shown_text : Option (List ℕ) → Option (List ℕ)
+shown_text None = None
+shown_text (Some text) = Some (codes "out " ++ quoted text)
+
+-- Who gives an order.
+abbrev pub who_text : Who → List ℕ
+who_text (who_is.Callback c) = 99 ∷ decimal c
+who_text (who_is.Startup k) = 115 ∷ decimal k
+
+-- The name of a script, by its number from 1.
+abbrev pub script_name : ℕ → State → List ℕ
+script_name k s = unwrap_or (option_map (λ d. d.name) (slice_get s.scripts (k - 1))) []
+
+-- The full name of an object, or a dash for none.
+abbrev pub object_text : Option Object → State → List ℕ
+object_text None s = 45 ∷ []
+object_text (Some o) s = plain_text (name_of o.id s.names)
+
+-- The text of a label, without its time: a row for each label. Silent labels have none.
+abbrev pub text_at : State → Label → Option (List ℕ)
+text_at s (label.Startup k) = Some (codes "startup " ++ plain_text (script_name k s))
+text_at s (label.Do who order answer) =
+    Some (codes "do " ++ who_text who ++ 32 ∷ order_text order ++ codes " => " ++ answer_text answer)
+text_at s (label.Ret who) = None
+text_at s (label.Occ n reason object) =
+    Some (codes "occ " ++ decimal n ++ 32 ∷ reason_text reason ++ 32 ∷ object_text object s)
+text_at s (label.Fire n c) = Some (codes "fire " ++ decimal n ++ codes " c" ++ decimal c)
+text_at s (label.Done n) = Some (codes "done " ++ decimal n)
+text_at s (label.Activate region) = None
+text_at s (label.Advance to) = None
+text_at s (label.Pick serial shown) = shown_text shown
+text_at s (label.Stmt process shown) = shown_text shown
+text_at s (label.Finish cause) = None
+text_at s (label.End end) = Some (codes "end " ++ ending_name end)
+
+-- The line of a label, at the time of the state after it.
+abbrev pub line_at : State → Label → Option (List ℕ)
+line_at s l = option_map (λ text. stamped text s) (text_at s l)

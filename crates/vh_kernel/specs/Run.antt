@@ -1,11 +1,14 @@
 -- Runs of the machine under a chosen order, and their text.
-use Rattle.std.specs.Prelude.{◌≡◌, ℕ, zero, suc, ◌≤◌, List, [], ◌∷◌, Bool, true, false, cond, length, take, unwrap_or}
+use Rattle.std.specs.Prelude.{◌≡◌, ℕ, zero, suc, List, [], ◌∷◌, map, true, cond, unwrap_or}
 use Rattle.std.specs.List.{flat_map}
 use Rattle.vh_kernel.specs.declared.label.Label.{Label}
 use Rattle.vh_kernel.specs.declared.label.Label.TheVariants as label
+use Rattle.vh_base.specs.declared.orders.Answer.{Answer}
+use Rattle.vh_base.specs.declared.orders.Answer.TheVariants as answer
+use Rattle.vh_kernel.specs.Handles.{fresh_of}
 use Rattle.vh_kernel.specs.Line.{line_at}
 use Rattle.vh_kernel.specs.State.{State}
-use Rattle.vh_kernel.specs.Step.{Move, step_of, choices_of}
+use Rattle.vh_kernel.specs.Step.{Move, IsStep, step_of, choices_of, is_end}
 
 -- An order of choice: fifo takes the first of the choices at each label, which stand in rising order.
 -- (own: IEEE 1364-2005, 11.4.2 leaves the choice open)
@@ -20,42 +23,74 @@ chosen fifo count = 0
 abbrev pub chooser_after : Chooser → ℕ → Chooser
 chooser_after fifo count = fifo
 
--- Is the run over after the label?
-abbrev pub is_end : Label → Bool
-is_end (label.Activate region) = false
-is_end (label.Advance time) = false
-is_end (label.Pick serial shown) = false
-is_end (label.Stmt process shown) = false
-is_end (label.Finish cause) = false
-is_end (label.End ending) = true
-
--- The step that the order of choice takes.
-abbrev pub move_from : Chooser → State → Move
-move_from order s = step_of s (chosen order (choices_of s))
+-- A step that the order of choice takes; a new handle gets any number that was never given.
+abbrev pub IsMove : Chooser → State → Move → Type 0
+IsMove order s m = IsStep s (chosen order (choices_of s)) m
 
 -- From the state the machine makes these labels, each with the state after it, under the order of
 -- choice, and nothing follows an end.
 abbrev pub IsRun : Chooser → State → List Move → Type 0
 IsRun order s [] = Unit {0}
 IsRun order s (m ∷ moves) =
-    (move_from order s ≡ m) × (is_end m.0 ≡ true → moves ≡ []) × IsRun (chooser_after order (choices_of s)) m.1 moves
+    IsMove order s m × (is_end m.0 ≡ true → moves ≡ []) × IsRun (chooser_after order (choices_of s)) m.1 moves
 
--- The labels that the machine makes from the state, so many at most, up to its end.
+-- The step that the order of choice takes, where a new handle gets this number.
+abbrev pub move_from : Chooser → State → ℕ → Move
+move_from order s h = step_of s (chosen order (choices_of s)) h
+
+-- The labels that the machine makes from the state up to its end, where a new handle of each label would
+-- get the number that stands in the list for it.
+abbrev pub moves_with : Chooser → List ℕ → State → List Move
+moves_with order [] s = []
+moves_with order (h ∷ handles) s =
+    move_from order s h
+    ∷ cond (is_end (move_from order s h).0) [] (moves_with (chooser_after order (choices_of s)) handles (move_from order s h).1)
+
+-- The labels that the machine makes from the state, so many at most, up to its end, where handles get the
+-- numbers from 0 on.
+abbrev pub next_move : Chooser → State → Move
+next_move order s = move_from order s (fresh_of s.handles)
+
 abbrev pub moves_of : Chooser → ℕ → State → List Move
 moves_of order zero s = []
 moves_of order (suc n) s =
-    move_from order s ∷ cond (is_end (move_from order s).0) [] (moves_of (chooser_after order (choices_of s)) n (move_from order s).1)
+    next_move order s ∷ cond (is_end (next_move order s).0) [] (moves_of (chooser_after order (choices_of s)) n (next_move order s).1)
 
 -- The line of a label, at the time after it, or nothing for a silent one.
 abbrev pub line_of_move : Move → List ℕ
-line_of_move m = unwrap_or (line_at m.1.queue.time m.0) []
+line_of_move m = unwrap_or (line_at m.1 m.0) []
 
 -- The text of a run: the lines of its labels in order.
 abbrev pub text_of : List Move → List ℕ
 text_of moves = flat_map line_of_move moves
 
--- No run can be picked afterwards to fit other bytes: every run of so many labels at most is the front
--- of the one list of labels.
+-- The number of the handle that a label gives, if it gives one, else 0.
+abbrev pub handle_in : Answer → ℕ
+handle_in answer.Done = 0
+handle_in answer.Null = 0
+handle_in (answer.Handle h) = h
+handle_in (answer.Number n) = 0
+handle_in (answer.Text text) = 0
+handle_in (answer.Refused code) = 0
+
+abbrev pub given_in : Label → ℕ
+given_in (label.Startup k) = 0
+given_in (label.Do who order answer) = handle_in answer
+given_in (label.Ret who) = 0
+given_in (label.Occ n reason object) = 0
+given_in (label.Fire n c) = 0
+given_in (label.Done n) = 0
+given_in (label.Activate region) = 0
+given_in (label.Advance time) = 0
+given_in (label.Pick serial shown) = 0
+given_in (label.Stmt process shown) = 0
+given_in (label.Finish cause) = 0
+given_in (label.End ending) = 0
+
+abbrev pub handles_in : List Move → List ℕ
+handles_in moves = map (λ m. given_in m.0) moves
+
+-- No run can be picked afterwards to fit other bytes: but for the numbers of handles, which are printed
+-- where they are given, a run is the one list of labels.
 abbrev pub OneRun : Type 0
-OneRun = (order : Chooser) (n : ℕ) (s : State) (moves : List Move) → IsRun order s moves → length moves ≤ n
-    → moves ≡ take (length moves) (moves_of order n s)
+OneRun = (order : Chooser) (s : State) (moves : List Move) → IsRun order s moves → moves ≡ moves_with order (handles_in moves) s

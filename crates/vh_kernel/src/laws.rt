@@ -4,7 +4,7 @@ ghost use Rattle.vh_kernel.specs.Run.{OneRun};
 /// The laws of the machine's step, of every state and every choice. It does nothing: its
 /// contract is the theorem.
 pub fn step_laws()
-    // Each choice is a step of the table,
+    // Each choice is a step of the table, whatever unused number a new handle gets,
     ensures by_table { StepsByTable }
     // and each step of the table is that of a choice.
     ensures by_choice { TableBySteps }
@@ -15,6 +15,6 @@ pub fn step_laws()
     // so that the state after is a function of the state before and the label.
     ensures one_after { OneStateAfter }
 
-    // Under an order of choice there is one run.
+    // Under an order of choice there is one run, but for the numbers of new handles.
     ensures one_run { OneRun }
 {}

@@ -3,18 +3,26 @@
 //!
 //! The one contract used above: [`Kernel::step`] makes one step of the machine from the
 //! state that the kernel shows to the next, by the k-th of [`Kernel::choices`], and
-//! [`line_of`] is the label's line in the transcript. Stands on vh_base alone.
+//! [`line_of`] is the label's line in the transcript. Stands on vh_app, whose scripts say what
+//! they order next, and on vh_callbacks, which keeps what they have registered.
 #![tactic(auto)]
 
+mod activation;
 mod control;
 mod events;
+mod handles;
 mod kernel;
 mod label;
 mod laws;
 mod line;
+mod numbers;
+mod occurrence;
+mod order_text;
 mod phase;
+mod quoted;
 mod thread;
 
+pub use activation::Who;
 pub use kernel::Kernel;
 pub use label::{Ending, Label, Region};
 pub use laws::step_laws;

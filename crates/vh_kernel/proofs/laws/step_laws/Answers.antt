@@ -1,4 +1,6 @@
-use Rattle.vh_kernel.proofs.Tables.{steps_by_table, table_by_steps, opens_sound, stays_sound, one_state_after}
+use Rattle.vh_kernel.proofs.Tables.{steps_by_table, table_by_steps}
+use Rattle.vh_kernel.proofs.Sound.{opens_sound, stays_sound}
+use Rattle.vh_kernel.proofs.OneAfter.{one_state_after}
 use Rattle.vh_kernel.proofs.Runs.{one_run}
 use Rattle.vh_kernel.proofs.laws.step_laws.Goals as goal
 

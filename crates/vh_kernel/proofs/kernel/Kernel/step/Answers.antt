@@ -1,16 +1,17 @@
-use Rattle.std.proofs.Common.{◌≡◌, ◌<◌, false, Result, Ok, Err, IfOk}
-use Rattle.vh_base.specs.declared.faults.NoMemory.{NoMemory}
-use Rattle.vh_kernel.specs.declared.label.Label.{Label}
-use Rattle.vh_kernel.specs.State.{State}
+use Rattle.std.proofs.Common.{◌≡◌, ◌<◌, true, false}
+use Rattle.vh_kernel.specs.Handles.{fresh_of}
+use Rattle.vh_kernel.specs.Settle.{settled}
 use Rattle.vh_kernel.specs.Shown.{state_of}
-use Rattle.vh_kernel.specs.Step.{step_of, choices_of}
-use Rattle.vh_kernel.specs.Run.{is_end}
-use Rattle.vh_kernel.proofs.Goes.{step_goes}
+use Rattle.vh_kernel.specs.Step.{is_end, choices_of}
+use Rattle.vh_kernel.proofs.Goes.{label_goes}
 use Rattle.vh_kernel.proofs.kernel.Kernel.step.Goals as goal
-
-goes_on : (r : Result Label NoMemory) (s t : State) (k : _) → IfOk r (λ l. step_of s k ≡ (l, t)) → IfOk r (λ l. is_end l ≡ false → 0 < choices_of t)
-goes_on (Ok l) s t k is = step_goes s t k l is
-goes_on (Err e) s t k is = tt
+use Rattle.vh_kernel.proofs.kernel.Kernel.step.Goals.{then-not-is_end+in_ok-settle, else-not-is_end}
 
 pub returns-clause-goes : goal.returns-clause-goes
-returns-clause-goes c = goes_on c.make_step.result (state_of c.args.self.now) (state_of c.make_step.new.self) c.args.k c.make_step.ensures
+returns-clause-goes c = elim c.if-not-is_end.branch [
+  | then-not-is_end+in_ok-settle w ↦
+      label_goes (state_of c.args.self.now) (state_of c.make_label.new.self) (state_of c.if-not-is_end.self) c.args.k
+      (fresh_of (state_of c.args.self.now).handles) c.in_ok-label.label c.in_ok-label.ensures
+      (rw w.self-is w.in_ok-settle.ensures)
+  | else-not-is_end w ↦ λ open_yet. absurd (let h : true ≡ is_end c.in_ok-label.label = w.if-not-is_end.ensures in cc)
+]

@@ -1,0 +1,300 @@
+-- What the index keeps beside the callbacks, through a registration and a removal.
+use Rattle.std.proofs.Common.{◌≡◌, ◌+◌, ◌++◌, ℕ, List, [], ◌∷◌, map, filter, length, Bool, true, false, cond, not, refl, sym, ap, ◌∙◌, arith, subst, slice_get, Option, Some, None, Vec, Less, Equal, Greater}
+use Rattle.std.proofs.lemmas.Bool.{eqb-true, ne_eqb, eq-eqb, and_parts}
+use Rattle.std.proofs.lemmas.List.{append-nil}
+use Rattle.std.proofs.lemmas.List.Elements.{filter-append}
+use Rattle.std.specs.BTreeMap.{is_at}
+use Rattle.std.specs.Cmp.{nat_eq_equiv}
+use Rattle.std.specs.Map.{lookup}
+use Rattle.std.specs.Option.{option_cmp}
+use Rattle.std.specs.Ordering.{nat_cmp, is_eq, ordering_then}
+use Rattle.std.specs.declared.alloc.Global.{Global}
+use Rattle.std.specs.declared.cmp.Ordering.{Ordering}
+use Rattle.std.specs.Prelude.{nat_eq, ◌&&◌, is_some}
+use Rattle.vh_base.specs.declared.orders.Object.{Object}
+use Rattle.vh_base.specs.declared.words.Reason.{Reason}
+use Rattle.vh_callbacks.specs.declared.index.Watch.{Watch}
+use Rattle.vh_callbacks.specs.declared.registry.Live.{Live}
+use Rattle.vh_callbacks.specs.Registration.{same_word, same_reason, same_object}
+use Rattle.vh_callbacks.specs.Callbacks.{Rise, live_at, without, has_reason, numbers_of, any_of}
+use Rattle.vh_callbacks.specs.Watching.{watch, watch_cmp, watches, watchers, without_number, listed, numbers_under, Indexes}
+use Rattle.vh_callbacks.proofs.Rising.{at_eq}
+use Rattle.vh_callbacks.proofs.Telling.{live_below, live_above}
+use Rattle.vh_callbacks.proofs.Matching.{some}
+
+-- ---- when two watch the same
+
+is_eq_then : (p q : Ordering) → is_eq (ordering_then p q) ≡ (is_eq p && is_eq q)
+is_eq_then Less q = refl
+is_eq_then Equal q = refl
+is_eq_then Greater q = refl
+
+is_eq_option : (x y : Option ℕ) → is_eq (option_cmp nat_cmp x y) ≡ same_word x y
+is_eq_option None None = refl
+is_eq_option None (Some y) = refl
+is_eq_option (Some x) None = refl
+is_eq_option (Some x) (Some y) = at_eq x y
+
+and_both : (p p' q q' : Bool) → p ≡ p' → q ≡ q' → (p && q) ≡ (p' && q')
+and_both p p' q q' e f = rw (e, f) refl
+
+abbrev watch_eq : Watch → Watch → Bool
+watch_eq a b = nat_eq a.reason b.reason && (same_word a.object b.object && same_word a.word b.word)
+
+at_watch : (a b : Watch) → is_at (watch_cmp a) b ≡ watch_eq a b
+at_watch a b =
+    let objects : Ordering = option_cmp nat_cmp a.object b.object in
+    let words : Ordering = option_cmp nat_cmp a.word b.word in
+    is_eq_then (nat_cmp a.reason b.reason) (ordering_then objects words)
+    ∙ and_both (is_eq (nat_cmp a.reason b.reason)) (nat_eq a.reason b.reason) (is_eq (ordering_then objects words)) (same_word a.object b.object && same_word a.word b.word)
+    (at_eq a.reason b.reason)
+    (is_eq_then objects words ∙ and_both (is_eq objects) (same_word a.object b.object) (is_eq words) (same_word a.word b.word) (is_eq_option a.object b.object) (is_eq_option a.word b.word))
+
+same_word_turned : (x y : Option ℕ) → same_word x y ≡ same_word y x
+same_word_turned None None = refl
+same_word_turned None (Some y) = refl
+same_word_turned (Some x) None = refl
+same_word_turned (Some x) (Some y) = nat_eq_equiv.symm x y
+
+pub watch_turned : (a b : Watch) → is_at (watch_cmp a) b ≡ is_at (watch_cmp b) a
+watch_turned a b =
+    at_watch a b
+    ∙ and_both (nat_eq a.reason b.reason) (nat_eq b.reason a.reason) (same_word a.object b.object && same_word a.word b.word) (same_word b.object a.object && same_word b.word a.word)
+    (nat_eq_equiv.symm a.reason b.reason)
+    (and_both (same_word a.object b.object) (same_word b.object a.object) (same_word a.word b.word) (same_word b.word a.word) (same_word_turned a.object b.object) (same_word_turned a.word b.word))
+    ∙ sym (at_watch b a)
+
+same_watch : (a b : Reason) (x y : Option Object) → watch_eq (watch a x) (watch b y) ≡ (same_reason a b && same_object x y)
+same_watch a b None None = refl
+same_watch a b None (Some y) = refl
+same_watch a b (Some x) None = refl
+same_watch a b (Some x) (Some y) = refl
+
+same_word_exact : (x y : Option ℕ) → same_word x y ≡ true → x ≡ y
+same_word_exact None None same = refl
+same_word_exact None (Some y) same = cc
+same_word_exact (Some x) None same = cc
+same_word_exact (Some x) (Some y) same = ap (λ (n : ℕ). Some n) (eqb-true x y same)
+
+abbrev made : ℕ → Option ℕ → Option ℕ → Watch
+made r o w = record { reason = r; object = o; word = w }
+
+same_parts : (r r' : ℕ) (o o' w w' : Option ℕ) → r ≡ r' → o ≡ o' → w ≡ w' → made r o w ≡ made r' o' w'
+same_parts r r' o o' w w' e f g = rw (e, f, g) refl
+
+watch_exact : (a b : Watch) → is_at (watch_cmp a) b ≡ true → a ≡ b
+watch_exact a b same =
+    let all : watch_eq a b ≡ true = sym (at_watch a b) ∙ same in
+    let first = and_parts (nat_eq a.reason b.reason) (same_word a.object b.object && same_word a.word b.word) all in
+    let second = and_parts (same_word a.object b.object) (same_word a.word b.word) first.1 in
+    same_parts a.reason b.reason a.object b.object a.word b.word (eqb-true a.reason b.reason first.0)
+    (same_word_exact a.object b.object second.0) (same_word_exact a.word b.word second.1)
+
+-- ---- what a change of the index at one place does everywhere
+
+abbrev pub Entries : Type 0
+Entries = List (Watch × Vec ℕ Global)
+
+-- The index has w under k, and elsewhere what it had.
+abbrev pub ChangesAt : Watch → Entries → Entries → Option (Vec ℕ Global) → Type 0
+ChangesAt k old new w = (q : Watch) → lookup (is_at (watch_cmp q)) new ≡ cond (is_at (watch_cmp k) q) w (lookup (is_at (watch_cmp q)) old)
+
+under_head : (k q : Watch) (old new : Entries) (w : Option (Vec ℕ Global)) (before after : List ℕ) (P : Bool → List ℕ → List ℕ → Type 0) (b : Bool)
+    → is_at (watch_cmp k) q ≡ b → lookup (is_at (watch_cmp q)) new ≡ cond b w (lookup (is_at (watch_cmp q)) old)
+    → numbers_under k old ≡ before → listed w ≡ after → P true before after → ((ns : List ℕ) → P false ns ns)
+    → P b (numbers_under q old) (numbers_under q new)
+under_head k q old new w before after P true is upd was now here elsewhere =
+    let one : numbers_under q old ≡ before = ap (λ (z : Watch). numbers_under z old) (sym (watch_exact k q is)) ∙ was in
+    let two : numbers_under q new ≡ after = ap listed upd ∙ now in
+    subst (λ (z : List ℕ). P true z (numbers_under q new)) (sym one) (subst (λ (z : List ℕ). P true before z) (sym two) here)
+under_head k q old new w before after P false is upd was now here elsewhere =
+    subst (λ (z : List ℕ). P false (numbers_under q old) z) (sym (ap listed upd)) (elsewhere (numbers_under q old))
+
+pub under_changed : (k : Watch) (old new : Entries) (w : Option (Vec ℕ Global)) (before after : List ℕ) (P : Bool → List ℕ → List ℕ → Type 0)
+    → ChangesAt k old new w → numbers_under k old ≡ before → listed w ≡ after → P true before after → ((ns : List ℕ) → P false ns ns)
+    → (q : Watch) → P (is_at (watch_cmp k) q) (numbers_under q old) (numbers_under q new)
+under_changed k old new w before after P upd was now here elsewhere q =
+    under_head k q old new w before after P (is_at (watch_cmp k) q) refl (upd q) was now here elsewhere
+
+-- one more number under k
+pub under_added : (k : Watch) (old new : Entries) (w : Option (Vec ℕ Global)) (before : List ℕ) (n : ℕ)
+    → ChangesAt k old new w → numbers_under k old ≡ before → listed w ≡ before ++ n ∷ []
+    → (q : Watch) → numbers_under q new ≡ numbers_under q old ++ cond (is_at (watch_cmp k) q) (n ∷ []) []
+under_added k old new w before n upd was now =
+    under_changed k old new w before (before ++ n ∷ []) (λ b o m. m ≡ o ++ cond b (n ∷ []) []) upd was now refl (λ ns. sym (append-nil ns))
+
+-- the same numbers under k
+pub under_kept : (k : Watch) (old new : Entries) (w : Option (Vec ℕ Global)) (before : List ℕ)
+    → ChangesAt k old new w → numbers_under k old ≡ before → listed w ≡ before
+    → (q : Watch) → numbers_under q new ≡ numbers_under q old
+under_kept k old new w before upd was now = under_changed k old new w before before (λ b o m. m ≡ o) upd was now refl (λ ns. refl)
+
+-- a number less under k
+pub under_taken : (k : Watch) (old new : Entries) (w : Option (Vec ℕ Global)) (before : List ℕ) (n : ℕ)
+    → ChangesAt k old new w → numbers_under k old ≡ before → listed w ≡ without_number n before
+    → (q : Watch) → numbers_under q new ≡ cond (is_at (watch_cmp k) q) (without_number n (numbers_under q old)) (numbers_under q old)
+under_taken k old new w before n upd was now =
+    under_changed k old new w before (without_number n before) (λ b o m. m ≡ cond b (without_number n o) o) upd was now refl (λ ns. refl)
+
+none_head : (k q : Watch) (old : Entries) (n : ℕ) (b : Bool) → is_at (watch_cmp k) q ≡ b → numbers_under k old ≡ []
+    → numbers_under q old ≡ cond b (without_number n (numbers_under q old)) (numbers_under q old)
+none_head k q old n true is was =
+    let one : numbers_under q old ≡ [] = ap (λ (z : Watch). numbers_under z old) (sym (watch_exact k q is)) ∙ was in
+    rw one refl
+none_head k q old n false is was = refl
+
+-- where nothing is under k
+pub under_none : (k : Watch) (old : Entries) (n : ℕ) → numbers_under k old ≡ []
+    → (q : Watch) → numbers_under q old ≡ cond (is_at (watch_cmp k) q) (without_number n (numbers_under q old)) (numbers_under q old)
+under_none k old n was q = none_head k q old n (is_at (watch_cmp k) q) refl was
+
+filled : (ns : List ℕ) → not (nat_eq (length ns) 0) ≡ is_some (slice_get ns 0)
+filled [] = refl
+filled (n ∷ ns) = ap not (ne_eqb (length (n ∷ ns)) 0 (λ none. omega arith))
+
+module _ {B : Type 0} where
+  watches_reason : (reason : Reason) (object : Option Object) (e : ℕ × Live B) → watches (watch reason object) e ≡ has_reason reason object e
+  watches_reason reason object e =
+      at_watch (watch reason object) (watch e.1.registration.reason e.1.registration.object) ∙ same_watch reason e.1.registration.reason object e.1.registration.object
+
+  -- the numbers of a first entry, if it is kept, and the others
+  abbrev kept : Bool → ℕ × Live B → List (ℕ × Live B) → List ℕ
+  kept b e es = map (λ (f : ℕ × Live B). f.0) (cond b (e ∷ es) es)
+
+  kept_same : (b : Bool) (e : ℕ × Live B) (fs gs : List (ℕ × Live B)) → map (λ (f : ℕ × Live B). f.0) fs ≡ map (λ (f : ℕ × Live B). f.0) gs → kept b e fs ≡ kept b e gs
+  kept_same true e fs gs is = ap (λ (t : List ℕ). e.0 ∷ t) is
+  kept_same false e fs gs is = is
+
+  -- Those that watch what a reason and an object say are the matching ones.
+  pub watchers_are : (reason : Reason) (object : Option Object) (es : List (ℕ × Live B)) → watchers (watch reason object) es ≡ numbers_of reason object es
+  watchers_are reason object [] = refl
+  watchers_are reason object (e ∷ es) =
+      rw (watches_reason reason object e)
+      (kept_same (has_reason reason object e) e (filter (watches (watch reason object)) es) (filter (has_reason reason object) es) (watchers_are reason object es))
+
+  -- ---- a registration
+
+  more_head : (w : Watch) (b : Bool) (e new : ℕ × Live B) (es : List (ℕ × Live B)) (added : List ℕ) → watchers w (es ++ new ∷ []) ≡ watchers w es ++ added
+      → kept b e (filter (watches w) (es ++ new ∷ [])) ≡ kept b e (filter (watches w) es) ++ added
+  more_head w true e new es added rest = ap (λ (t : List ℕ). e.0 ∷ t) rest
+  more_head w false e new es added rest = rest
+
+  one_kept : (b : Bool) (e : ℕ × Live B) → kept b e [] ≡ cond b (e.0 ∷ []) []
+  one_kept true e = refl
+  one_kept false e = refl
+
+  pub watchers_more : (w : Watch) (es : List (ℕ × Live B)) (new : ℕ × Live B) → watchers w (es ++ new ∷ []) ≡ watchers w es ++ cond (watches w new) (new.0 ∷ []) []
+  watchers_more w [] new = one_kept (watches w new) new
+  watchers_more w (e ∷ es) new = more_head w (watches w e) e new es (cond (watches w new) (new.0 ∷ []) []) (watchers_more w es new)
+
+  -- ---- a removal
+
+  -- the list without a number, where the first stays or goes
+  gone_head : (w : Watch) (c : ℕ) (b : Bool) (e : ℕ × Live B) (es : List (ℕ × Live B)) → nat_eq e.0 c ≡ false → without_number c (watchers w es) ≡ watchers w es
+      → without_number c (kept b e (filter (watches w) es)) ≡ kept b e (filter (watches w) es)
+  gone_head w c true e es apart rest = rw apart (ap (λ (t : List ℕ). e.0 ∷ t) rest)
+  gone_head w c false e es apart rest = rest
+
+  absent_head : (w : Watch) (c : ℕ) (here : Bool) (e : ℕ × Live B) (es : List (ℕ × Live B)) → is_at (nat_cmp c) e.0 ≡ here
+      → cond here (Some e.1) (live_at c es) ≡ None → (live_at c es ≡ None → without_number c (watchers w es) ≡ watchers w es)
+      → without_number c (watchers w (e ∷ es)) ≡ watchers w (e ∷ es)
+  absent_head w c true e es is none rest = cc
+  absent_head w c false e es is none rest =
+      gone_head w c (watches w e) e es (nat_eq_equiv.symm e.0 c ∙ sym (at_eq c e.0) ∙ is) (rest none)
+
+  -- A number of none is nowhere.
+  pub watchers_absent : (w : Watch) (c : ℕ) (es : List (ℕ × Live B)) → live_at c es ≡ None → without_number c (watchers w es) ≡ watchers w es
+  watchers_absent w c [] none = refl
+  watchers_absent w c (e ∷ es) none = absent_head w c (is_at (nat_cmp c) e.0) e es refl none (watchers_absent w c es)
+
+  first_gone : (c : ℕ) (b : Bool) (e : ℕ × Live B) (es : List (ℕ × Live B)) → nat_eq e.0 c ≡ true → without_number c (kept b e es) ≡ without_number c (map (λ (f : ℕ × Live B). f.0) es)
+  first_gone c true e es same = rw same refl
+  first_gone c false e es same = refl
+
+  first_stays : (c : ℕ) (b : Bool) (e : ℕ × Live B) (fs gs : List (ℕ × Live B)) → nat_eq e.0 c ≡ false
+      → map (λ (f : ℕ × Live B). f.0) fs ≡ without_number c (map (λ (f : ℕ × Live B). f.0) gs) → kept b e fs ≡ without_number c (kept b e gs)
+  first_stays c true e fs gs apart rest = rw apart (ap (λ (t : List ℕ). e.0 ∷ t) rest)
+  first_stays c false e fs gs apart rest = rest
+
+  taken_head : (w : Watch) (c least : ℕ) (here : Bool) (e : ℕ × Live B) (es : List (ℕ × Live B)) (next : ℕ) → is_at (nat_cmp c) e.0 ≡ here → Rise least (e ∷ es) next
+      → watchers w (without c es) ≡ without_number c (watchers w es)
+      → watchers w (cond here es (e ∷ without c es)) ≡ without_number c (watchers w (e ∷ es))
+  taken_head w c least true e es next is h rest =
+      let same : c ≡ e.0 = eqb-true c e.0 (sym (at_eq c e.0) ∙ is) in
+      sym (first_gone c (watches w e) e (filter (watches w) es) (eq-eqb e.0 c (sym same))
+      ∙ watchers_absent w c es (live_below c (e.0 + 1) es next (omega arith) h.1))
+  taken_head w c least false e es next is h rest =
+      first_stays c (watches w e) e (filter (watches w) (without c es)) (filter (watches w) es) (nat_eq_equiv.symm e.0 c ∙ sym (at_eq c e.0) ∙ is) rest
+
+  -- Without a callback its number is gone,
+  pub watchers_without : (w : Watch) (c least : ℕ) (es : List (ℕ × Live B)) (next : ℕ) → Rise least es next → watchers w (without c es) ≡ without_number c (watchers w es)
+  watchers_without w c least [] next h = refl
+  watchers_without w c least (e ∷ es) next h =
+      taken_head w c least (is_at (nat_cmp c) e.0) e es next refl h (watchers_without w c (e.0 + 1) es next h.1)
+
+  other_kept : (b : Bool) (e : ℕ × Live B) (es : List (ℕ × Live B)) → b ≡ false → map (λ (f : ℕ × Live B). f.0) es ≡ kept b e es
+  other_kept true e es no_one = cc
+  other_kept false e es no_one = refl
+
+  left_head : (w : Watch) (c : ℕ) (here : Bool) (l : Live B) (e : ℕ × Live B) (es : List (ℕ × Live B))
+      → cond here (Some e.1) (live_at c es) ≡ Some l → watches w (c, l) ≡ false
+      → (live_at c es ≡ Some l → watchers w (without c es) ≡ watchers w es)
+      → watchers w (cond here es (e ∷ without c es)) ≡ watchers w (e ∷ es)
+  left_head w c true l e es is other rest =
+      let same : e.1 ≡ l = cc in
+      other_kept (watches w e) e (filter (watches w) es) (ap (λ (k : Live B). watches w (c, k)) same ∙ other)
+  left_head w c false l e es is other rest = kept_same (watches w e) e (filter (watches w) (without c es)) (filter (watches w) es) (rest is)
+
+  -- and where something else is watched nothing changes.
+  pub watchers_left : (w : Watch) (c : ℕ) (l : Live B) (es : List (ℕ × Live B)) → live_at c es ≡ Some l → watches w (c, l) ≡ false → watchers w (without c es) ≡ watchers w es
+  watchers_left w c l [] is other = cc
+  watchers_left w c l (e ∷ es) is other = left_head w c (is_at (nat_cmp c) e.0) l e es is other (λ rest. watchers_left w c l es rest other)
+
+  -- ---- the index beside the callbacks
+
+  undone_head : (q : Watch) (n : ℕ) (b : Bool) (es : List (ℕ × Live B)) (before added after : List ℕ) → live_at n es ≡ None
+      → before ≡ watchers q es → added ≡ before ++ cond b (n ∷ []) [] → after ≡ cond b (without_number n added) added → after ≡ watchers q es
+  undone_head q n true es before added after none was more less =
+      let all : after ≡ without_number n (watchers q es ++ n ∷ []) = less ∙ ap (without_number n) (more ∙ ap (λ (t : List ℕ). t ++ n ∷ []) was) in
+      let last : without_number n (n ∷ []) ≡ [] = rw (eq-eqb n n refl) refl in
+      all ∙ filter-append (λ m. not (nat_eq m n)) (watchers q es) (n ∷ [])
+      ∙ ap (λ (t : List ℕ). without_number n (watchers q es) ++ t) last ∙ append-nil (without_number n (watchers q es)) ∙ watchers_absent q n es none
+  undone_head q n false es before added after none was more less = less ∙ more ∙ append-nil before ∙ was
+
+  -- A number that was added and taken again leaves what was.
+  pub undone : (k : Watch) (n : ℕ) (es : List (ℕ × Live B)) (old added new : Entries) → Rise 1 es n → Indexes old es
+      → ((q : Watch) → numbers_under q added ≡ numbers_under q old ++ cond (is_at (watch_cmp k) q) (n ∷ []) [])
+      → ((q : Watch) → numbers_under q new ≡ cond (is_at (watch_cmp k) q) (without_number n (numbers_under q added)) (numbers_under q added))
+      → Indexes new es
+  undone k n es old added new rising indexed more less q =
+      undone_head q n (is_at (watch_cmp k) q) es (numbers_under q old) (numbers_under q added) (numbers_under q new) (live_above n 1 es n (omega arith) rising) (indexed q) (more q) (less q)
+
+  removed_head : (k q : Watch) (c : ℕ) (l : Live B) (b : Bool) (es : List (ℕ × Live B)) (next : ℕ) (before after : List ℕ) → k ≡ watch l.registration.reason l.registration.object
+      → is_at (watch_cmp k) q ≡ b → Rise 1 es next → live_at c es ≡ Some l → before ≡ watchers q es → after ≡ cond b (without_number c before) before
+      → after ≡ watchers q (without c es)
+  removed_head k q c l true es next before after watched is rising found was less =
+      less ∙ ap (without_number c) was ∙ sym (watchers_without q c 1 es next rising)
+  removed_head k q c l false es next before after watched is rising found was less =
+      let other : watches q (c, l) ≡ false = ap (λ (z : Watch). is_at (watch_cmp q) z) (sym watched) ∙ watch_turned q k ∙ is in
+      less ∙ was ∙ sym (watchers_left q c l es found other)
+
+  -- A callback that is gone has its number taken where it watched.
+  pub indexed_removed : (k : Watch) (c n : ℕ) (l : Live B) (es : List (ℕ × Live B)) (next : ℕ) (old new : Entries) → n ≡ c → k ≡ watch l.registration.reason l.registration.object
+      → Rise 1 es next → live_at n es ≡ Some l → Indexes old es
+      → ((q : Watch) → numbers_under q new ≡ cond (is_at (watch_cmp k) q) (without_number c (numbers_under q old)) (numbers_under q old))
+      → Indexes new (without n es)
+  indexed_removed k c n l es next old new same watched rising found indexed less q =
+      let here : live_at c es ≡ Some l = ap (λ (z : ℕ). live_at z es) (sym same) ∙ found in
+      removed_head k q c l (is_at (watch_cmp k) q) es next (numbers_under q old) (numbers_under q new) watched refl rising here (indexed q) (less q)
+      ∙ ap (λ (z : ℕ). watchers q (without z es)) (sym same)
+
+  -- ---- what is read of the index
+
+  pub listed_all : (reason : Reason) (object : Option Object) (es : List (ℕ × Live B)) (index : Entries) → Indexes index es
+      → numbers_under (watch reason object) index ≡ numbers_of reason object es
+  listed_all reason object es index indexed = indexed (watch reason object) ∙ watchers_are reason object es
+
+  pub any_listed : (reason : Reason) (object : Option Object) (es : List (ℕ × Live B)) (index : Entries) → Indexes index es
+      → not (nat_eq (length (numbers_under (watch reason object) index)) 0) ≡ any_of reason object es
+  any_listed reason object es index indexed =
+      ap (λ (ns : List ℕ). not (nat_eq (length ns) 0)) (listed_all reason object es index indexed) ∙ filled (numbers_of reason object es) ∙ sym (some reason object es)

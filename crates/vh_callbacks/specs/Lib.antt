@@ -1,0 +1,4 @@
+pub mod Registration
+pub mod Watching
+pub mod Callbacks
+pub mod Laws

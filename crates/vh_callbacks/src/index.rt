@@ -1,0 +1,117 @@
+ghost use Rattle.std.specs.Prelude.{◌≡◌, ◌++◌, ◌∷◌, [], if◌then◌else◌, true, not, nat_eq, length, is_some, OnOk, OnErr};
+ghost use Rattle.std.specs.Bool.{OnTrue};
+ghost use Rattle.std.specs.BTreeMap.{is_at, get};
+ghost use Rattle.vh_callbacks.specs.Watching.{watch, watch_cmp, numbers_under, without_number};
+
+use std::alloc::Global;
+use std::collections::BTreeMap;
+use vh_base::{CbNumber, NoMemory, Object, Reason};
+
+/// What a callback watches, by numbers that have an order: its reason, its object and the
+/// word of that.
+#[derive(Clone, Copy, PartialEq, Eq, PartialOrd, Ord)]
+pub(crate) struct Watch {
+    pub(crate) reason: u8,
+    pub(crate) object: Option<u32>,
+    pub(crate) word: Option<u32>,
+}
+
+/// The live callbacks by what they watch, each list by rising number.
+pub(crate) type Index = BTreeMap<Watch, Vec<CbNumber>, Global>;
+
+/// What a callback with this reason and this object watches.
+pub(crate) fn watch_of(reason: Reason, object: &Option<Object>) -> Watch
+    ensures { result ≡ watch reason object.now }
+{
+    let number = reason as u8;
+    match object {
+        Some(o) => Watch {
+            reason: number,
+            object: Some(o.id.number()),
+            word: o.word,
+        },
+        None => Watch {
+            reason: number,
+            object: None,
+            word: None,
+        },
+    }
+}
+
+/// Puts a number at the end of those that watch this.
+pub(crate) fn add(
+    alloc: Global,
+    index: &mut Index,
+    w: Watch,
+    number: CbNumber,
+) -> Result<(), NoMemory>
+    ensures ok { OnOk result ((q : Watch) → numbers_under q index.new.entries ≡ numbers_under q index.old.entries ++ (if is_at (watch_cmp w) q then number ∷ [] else [])) }
+    ensures kept { OnErr result ((q : Watch) → numbers_under q index.new.entries ≡ numbers_under q index.old.entries) }
+{
+    if index.contains_key(&w) {
+        return push_at(index, w, number);
+    }
+    let mut numbers = Vec::new(alloc);
+    numbers.push(number)?;
+    index.insert(w, numbers)?;
+    Ok(())
+}
+
+// Puts a number at the end of those that watch this, of which there are some.
+fn push_at(index: &mut Index, w: Watch, number: CbNumber) -> Result<(), NoMemory>
+    requires { is_some (get watch_cmp index.old w) ≡ true }
+    ensures ok { OnOk result ((q : Watch) → numbers_under q index.new.entries ≡ numbers_under q index.old.entries ++ (if is_at (watch_cmp w) q then number ∷ [] else [])) }
+    ensures kept { OnErr result ((q : Watch) → numbers_under q index.new.entries ≡ numbers_under q index.old.entries) }
+{
+    let Some(numbers) = index.get_mut(&w) else {
+        unreachable!();
+    };
+    numbers.push(number)?;
+    Ok(())
+}
+
+/// Takes a number out of those that watch this. It walks these.
+pub(crate) fn take(index: &mut Index, w: Watch, number: CbNumber)
+    ensures { (q : Watch) → numbers_under q index.new.entries ≡ (if is_at (watch_cmp w) q then without_number number (numbers_under q index.old.entries) else numbers_under q index.old.entries) }
+{
+    if !drop_at(index, w, number) {
+        return;
+    }
+    index.remove(&w);
+}
+
+// Takes a number out of those that watch this. Are none left?
+fn drop_at(index: &mut Index, w: Watch, number: CbNumber) -> bool
+    ensures taken { (q : Watch) → numbers_under q index.new.entries ≡ (if is_at (watch_cmp w) q then without_number number (numbers_under q index.old.entries) else numbers_under q index.old.entries) }
+    ensures empty { OnTrue result (numbers_under w index.new.entries ≡ []) }
+{
+    let Some(numbers) = index.get_mut(&w) else {
+        return false;
+    };
+    drop_number(numbers, number);
+    numbers.is_empty()
+}
+
+// Takes a number out.
+fn drop_number(numbers: &mut Vec<CbNumber>, number: CbNumber)
+    ensures { numbers.new.items ≡ without_number number numbers.old.items }
+{
+    numbers.retain(|n| n.number() != number.number());
+}
+
+/// The numbers of those that watch this, by rising number.
+pub(crate) fn numbers_for<'a>(index: &'a Index, w: Watch) -> &'a [CbNumber]
+    ensures { result.now ≡ numbers_under w index.now.entries }
+{
+    match index.get(&w) {
+        Some(numbers) => numbers.as_slice(),
+        None => &[],
+    }
+}
+
+/// Is there one that watches this?
+pub(crate) fn is_watched(index: &Index, w: Watch) -> bool
+    ensures { result ≡ not (nat_eq (length (numbers_under w index.now.entries)) 0) }
+{
+    !numbers_for(index, w).is_empty()
+}

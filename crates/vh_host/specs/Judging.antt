@@ -1,0 +1,33 @@
+-- Which verdict a refusal of the texts says. (own)
+use Rattle.std.specs.Prelude.{◌≡◌, ℕ, List, Option, None, Result, Err}
+use Rattle.vh_base.specs.declared.faults.AppFault.TheVariants as app
+use Rattle.vh_app.specs.Script.{ScriptData}
+use Rattle.vh_host.specs.declared.status.Status.{Status}
+use Rattle.vh_host.specs.declared.status.Status.TheVariants as status
+use Rattle.vh_host.specs.declared.judging.Refusal.{Refusal}
+use Rattle.vh_host.specs.declared.judging.Refusal.TheVariants as refusal
+use Rattle.vh_host.specs.Acceptance.{Verdict, refuses, place}
+
+-- The status of a refusal.
+abbrev pub status_of : Refusal → Status
+status_of (refusal.Design fault at) = status.DesignRefused fault at
+status_of (refusal.Script n fault at) = status.AppRefused n fault at
+status_of refusal.NoMemory = status.NoMemory
+
+-- A refusal says that it is the verdict; want of memory says nothing of it.
+abbrev pub Refuses : Refusal → Verdict → Type 0
+Refuses (refusal.Design fault at) v = v ≡ refuses (status.DesignRefused fault at)
+Refuses (refusal.Script n fault at) v = v ≡ refuses (status.AppRefused n fault at)
+Refuses refusal.NoMemory v = Unit {0}
+
+-- The same of scripts, where no Verilog text is refused.
+abbrev pub RefusesScript : Refusal → Result (List ScriptData) Status → Type 0
+RefusesScript (refusal.Design fault at) r = ⊥
+RefusesScript (refusal.Script n fault at) r = r ≡ Err (status.AppRefused n fault at)
+RefusesScript refusal.NoMemory r = Unit {0}
+
+-- The same of the file of this number.
+abbrev pub RefusesFile : Refusal → ℕ → Option ScriptData → Type 0
+RefusesFile (refusal.Design fault at) number o = ⊥
+RefusesFile (refusal.Script n fault at) number o = (o ≡ None) × (n ≡ number) × (fault ≡ app.A2) × (at ≡ place number 1 1)
+RefusesFile refusal.NoMemory number o = Unit {0}

@@ -1,0 +1,133 @@
+ghost use Rattle.std.specs.Prelude.{◌≡◌, ◌≤◌, Ok, Some, length, IfOk, IfErr, IsTrue};
+ghost use Rattle.vh_base.specs.First.{are_declared};
+ghost use Rattle.vh_app.specs.Meaning.{script_of};
+ghost use Rattle.vh_host.specs.Acceptance.{by_texts, scripts_of, design_text, accepts};
+ghost use Rattle.vh_host.specs.Reading.{files_seen};
+ghost use Rattle.vh_host.specs.Judging.{Refuses, RefusesScript, RefusesFile, status_of};
+
+use crate::file::TextFile;
+use crate::status::Status;
+use crate::words::{is_design_word, is_script_word};
+use std::alloc::{AllocError, AllocFailed, Global};
+use vh_app::{Script, ScriptFault, read_app};
+use vh_base::{AppFault, DesignFault, First, Place, Short};
+use vh_parse::{FirstFault, parse_first};
+
+/// Why texts can't be run.
+#[derive(Clone, Copy, Debug, PartialEq, Eq)]
+pub enum Refusal {
+    /// The Verilog text is refused.
+    Design(DesignFault, Place),
+    /// The script of this file, by its number from 1, is refused.
+    Script(u32, AppFault, Place),
+    /// Memory was refused.
+    NoMemory,
+}
+
+impl From<AllocError> for Refusal {
+    ghost use Rattle.vh_host.specs.declared.judging.Refusal.TheVariants.{NoMemory};
+
+    ghost from_gives = { λ _ refusal. refusal ≡ NoMemory };
+
+    fn from(_refused: AllocError) -> Refusal {
+        Refusal::NoMemory
+    }
+}
+
+impl<T: Drop> From<AllocFailed<T>> for Refusal {
+    ghost use Rattle.vh_host.specs.declared.judging.Refusal.TheVariants.{NoMemory};
+
+    ghost from_gives = { λ _ refusal. refusal ≡ NoMemory };
+
+    fn from(_refused: AllocFailed<T>) -> Refusal {
+        Refusal::NoMemory
+    }
+}
+
+/// The status of a refusal.
+pub fn status_of(refusal: Refusal) -> Status
+    ensures { result ≡ status_of refusal }
+{
+    match refusal {
+        Refusal::Design(fault, place) => Status::DesignRefused(fault, place),
+        Refusal::Script(n, fault, place) => Status::AppRefused(n, fault, place),
+        Refusal::NoMemory => Status::NoMemory,
+    }
+}
+
+/// The design and the scripts of files that were read, or the first refusal: the Verilog
+/// text first, and then the scripts in word order.
+pub fn judge(alloc: Global, files: &[TextFile<'_>]) -> Result<(First, Vec<Script>), Refusal>
+    requires { length files.now ≤ 8 }
+    ensures accepted { IfOk result (λ parts. by_texts (files_seen files.now) ≡ accepts parts.0 parts.1.items) }
+    ensures declared { IfOk result (λ parts. IsTrue (are_declared parts.0)) }
+    ensures few { IfOk result (λ parts. length parts.1.items ≤ 8) }
+    ensures refused { IfErr result (λ refusal. Refuses refusal (by_texts (files_seen files.now))) }
+{
+    match parse_first(alloc, design_text(files)) {
+        Ok(design) => {
+            let scripts = scripts_of(alloc, files)?;
+            Ok((design, scripts))
+        }
+        Err(FirstFault::NotBuilt) => {
+            let place = Place {
+                file: 1,
+                line: 1,
+                column: 1,
+            };
+            Err(Refusal::Design(DesignFault::S3, place))
+        }
+        Err(FirstFault::NoMemory) => Err(Refusal::NoMemory),
+    }
+}
+
+// The text of the Verilog file.
+fn design_text<'a>(files: &'a [TextFile<'_>]) -> &'a [u8]
+    ensures { result.now ≡ design_text (files_seen files.now) }
+{
+    for file in files {
+        if is_design_word(file.word) {
+            return file.bytes.as_slice();
+        }
+    }
+    &[]
+}
+
+// The scripts in word order, or the first refusal.
+fn scripts_of(alloc: Global, files: &[TextFile<'_>]) -> Result<Vec<Script>, Refusal>
+    requires { length files.now ≤ 8 }
+    ensures read { IfOk result (λ scripts. scripts_of 1 (files_seen files.now) ≡ Ok scripts.items) }
+    ensures few { IfOk result (λ scripts. length scripts.items ≤ 8) }
+    ensures refused { IfErr result (λ refusal. RefusesScript refusal (scripts_of 1 (files_seen files.now))) }
+{
+    let mut scripts = Vec::new(alloc);
+    let mut number: u32 = 0;
+    for file in files {
+        number += 1;
+        if !is_script_word(file.word) {
+            continue;
+        }
+        scripts.push(script_of(alloc, number, file)?)?;
+    }
+    Ok(scripts)
+}
+
+// The script of the file of this number.
+fn script_of(alloc: Global, number: u32, file: &TextFile<'_>) -> Result<Script, Refusal>
+    ensures read { IfOk result (λ script. script_of file.now.bytes.items ≡ Some script) }
+    ensures refused { IfErr result (λ refusal. RefusesFile refusal number (script_of file.now.bytes.items)) }
+{
+    let earlier: Vec<Short> = Vec::new(alloc);
+    match read_app(alloc, file.bytes.as_slice(), &earlier) {
+        Ok(script) => Ok(script),
+        Err(ScriptFault::Refused(fault, place)) => {
+            let of_file = Place {
+                file: number,
+                line: place.line,
+                column: place.column,
+            };
+            Err(Refusal::Script(number, fault, of_file))
+        }
+        Err(ScriptFault::NoMemory) => Err(Refusal::NoMemory),
+    }
+}
