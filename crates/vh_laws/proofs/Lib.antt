@@ -1,0 +1,11 @@
+pub mod Views
+pub mod Effects
+pub mod Rows
+pub mod Splits
+pub mod Handing
+pub mod Turning
+pub mod Removing
+pub mod Naming
+pub mod Keeping
+pub mod FiringLaw
+pub mod Chosen

@@ -1,0 +1,13 @@
+use Rattle.vh_laws.proofs.Chosen.{runs_are_paths}
+use Rattle.vh_laws.proofs.FiringLaw.{firing_law}
+use Rattle.vh_laws.proofs.Naming.{handle_law}
+use Rattle.vh_laws.proofs.theorem.laws.Goals as goal
+
+pub returns-clause-firing : goal.returns-clause-firing
+returns-clause-firing c = firing_law
+
+pub returns-clause-handles : goal.returns-clause-handles
+returns-clause-handles c = handle_law
+
+pub returns-clause-runs : goal.returns-clause-runs
+returns-clause-runs c = runs_are_paths
