@@ -1,0 +1,57 @@
+-- Decoding a string from any byte on.
+use Rattle.std.proofs.Common.{◌≡◌, ℕ, zero, suc, ◌+◌, ◌-◌, ◌<◌, ◌≤◌, List, [], ◌∷◌, ◌++◌, Option, Some, None, Bool, true, false, length, take, drop, nat_eq, refl, ap, sym, ◌∙◌, append_assoc, arith}
+use Rattle.std.specs.Option.{option_map}
+use Rattle.vh_lex.specs.declared.text.Escape.{Escape}
+use Rattle.vh_lex.specs.Bytes.{one_more}
+use Rattle.vh_lex.specs.Texts.{Decoded, preceded, escaped_then, decoded, decoded_after, escape_at}
+
+-- decoded bytes before those that follow, spelled by so many bytes
+abbrev pub onto : ℕ → List ℕ → Decoded → Decoded
+onto n front d = record { bytes = front ++ d.bytes; wrong = option_map (λ k. n + k) d.wrong }
+
+-- passing over bytes is decoding what follows them
+pub passed : (skip : ℕ) (bytes : List ℕ) → skip ≤ length bytes → decoded_after skip bytes ≡ onto skip [] (decoded (drop skip bytes))
+passed zero bytes h = ap (λ (o : Option ℕ). record { bytes = (decoded bytes).bytes; wrong = o }) (same (decoded bytes).wrong)
+  where
+    same : (o : Option ℕ) → o ≡ option_map (λ k. 0 + k) o
+    same None = refl
+    same (Some k) = ap Some (omega arith)
+passed (suc skip) [] h = absurd (omega arith)
+passed (suc skip) (byte ∷ bytes) h =
+    ap (λ (d : Decoded). record d { wrong = one_more d.wrong }) (passed skip bytes (omega arith))
+    ∙ ap (λ (o : Option ℕ). record { bytes = (decoded (drop skip bytes)).bytes; wrong = o }) (more skip (decoded (drop skip bytes)).wrong)
+  where
+    more : (n : ℕ) (o : Option ℕ) → one_more (option_map (λ k. n + k) o) ≡ option_map (λ k. suc n + k) o
+    more n None = refl
+    more n (Some k) = ap Some (omega arith)
+
+same-decoded : (a b : List ℕ) (o p : Option ℕ) → a ≡ b → o ≡ p → let d : Decoded = record { bytes = a; wrong = o } in let e : Decoded = record { bytes = b; wrong = p } in d ≡ e
+same-decoded a b o p f g = cc
+
+onto-preceded : (n : ℕ) (front : List ℕ) (byte : ℕ) (d : Decoded) → onto n front (preceded byte d) ≡ onto (n + 1) (front ++ byte ∷ []) d
+onto-preceded n front byte d = same-decoded _ _ _ _ (sym (append_assoc front (byte ∷ []) d.bytes)) (more d.wrong)
+  where
+    more : (o : Option ℕ) → option_map (λ k. n + k) (one_more o) ≡ option_map (λ k. n + 1 + k) o
+    more None = refl
+    more (Some k) = ap Some (omega arith)
+
+onto-onto : (n m : ℕ) (front : List ℕ) (d : Decoded) → onto n front (onto m [] d) ≡ onto (n + m) front d
+onto-onto n m front d = same-decoded _ _ _ _ refl (more d.wrong)
+  where
+    more : (o : Option ℕ) → option_map (λ k. n + k) (option_map (λ k. m + k) o) ≡ option_map (λ k. n + m + k) o
+    more None = refl
+    more (Some k) = ap Some (omega arith)
+
+-- a byte that is no backslash
+pub plain-byte : (n m : ℕ) (front : List ℕ) (byte : ℕ) (bytes : List ℕ) (all : Decoded) → nat_eq byte 92 ≡ false → m ≡ n + 1
+    → all ≡ onto n front (decoded (byte ∷ bytes)) → all ≡ onto m (front ++ byte ∷ []) (decoded bytes)
+plain-byte n m front byte bytes all e same h = rw same (rw e at h ∙ onto-preceded n front byte (decoded bytes))
+
+-- an escape
+pub escape-byte : (n m : ℕ) (front : List ℕ) (bytes : List ℕ) (escape : Escape) (all : Decoded) → escape_at bytes ≡ Some escape → escape.len ≤ length bytes → m ≡ n + 1 + escape.len
+    → all ≡ onto n front (decoded (92 ∷ bytes)) → all ≡ onto m (front ++ escape.byte ∷ []) (decoded (drop escape.len bytes))
+escape-byte n m front bytes escape all e long same h =
+    rw same (h ∙ ap (λ (o : Option Escape). onto n front (escaped_then o (λ len. decoded_after len bytes))) e
+    ∙ onto-preceded n front escape.byte (decoded_after escape.len bytes)
+    ∙ ap (onto (n + 1) (front ++ escape.byte ∷ [])) (passed escape.len bytes long)
+    ∙ onto-onto (n + 1) escape.len (front ++ escape.byte ∷ []) (decoded (drop escape.len bytes)))

@@ -1,0 +1,44 @@
+-- Reading a file one piece after the other.
+use Rattle.std.proofs.Common.{◌≡◌, ℕ, zero, suc, ◌+◌, ◌-◌, ◌≤◌, List, [], ◌∷◌, Bool, true, false, Result, Ok, Err, length, take, drop, refl, ap, sym, subst, ◌∙◌}
+use Rattle.vh_base.specs.declared.place.Place.{Place}
+use Rattle.vh_lex.specs.declared.fault.Stop.{Stop as StopOf}
+use Rattle.vh_lex.specs.declared.piece.Part.{Part}
+use Rattle.vh_lex.specs.declared.piece.Piece.{Piece}
+use Rattle.vh_lex.specs.declared.piece.Piece.TheVariants as piece
+use Rattle.vh_lex.specs.Conditionals.{skips}
+use Rattle.vh_lex.specs.Directives.{Step}
+use Rattle.vh_lex.specs.Front.{front}
+use Rattle.vh_lex.specs.Outcomes.{Went}
+use Rattle.vh_lex.specs.State.{State, moved}
+use Rattle.vh_lex.specs.Spelling.{Stop, skipped, part_read, piece_read, step, step_then, read_after, read}
+
+-- in skipped text
+pub step-skips : (bytes : List ℕ) (s t : State) (result : Result ℕ StopOf) → skips s.conditionals ≡ true → Went (skipped bytes s) result t → Went (step bytes s) result t
+step-skips bytes s t result e h = subst (λ (o : Step). Went o result t) (sym (is-skipped e)) h
+  where
+    is-skipped : skips s.conditionals ≡ true → step bytes s ≡ skipped bytes s
+    is-skipped e = rw e refl
+
+-- in text that is read
+pub step-keeps : (bytes : List ℕ) (s t : State) (part : Part) (len : ℕ) (result : Result ℕ StopOf) → skips s.conditionals ≡ false → front bytes ≡ piece.Kept part len
+    → Went (part_read part len bytes s) result t → Went (step bytes s) result t
+step-keeps bytes s t part len result e f h = subst (λ (o : Step). Went o result t) (sym (is-read e ∙ ap (λ (p : Piece). piece_read p bytes s) f)) h
+  where
+    is-read : skips s.conditionals ≡ false → step bytes s ≡ piece_read (front bytes) bytes s
+    is-read e = rw e refl
+
+-- passing over bytes is reading what follows them
+pub passed : (skip : ℕ) (bytes : List ℕ) (s : State) → read_after skip bytes s ≡ read (drop skip bytes) s
+passed zero [] s = refl
+passed zero (byte ∷ bytes) s = refl
+passed (suc skip) [] s = refl
+passed (suc skip) (byte ∷ bytes) s = passed skip bytes s
+
+-- a piece more is read
+pub read-more : (all : Result State Stop) (byte : ℕ) (bytes rest : List ℕ) (s t : State) (len : ℕ) (place : Place) → rest ≡ byte ∷ bytes → step rest s ≡ Ok (t, len) → place ≡ moved (take len rest) s.place
+    → all ≡ read rest s → all ≡ read (drop (len - 1) bytes) (record t { place = place })
+read-more all byte bytes rest s t len place same e f h =
+    h ∙ ap (λ (r : List ℕ). read r s) same
+    ∙ ap (λ (o : Step). step_then o (byte ∷ bytes) s.place (λ skip went. read_after skip bytes went)) (ap (λ (r : List ℕ). step r s) (sym same) ∙ e)
+    ∙ passed (len - 1) bytes (record t { place = moved (take len (byte ∷ bytes)) s.place })
+    ∙ ap (λ (p : Place). read (drop (len - 1) bytes) (record t { place = p })) (ap (λ (r : List ℕ). moved (take len r) s.place) (sym same) ∙ sym f)

@@ -1,0 +1,26 @@
+-- How contracts see what the code holds: without where it lies in memory.
+use Rattle.std.specs.Prelude.{ℕ, List}
+use Rattle.std.specs.Borrow.{Bor}
+use Rattle.vh_lex.specs.declared.mark.Mark.{Mark}
+use Rattle.vh_lex.specs.declared.name.Named.{Named as HeldNamed}
+use Rattle.vh_lex.specs.declared.macro_text.Next.{Next as HeldNext}
+use Rattle.vh_lex.specs.declared.scale.Found.{Found as HeldFound}
+use Rattle.vh_lex.specs.Directives.{Found}
+use Rattle.vh_lex.specs.Front.{Named}
+use Rattle.vh_lex.specs.MacroTexts.{Turn}
+
+-- a row of a table
+abbrev pub row_seen : {A : Type 0} → Bor (List ℕ) × A → List ℕ × A
+row_seen row = (row.0.now, row.1)
+
+-- a name of the code
+abbrev pub named_seen : HeldNamed → Named
+named_seen n = record { name = n.name.now; len = n.len }
+
+-- a turn of the code
+abbrev pub turn_seen : HeldNext → Turn
+turn_seen t = record { passes = t.passes; mode = t.mode }
+
+-- a value in a directive
+abbrev pub found_seen : HeldFound → Found
+found_seen f = record { value = f.value; len = f.len }

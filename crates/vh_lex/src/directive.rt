@@ -1,0 +1,58 @@
+ghost use Rattle.std.specs.Prelude.{◌≡◌, is_some};
+ghost use Rattle.vh_lex.specs.Directives;
+
+use crate::table::spelled;
+
+/// A directive (IEEE 1364-2005, clause 19).
+#[derive(Clone, Copy, PartialEq, Eq)]
+pub(crate) enum Directive {
+    Define,
+    Undef,
+    Ifdef,
+    Ifndef,
+    Elsif,
+    Else,
+    Endif,
+    Timescale,
+    DefaultNettype,
+    Resetall,
+    /// A directive of the standard that is left out.
+    Other,
+}
+
+/// The directives by their names (IEEE 1364-2005, clause 19).
+static DIRECTIVES: [(&[u8], Directive); 19] = [
+    (b"define", Directive::Define),
+    (b"undef", Directive::Undef),
+    (b"ifdef", Directive::Ifdef),
+    (b"ifndef", Directive::Ifndef),
+    (b"elsif", Directive::Elsif),
+    (b"else", Directive::Else),
+    (b"endif", Directive::Endif),
+    (b"timescale", Directive::Timescale),
+    (b"default_nettype", Directive::DefaultNettype),
+    (b"resetall", Directive::Resetall),
+    (b"begin_keywords", Directive::Other),
+    (b"celldefine", Directive::Other),
+    (b"end_keywords", Directive::Other),
+    (b"endcelldefine", Directive::Other),
+    (b"include", Directive::Other),
+    (b"line", Directive::Other),
+    (b"nounconnected_drive", Directive::Other),
+    (b"pragma", Directive::Other),
+    (b"unconnected_drive", Directive::Other),
+];
+
+/// The directive that a name behind a backquote is, if it is one.
+pub(crate) fn directive_of(name: &[u8]) -> Option<Directive>
+    ensures { result ≡ Directives.directive_of name.now }
+{
+    spelled(&DIRECTIVES, name)
+}
+
+/// Whether a name behind a backquote is that of a directive.
+pub(crate) fn is_directive(name: &[u8]) -> bool
+    ensures { result ≡ is_some (Directives.directive_of name.now) }
+{
+    directive_of(name).is_some()
+}

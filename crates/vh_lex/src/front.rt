@@ -1,0 +1,191 @@
+ghost use Rattle.std.specs.Prelude.{◌≡◌, ◌≤◌, ◌<◌, ◌+◌, length, IfOk, IfSome};
+ghost use Rattle.vh_lex.specs.Front;
+ghost use Rattle.vh_lex.specs.Inside.{IsInside};
+
+use crate::bytes::{
+    Class, after, begins, begins_with, copied, is_digit, is_name_start, is_space, run_len, through,
+};
+use crate::keyword::keyword_of;
+use crate::mark::mark_at;
+use crate::name::{is_long, name_of};
+use crate::number::number_at;
+use crate::piece::{Part, Piece};
+use crate::text::text_at;
+use crate::token::Kind;
+use std::alloc::Global;
+use vh_base::{DesignFault, NoMemory};
+
+/// What the bytes begin with (IEEE 1364-2005, clause 2). It takes time in the number of bytes of
+/// that piece, and of white space behind it.
+pub(crate) fn front(alloc: Global, bytes: &[u8]) -> Result<Piece, NoMemory>
+    ensures value { IfOk result (λ piece. piece ≡ Front.front bytes.now) }
+    ensures inside { IfOk result (λ piece. IsInside piece (length bytes.now)) }
+{
+    let Some((first, behind)) = bytes.split_first() else {
+        return Ok(Piece::Blank(0));
+    };
+    if is_space(*first) {
+        Ok(Piece::Blank(run_len(Class::Space, bytes)))
+    } else if is_name_start(*first) {
+        word_at(alloc, bytes)
+    } else if is_digit(*first) || *first == b'\'' {
+        Ok(number_at(bytes))
+    } else {
+        marked(alloc, *first, behind, bytes)
+    }
+}
+
+// What the bytes begin with, by a first byte that is no white space and begins no word or number.
+fn marked(alloc: Global, first: u8, behind: &[u8], bytes: &[u8]) -> Result<Piece, NoMemory>
+    requires { length behind.now < length bytes.now }
+    ensures value { IfOk result (λ piece. piece ≡ Front.marked first behind.now bytes.now) }
+    ensures inside { IfOk result (λ piece. IsInside piece (length bytes.now)) }
+{
+    match first {
+        b'$' => system_at(alloc, bytes),
+        b'"' => text_at(alloc, behind),
+        b'\\' => escaped_at(alloc, bytes),
+        b'`' => use_at(alloc, behind),
+        b'/' => Ok(slash_at(bytes)),
+        b'(' => Ok(bracket_at(bytes)),
+        _ => Ok(mark_piece(bytes)),
+    }
+}
+
+// A keyword or a name.
+fn word_at(alloc: Global, bytes: &[u8]) -> Result<Piece, NoMemory>
+    ensures value { IfOk result (λ piece. piece ≡ Front.word_at bytes.now) }
+    ensures inside { IfOk result (λ piece. IsInside piece (length bytes.now)) }
+{
+    let word = &bytes[..run_len(Class::Name, bytes)];
+    if word == b"module".as_slice() {
+        return Ok(Piece::Kept(Part::Module, word.len()));
+    }
+    match keyword_of(word) {
+        Some(keyword) => Ok(Piece::Kept(Part::Token(Kind::Word(keyword)), word.len())),
+        None => name_piece(alloc, word, word.len()),
+    }
+}
+
+// The token of a name whose spelling has so many bytes.
+fn name_piece(alloc: Global, name: &[u8], len: usize) -> Result<Piece, NoMemory>
+    ensures value { IfOk result (λ piece. piece ≡ Front.named Kind.Name name.now len) }
+    ensures inside { IfOk result (λ piece. IsInside piece len) }
+{
+    if is_long(name) {
+        return Ok(Piece::Fault(DesignFault::L6, 0));
+    }
+    Ok(Piece::Kept(Part::Token(Kind::Name(copied(alloc, name)?)), len))
+}
+
+// A system name.
+fn system_at(alloc: Global, bytes: &[u8]) -> Result<Piece, NoMemory>
+    ensures value { IfOk result (λ piece. piece ≡ Front.system_at bytes.now) }
+    ensures inside { IfOk result (λ piece. IsInside piece (length bytes.now)) }
+{
+    let name = &bytes[..run_len(Class::Name, bytes)];
+    if name.len() < 2 {
+        return Ok(Piece::Fault(DesignFault::L1, 0));
+    }
+    if is_long(name) {
+        return Ok(Piece::Fault(DesignFault::L6, 0));
+    }
+    Ok(Piece::Kept(Part::Token(Kind::SysName(copied(alloc, name)?)), name.len()))
+}
+
+// An escaped name.
+fn escaped_at(alloc: Global, bytes: &[u8]) -> Result<Piece, NoMemory>
+    ensures value { IfOk result (λ piece. piece ≡ Front.escaped_by (Front.name_of bytes.now)) }
+    ensures inside { IfOk result (λ piece. IsInside piece (length bytes.now)) }
+{
+    match name_of(bytes) {
+        Some(named) => name_piece(alloc, named.name, named.len),
+        None => Ok(Piece::Fault(DesignFault::L1, 0)),
+    }
+}
+
+// A backquote, behind which the bytes stand, before a name.
+fn use_at(alloc: Global, behind: &[u8]) -> Result<Piece, NoMemory>
+    requires { length behind.now < usize.MAX }
+    ensures value { IfOk result (λ piece. piece ≡ Front.use_by (Front.name_of behind.now)) }
+    ensures inside { IfOk result (λ piece. IsInside piece (length behind.now + 1)) }
+{
+    match name_of(behind) {
+        Some(named) => Ok(Piece::Kept(Part::Use(copied(alloc, named.name)?), named.len + 1)),
+        None => Ok(Piece::Fault(DesignFault::L1, 0)),
+    }
+}
+
+// An operator or a mark.
+fn mark_piece(bytes: &[u8]) -> Piece
+    ensures value { result ≡ Front.mark_piece bytes.now }
+    ensures inside { IsInside result (length bytes.now) }
+{
+    match mark_at(bytes) {
+        Some((spelling, mark)) => Piece::Kept(Part::Token(Kind::Mark(mark)), spelling.len()),
+        None => Piece::Fault(DesignFault::L1, 0),
+    }
+}
+
+/// How many bytes the comment has with which the bytes begin, if they begin with one that has an
+/// end (IEEE 1364-2005, 2.3).
+pub(crate) fn comment_len(bytes: &[u8]) -> Option<usize>
+    ensures value { result ≡ Front.comment_len bytes.now }
+    ensures inside { IfSome result (λ len. len ≤ length bytes.now) }
+{
+    if begins_with(b'/', b'/', bytes) {
+        return Some(run_len(Class::Line, bytes));
+    }
+    if begins_with(b'/', b'*', bytes) {
+        let len = through(b'*', b'/', after(2, bytes))?;
+        return Some(len + 2);
+    }
+    None
+}
+
+// A comment, or an operator.
+fn slash_at(bytes: &[u8]) -> Piece
+    ensures value { result ≡ Front.slash_by (Front.comment_len bytes.now) bytes.now }
+    ensures inside { IsInside result (length bytes.now) }
+{
+    if let Some(len) = comment_len(bytes) {
+        Piece::Blank(len)
+    } else if begins_with(b'/', b'*', bytes) {
+        Piece::Fault(DesignFault::L5, 0)
+    } else {
+        mark_piece(bytes)
+    }
+}
+
+// An attribute, or a mark.
+fn bracket_at(bytes: &[u8]) -> Piece
+    ensures value { result ≡ Front.bracket_at bytes.now }
+    ensures inside { IsInside result (length bytes.now) }
+{
+    if !begins_attribute(bytes) {
+        return mark_piece(bytes);
+    }
+    match through(b'*', b')', after(2, bytes)) {
+        Some(len) => attribute_by(run_len(Class::Source, bytes), len + 2),
+        None => Piece::Fault(DesignFault::L5, 0),
+    }
+}
+
+fn begins_attribute(bytes: &[u8]) -> bool
+    ensures { result ≡ Front.begins_attribute bytes.now }
+{
+    let inner = after(2, bytes);
+    begins_with(b'(', b'*', bytes) && !begins(b')', after(run_len(Class::Space, inner), inner))
+}
+
+// An attribute of so many bytes, of which so many at the front may stand there.
+fn attribute_by(clean: usize, len: usize) -> Piece
+    ensures value { result ≡ Front.attribute_by clean len }
+    ensures inside { IsInside result len }
+{
+    if clean < len {
+        Piece::Fault(DesignFault::L1, clean)
+    } else {
+        Piece::Blank(len)
+    }
+}

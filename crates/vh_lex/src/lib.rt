@@ -1,0 +1,48 @@
+//! The tokens of whole Verilog texts: bytes of several files to tokens with places, with directives
+//! and macros, or the first lexical fault.
+//!
+//! The contract that the layer above uses: after [`Lexer::file`] a [`Lexer`] holds what
+//! `files_read` of specs/Lexed.antt gives for the files so far, and the answer is Ok, or the fault
+//! and its place; [`Lexer::end`] is Ok exactly where no conditional is open and no fault was
+//! answered. Want of memory is the one free answer. [`lex_laws`] says that files spell at most one
+//! list of tokens.
+//!
+//! It stands on `vh_base`, on `vh_logic` and `vh_text` for the values of numbers, and on `indexmap`,
+//! in which macros are looked up.
+#![tactic(auto)]
+
+mod bytes;
+mod conditional;
+mod directed;
+mod directive;
+mod expand;
+mod fault;
+mod front;
+mod gap;
+mod keyword;
+mod laws;
+mod lexer;
+mod macro_text;
+mod macros;
+mod made;
+mod mark;
+mod name;
+mod number;
+mod piece;
+mod place;
+mod reader;
+mod scale;
+mod setting;
+mod table;
+#[cfg(test)]
+mod tests;
+mod text;
+mod token;
+
+pub use fault::LexFault;
+pub use keyword::Keyword;
+pub use laws::lex_laws;
+pub use lexer::Lexer;
+pub use mark::Mark;
+pub use setting::{DefaultNet, Setting};
+pub use token::{Kind, Token};

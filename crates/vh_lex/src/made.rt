@@ -1,0 +1,75 @@
+ghost use Rattle.std.specs.Prelude.{◌≡◌, ◌≤◌, ◌+◌, IfOk};
+ghost use Rattle.vh_lex.specs.Made.{nothing_made};
+ghost use Rattle.vh_lex.specs.Spelling.{with_token, with_use};
+ghost use Rattle.vh_lex.specs.Outcomes.{Makes};
+
+use crate::fault::Halt;
+use crate::token::{Kind, Token};
+use std::alloc::Global;
+use std::marker::Model;
+use vh_base::{DesignFault, Place};
+
+/// The greatest number of tokens.
+const TOKEN_LIMIT: usize = 4_194_304;
+
+/// The greatest number of uses of macros.
+const USE_LIMIT: u32 = 1_048_576;
+
+/// The tokens so far, and how many macros were used.
+#[derive(Drop)]
+pub(crate) struct Output {
+    tokens: Vec<Token>,
+    uses: u32,
+}
+
+impl Model for Output {
+    ghost use Rattle.vh_lex.specs.Made.{Made};
+
+    ghost Value = { Made };
+
+    ghost view = { λ o. record { tokens = o.tokens.items; uses = o.uses } };
+}
+
+impl Output {
+    /// No tokens.
+    pub(crate) fn new(alloc: Global) -> Output
+        ensures { result ≡ nothing_made }
+    {
+        Output {
+            tokens: Vec::new(alloc),
+            uses: 0,
+        }
+    }
+
+    /// A token more.
+    pub(crate) fn push(&mut self, kind: Kind, place: Place) -> Result<(), Halt>
+        ensures value { Makes (with_token kind place self.old) result self.new }
+        ensures uses { self.new.uses ≡ self.old.uses }
+    {
+        if self.tokens.len() >= TOKEN_LIMIT {
+            return Err(Halt::Fault(DesignFault::L6));
+        }
+        self.tokens.push(Token { kind, place })?;
+        Ok(())
+    }
+
+    /// A use of a macro more.
+    pub(crate) fn count_use(&mut self) -> Result<(), Halt>
+        ensures value { Makes (with_use self.old) result self.new }
+        ensures counted { IfOk result (λ _. self.new.uses ≡ self.old.uses + 1) }
+        ensures within { IfOk result (λ _. self.new.uses ≤ 1048576) }
+    {
+        if self.uses >= USE_LIMIT {
+            return Err(Halt::Fault(DesignFault::L6));
+        }
+        self.uses += 1;
+        Ok(())
+    }
+
+    /// The tokens.
+    pub(crate) fn tokens(&self) -> &Vec<Token>
+        ensures { result.now.items ≡ self.now.tokens }
+    {
+        &self.tokens
+    }
+}

@@ -1,0 +1,195 @@
+ghost use Rattle.std.specs.Prelude.{◌≡◌, ◌≤◌, ◌<◌, ◌+◌, ◌^◌, length, drop};
+ghost use Rattle.vh_lex.specs.Directives;
+ghost use Rattle.vh_lex.specs.Front;
+ghost use Rattle.vh_lex.specs.Lexed;
+ghost use Rattle.vh_lex.specs.Outcomes.{Leaves, Went, Reads, stop_of, fault_of};
+ghost use Rattle.vh_lex.specs.Spelling;
+
+use crate::bytes::{after, begins, begins_with, upto};
+use crate::conditional::Conditionals;
+use crate::directed::first_setting;
+use crate::directive::directive_of;
+use crate::expand::{Around, expand};
+use crate::fault::{Halt, LexFault, Stop};
+use crate::front::{comment_len, front};
+use crate::macros::Macros;
+use crate::made::Output;
+use crate::name::name_of;
+use crate::piece::{Part, Piece};
+use crate::place::moved;
+use crate::setting::Setting;
+use crate::token::Kind;
+use std::alloc::Global;
+use vh_base::{DesignFault, Place};
+
+/// What reading has come to: the macros, the tokens, the conditionals that are open, what the
+/// directives so far set, and the place of the next byte.
+#[derive(Drop)]
+pub(crate) struct Reader {
+    pub(crate) macros: Macros,
+    pub(crate) made: Output,
+    pub(crate) conditionals: Conditionals,
+    pub(crate) setting: Setting,
+    pub(crate) place: Place,
+}
+
+impl Reader {
+    /// Nothing is read.
+    pub(crate) fn new(alloc: Global) -> Reader
+        ensures { result ≡ Lexed.first_state }
+    {
+        Reader {
+            macros: Macros::new(alloc),
+            made: Output::new(alloc),
+            conditionals: Conditionals::new(alloc),
+            setting: first_setting(),
+            place: Place {
+                file: 0,
+                line: 1,
+                column: 1,
+            },
+        }
+    }
+
+    /// Reads the bytes, which begin at the reader's place. It takes time in their number and in
+    /// the number of tokens and uses of macros that they give.
+    pub(crate) fn read(&mut self, alloc: Global, bytes: &[u8]) -> Result<(), LexFault>
+        requires lines { self.old.place.line + length bytes.now < 2 ^ 32 }
+        requires columns { self.old.place.column + length bytes.now < 2 ^ 32 }
+        requires first { 1 ≤ self.old.place.column }
+        ensures { Reads (Spelling.read bytes.now self.old) result self.new }
+    {
+        let mut rest = bytes;
+        while let Some((_, behind)) = rest.split_first() {
+            let place = self.place;
+            match self.step(alloc, rest) {
+                Ok(len) => {
+                    self.place = moved(place, upto(len, rest));
+                    rest = after(len.saturating_sub(1), behind);
+                }
+                Err(stop) => return Err(placed(stop, place, rest)),
+            }
+        }
+        Ok(())
+    }
+
+    // Reads what the bytes begin with; answers how many bytes that is.
+    fn step(&mut self, alloc: Global, bytes: &[u8]) -> Result<usize, Stop>
+        ensures { Went (Spelling.step bytes.now self.old) result self.new }
+    {
+        if self.conditionals.skips() {
+            return self.skipped(bytes);
+        }
+        match front(alloc, bytes)? {
+            Piece::Blank(len) => Ok(len),
+            Piece::Kept(part, len) => self.part_read(alloc, part, len, bytes),
+            Piece::Fault(fault, at) => Err(Stop::Fault(fault, at)),
+        }
+    }
+
+    // Reads a part of so many bytes.
+    fn part_read(
+        &mut self,
+        alloc: Global,
+        part: Part,
+        len: usize,
+        bytes: &[u8],
+    ) -> Result<usize, Stop>
+        requires { len ≤ length bytes.now }
+        ensures { Went (Spelling.part_read part len bytes.now self.old) result self.new }
+    {
+        match part {
+            Part::Token(kind) => made(len, self.made.push(kind, self.place)),
+            Part::Module => made(len, self.made.push(Kind::Module(self.setting), self.place)),
+            Part::Use(name) => self.name_read(alloc, name.as_slice(), len, after(len, bytes)),
+            Part::Wrong(fault) => Err(Stop::Fault(fault, 0)),
+        }
+    }
+
+    // A directive, or the use of a macro, of so many bytes, behind which the bytes stand.
+    fn name_read(
+        &mut self,
+        alloc: Global,
+        name: &[u8],
+        len: usize,
+        behind: &[u8],
+    ) -> Result<usize, Stop>
+        requires { len + length behind.now ≤ usize.MAX }
+        ensures { Went (Spelling.name_read (Directives.directive_of name.now) name.now len behind.now self.old) result self.new }
+    {
+        match directive_of(name) {
+            Some(directive) => self.directed(alloc, directive, len, behind),
+            None => made(len, self.used(alloc, name)),
+        }
+    }
+
+    // The use of a macro.
+    fn used(&mut self, alloc: Global, name: &[u8]) -> Result<(), Halt>
+        ensures { Leaves (Spelling.used (Spelling.expanded Spelling.most_levels (Spelling.around_of self.old)) (Spelling.around_of self.old) name.now self.old.made) result self.old self.new }
+    {
+        let around = Around {
+            macros: &self.macros,
+            setting: self.setting,
+            place: self.place,
+        };
+        match self.macros.text(name) {
+            Some(text) => expand(alloc, &around, text, &mut self.made),
+            None => Err(Halt::Fault(DesignFault::L3)),
+        }
+    }
+
+    // Passes over what skipped bytes begin with; answers how many bytes that is.
+    fn skipped(&mut self, bytes: &[u8]) -> Result<usize, Stop>
+        ensures { Went (Spelling.skipped bytes.now self.old) result self.new }
+    {
+        if let Some(len) = comment_len(bytes) {
+            return Ok(len);
+        }
+        if begins_with(b'/', b'*', bytes) {
+            return Err(Stop::Fault(DesignFault::L5, 0));
+        }
+        if begins(b'`', bytes) {
+            return self.use_skipped(bytes);
+        }
+        Ok(1)
+    }
+
+    // A name behind a backquote in skipped text.
+    fn use_skipped(&mut self, bytes: &[u8]) -> Result<usize, Stop>
+        requires { 1 ≤ length bytes.now }
+        ensures { Went (Spelling.use_skipped (Front.name_of (drop 1 bytes.now)) bytes.now self.old) result self.new }
+    {
+        let Some(named) = name_of(after(1, bytes)) else {
+            return Ok(1);
+        };
+        let at = named.len + 1;
+        match directive_of(named.name) {
+            Some(directive) => self.seen_directive(directive, at, after(at, bytes)),
+            None => Ok(at),
+        }
+    }
+}
+
+// How many bytes gave what was made, or the fault at their first.
+fn made(len: usize, outcome: Result<(), Halt>) -> Result<usize, Stop>
+    ensures { result ≡ stop_of len outcome }
+{
+    match outcome {
+        Ok(()) => Ok(len),
+        Err(Halt::Fault(fault)) => Err(Stop::Fault(fault, 0)),
+        Err(Halt::NoMemory) => Err(Stop::NoMemory),
+    }
+}
+
+// A fault where it stands, so many bytes behind the place at which the bytes begin.
+fn placed(stop: Stop, place: Place, bytes: &[u8]) -> LexFault
+    requires lines { place.line + length bytes.now < 2 ^ 32 }
+    requires columns { place.column + length bytes.now < 2 ^ 32 }
+    requires first { 1 ≤ place.column }
+    ensures { result ≡ fault_of stop place bytes.now }
+{
+    match stop {
+        Stop::Fault(fault, at) => LexFault::Refused(fault, moved(place, upto(at, bytes))),
+        Stop::NoMemory => LexFault::NoMemory,
+    }
+}

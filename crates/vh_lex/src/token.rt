@@ -1,0 +1,31 @@
+use crate::keyword::Keyword;
+use crate::mark::Mark;
+use crate::setting::Setting;
+use vh_base::{Bytes, Place};
+use vh_logic::Vec4;
+
+/// What a token is (IEEE 1364-2005, 2.1).
+#[derive(Drop)]
+pub enum Kind {
+    /// The reserved word `module`, with what the directives before it set.
+    Module(Setting),
+    /// Another reserved word.
+    Word(Keyword),
+    /// An operator or a mark.
+    Mark(Mark),
+    /// A name that is not reserved, without the backslash of an escaped one.
+    Name(Bytes),
+    /// A system name, with its dollar sign.
+    SysName(Bytes),
+    /// A string, after its escapes.
+    Text(Bytes),
+    /// A number, and whether a size was written.
+    Number(Vec4, bool),
+}
+
+/// A token and where it stands. One that a macro gives stands where the outermost use does.
+#[derive(Drop)]
+pub struct Token {
+    pub kind: Kind,
+    pub place: Place,
+}
