@@ -1,5 +1,5 @@
 -- From turns to runs: a run that hasn't ended goes on by one label.
-use Rattle.std.proofs.Common.{◌≡◌, ◌≢◌, ℕ, ◌+◌, ◌<◌, List, [], ◌∷◌, ◌++◌, length, take, true, false, Option, Some, None, refl, ap, sym, subst, inl, inr, ◌∙◌, append_assoc, append-nil, arith, length-append}
+use Rattle.std.proofs.Common.{◌≡◌, ◌≢◌, ℕ, ◌+◌, ◌<◌, ◌≤◌, List, [], ◌∷◌, ◌++◌, length, take, true, false, Option, Some, None, refl, ap, sym, subst, inl, inr, ◌∙◌, append_assoc, append-nil, arith, length-append}
 use Rattle.std.proofs.Math.Seq.{take-append-add, take-length}
 use Rattle.vh_base.specs.Outside.{appended, AppendsFront}
 use Rattle.vh_kernel.specs.declared.label.Ending.{Ending}
@@ -9,10 +9,11 @@ use Rattle.vh_kernel.specs.declared.label.Label.TheVariants as label
 use Rattle.vh_kernel.specs.State.{State}
 use Rattle.vh_kernel.specs.Step.{Move, is_end}
 use Rattle.vh_kernel.specs.Run.{fifo, IsMove, IsRun, line_of_move, text_of}
+use Rattle.vh_laws.specs.Laws.{Lawful}
 use Rattle.vh_host.specs.declared.status.Status.{Status}
 use Rattle.vh_host.specs.declared.status.Status.TheVariants as status
 use Rattle.vh_host.specs.Turn.{Turned, TurnsTo, IsCut}
-use Rattle.vh_host.specs.Transcript.{none_ends, WroteEnded, WroteFront, Wrote}
+use Rattle.vh_host.specs.Transcript.{none_ends, but_last, WroteEnded, WroteFront, WroteOf, Wrote}
 use Rattle.vh_host.proofs.Appended.{appended_twice, appended_nothing}
 
 -- From a state the machine makes these labels, none of them an end, and comes to another state.
@@ -83,73 +84,104 @@ so_far_more s t u n old mid new f turn = record {
 abbrev pub WroteFrom : ℕ → State → Status → Option (List ℕ) → Option (List ℕ) → Type 0
 WroteFrom budget s st old new = (written : List ℕ) × (new ≡ appended old written) × Wrote fifo budget s st written
 
+-- What was written of labels that were made, by the status.
+wrote_of : (s : State) (budget : ℕ) (st : Status) (moves : List Move) (written : List ℕ) (old new : Option (List ℕ))
+    → Lawful fifo s → IsRun fifo s moves → length moves ≤ budget → new ≡ appended old written → WroteOf budget moves st written
+    → WroteFrom budget s st old new
+wrote_of s budget st moves written old new lawful run few told is = (written, told, (moves, run, lawful moves run, few, is))
+
+-- The labels with one more, but for that one.
+but_last_more : (moves : List Move) (m : Move) → but_last (moves ++ m ∷ []) ≡ moves
+but_last_more [] m = refl
+but_last_more (a ∷ []) m = refl
+but_last_more (a ∷ b ∷ moves) m = ap (λ (ms : List Move). a ∷ ms) (but_last_more (b ∷ moves) m)
+
+-- The text but for the last label is no longer than the text.
+but_last_shorter : (moves : List Move) → length (text_of (but_last moves)) ≤ length (text_of moves)
+but_last_shorter [] = omega arith
+but_last_shorter (m ∷ []) = omega arith
+but_last_shorter (m ∷ n ∷ moves) =
+    let h = but_last_shorter (n ∷ moves) in
+    omega (
+      arith,
+      length-append (line_of_move m) (text_of (but_last (n ∷ moves))),
+      length-append (line_of_move m) (text_of (n ∷ moves)),
+    )
+
 -- A turn with the end ends it.
 ends_with : (s t u : State) (n budget : ℕ) (e : Ending) (old mid new : Option (List ℕ))
     → SoFar s t n old mid → n < budget → TurnsTo (label.End e) t u mid new
-    → (written : List ℕ) × (new ≡ appended old written) × WroteEnded fifo budget s e written
+    → (moves : List Move) × IsRun fifo s moves × (length moves ≤ budget) × (new ≡ appended old (text_of moves)) × WroteEnded moves e (text_of moves)
 ends_with s t u n budget e old mid new f below turn =
     let last : Move = (label.End e, u) in (
-      text_of (f.moves ++ last ∷ []),
+      f.moves ++ last ∷ [],
+      goes_last s t last f.moves f.goes turn.0,
+      (let c = f.counted in omega (arith, length-append f.moves (last ∷ []))),
       told_more mid old new f.moves last f.told turn.1,
-      (f.moves, u, goes_last s t last f.moves f.goes turn.0, (let c = f.counted in omega arith), refl),
+      (f.moves, u, refl, refl),
     )
 
 -- A turn that is cut short leaves a front of the text with its line.
 cut_short : (s t : State) (n budget : ℕ) (old mid new : Option (List ℕ))
     → SoFar s t n old mid → n < budget → IsCut t mid new
-    → (written : List ℕ) × (new ≡ appended old written) × WroteFront fifo budget s written
+    → (moves : List Move) × (written : List ℕ) × IsRun fifo s moves × (length moves ≤ budget) × (new ≡ appended old written) × WroteFront moves written
 cut_short s t n budget old mid new f below turn =
     let last : Move = turn.0 in
-    let cut : AppendsFront mid new (line_of_move last) = turn.2 in (
-      text_of f.moves ++ take cut.0 (line_of_move last),
-      cut.1 ∙ ap (λ (w : Option (List ℕ)). appended w (take cut.0 (line_of_move last))) f.told ∙ appended_twice old (text_of f.moves) (take cut.0 (line_of_move last)),
+    let cut : AppendsFront mid new (line_of_move last) = turn.2 in
+    let before : List ℕ = text_of f.moves in
+    let part : List ℕ = take cut.0 (line_of_move last) in (
+      f.moves ++ last ∷ [],
+      before ++ part,
+      goes_last s t last f.moves f.goes turn.1,
+      (let c = f.counted in omega (arith, length-append f.moves (last ∷ []))),
+      cut.1 ∙ ap (λ (w : Option (List ℕ)). appended w part) f.told ∙ appended_twice old before part,
       (
-        f.moves ++ last ∷ [],
-        length (text_of f.moves) + cut.0,
-        goes_last s t last f.moves f.goes turn.1,
-        (let c = f.counted in omega (arith, length-append f.moves (last ∷ []))),
-        sym (ap (λ (w : List ℕ). take (length (text_of f.moves) + cut.0) w) (text_more f.moves last) ∙ take-append-add (text_of f.moves) (line_of_move last) cut.0),
+        length before + cut.0,
+        sym (ap (λ (w : List ℕ). take (length before + cut.0) w) (text_more f.moves last) ∙ take-append-add before (line_of_move last) cut.0),
+        (
+            let same : length (text_of (but_last (f.moves ++ last ∷ []))) ≡ length before = ap (λ (ms : List Move). length (text_of ms)) (but_last_more f.moves last) in
+            omega (arith, length-append before part)
+            ),
       ),
     )
 
 -- A turn that makes no label leaves the text so far.
-cut_before : (s t : State) (n budget : ℕ) (old mid new : Option (List ℕ))
-    → SoFar s t n old mid → n < budget → new ≡ mid
-    → (written : List ℕ) × (new ≡ appended old written) × WroteFront fifo budget s written
-cut_before s t n budget old mid new f below same = (
-  text_of f.moves,
-  same ∙ f.told,
-  (
-    f.moves,
-    length (text_of f.moves),
-    goes_run s t f.moves f.goes,
-    (let c = f.counted in omega arith),
-    sym (take-length (text_of f.moves)),
-  ),
-)
+cut_before : (moves : List Move) → WroteFront moves (text_of moves)
+cut_before moves = (length (text_of moves), sym (take-length (text_of moves)), but_last_shorter moves)
 
 -- A turn that answers a status ends the run with it.
 pub so_far_ends : (s t u : State) (n budget : ℕ) (st : Status) (old mid new : Option (List ℕ))
-    → SoFar s t n old mid → n < budget → Turned (Some st) t u mid new → WroteFrom budget s st old new
-so_far_ends s t u n budget (status.Done c) old mid new f below turn = ends_with s t u n budget (ending.Cause c) old mid new f below turn
-so_far_ends s t u n budget (status.RunFault x) old mid new f below turn = ends_with s t u n budget (ending.Fault x) old mid new f below turn
-so_far_ends s t u n budget status.WriteFault old mid new f below turn = cut_short s t n budget old mid new f below turn
-so_far_ends s t u n budget status.NoMemory old mid new f below turn = elim turn [
-  | inl same ↦ cut_before s t n budget old mid new f below same
-  | inr cut ↦ cut_short s t n budget old mid new f below cut
+    → Lawful fifo s → SoFar s t n old mid → n < budget → Turned (Some st) t u mid new → WroteFrom budget s st old new
+so_far_ends s t u n budget (status.Done c) old mid new lawful f below turn =
+    let w = ends_with s t u n budget (ending.Cause c) old mid new f below turn in
+    wrote_of s budget (status.Done c) w.0 (text_of w.0) old new lawful w.1 w.2 w.3 w.4
+so_far_ends s t u n budget (status.RunFault x) old mid new lawful f below turn =
+    let w = ends_with s t u n budget (ending.Fault x) old mid new f below turn in
+    wrote_of s budget (status.RunFault x) w.0 (text_of w.0) old new lawful w.1 w.2 w.3 w.4
+so_far_ends s t u n budget status.WriteFault old mid new lawful f below turn =
+    let w = cut_short s t n budget old mid new f below turn in
+    wrote_of s budget status.WriteFault w.0 w.1 old new lawful w.2 w.3 w.4 w.5
+so_far_ends s t u n budget status.NoMemory old mid new lawful f below turn = elim turn [
+  | inl same ↦
+      wrote_of s budget status.NoMemory f.moves (text_of f.moves) old new lawful (goes_run s t f.moves f.goes)
+      (let c = f.counted in omega arith) (same ∙ f.told) (cut_before f.moves)
+  | inr cut ↦
+      let w = cut_short s t n budget old mid new f below cut in
+      wrote_of s budget status.NoMemory w.0 w.1 old new lawful w.2 w.3 w.4 w.5
 ]
-so_far_ends s t u n budget status.Usage old mid new f below turn = absurd turn
-so_far_ends s t u n budget (status.ReadFault k) old mid new f below turn = absurd turn
-so_far_ends s t u n budget (status.TooLong k) old mid new f below turn = absurd turn
-so_far_ends s t u n budget (status.DesignRefused x p) old mid new f below turn = absurd turn
-so_far_ends s t u n budget (status.AppRefused k x p) old mid new f below turn = absurd turn
-so_far_ends s t u n budget status.BudgetSpent old mid new f below turn = absurd turn
+so_far_ends s t u n budget status.Usage old mid new lawful f below turn = absurd turn
+so_far_ends s t u n budget (status.ReadFault k) old mid new lawful f below turn = absurd turn
+so_far_ends s t u n budget (status.TooLong k) old mid new lawful f below turn = absurd turn
+so_far_ends s t u n budget (status.DesignRefused x p) old mid new lawful f below turn = absurd turn
+so_far_ends s t u n budget (status.AppRefused k x p) old mid new lawful f below turn = absurd turn
+so_far_ends s t u n budget status.BudgetSpent old mid new lawful f below turn = absurd turn
 
 -- With as many labels as the budget, the budget is spent.
 pub so_far_spent : (s t : State) (n budget : ℕ) (old new : Option (List ℕ))
-    → SoFar s t n old new → n ≡ budget → WroteFrom budget s status.BudgetSpent old new
-so_far_spent s t n budget old new f all =
-    (text_of f.moves, f.told, (f.moves, goes_run s t f.moves f.goes, f.counted ∙ all, goes_none s t f.moves f.goes, refl))
+    → Lawful fifo s → SoFar s t n old new → n ≡ budget → WroteFrom budget s status.BudgetSpent old new
+so_far_spent s t n budget old new lawful f all =
+    wrote_of s budget status.BudgetSpent f.moves (text_of f.moves) old new lawful (goes_run s t f.moves f.goes)
+    (let c = f.counted in omega arith) f.told (f.counted ∙ all, goes_none s t f.moves f.goes, refl)
 
 -- The source is read before the run, so that no turn answers its fault.
 pub turned_calm : (s t : State) (st : Status) (n : ℕ) (old new : Option (List ℕ))

@@ -1,27 +1,40 @@
 -- How a call's answer follows from the verdict.
 use Rattle.std.proofs.Common.{◌≡◌, ℕ, List, [], Option, Some, None, refl, sym, ap, subst, ◌∙◌, arith, inl, inr}
+use Rattle.vh_base.specs.declared.first.First.{First}
 use Rattle.vh_base.specs.Outside.{appended}
+use Rattle.vh_app.specs.Script.{ScriptData}
+use Rattle.vh_kernel.specs.Run.{fifo}
+use Rattle.vh_kernel.specs.Settle.{opening}
+use Rattle.vh_laws.proofs.Chosen.{runs_keep_laws}
 use Rattle.vh_host.specs.declared.status.Status.{Status}
 use Rattle.vh_host.specs.declared.status.Status.TheVariants as status
 use Rattle.vh_host.specs.declared.judging.Refusal.{Refusal}
 use Rattle.vh_host.specs.declared.judging.Refusal.TheVariants as refusal
 use Rattle.vh_host.specs.Words.{Reading, reading, files_of}
 use Rattle.vh_host.specs.Acceptance.{Verdict, accepts, refuses, by_reading, by_files, by_length, by_texts, verdict, File, files_with, first_too_long}
-use Rattle.vh_host.specs.Headline.{Holds, AnswersWith, Accounts, Transcribes, Refuses, WereAnswered, Tells}
+use Rattle.vh_host.specs.Transcript.{WroteOf, Wrote}
+use Rattle.vh_host.specs.Headline.{Holds, AnswersWith, Accounts, Transcribes, Refuses, WereAnswered, Tells, default_budget}
 use Rattle.vh_host.specs.Reading.{AreRead, MeetsLong, contents_of}
 use Rattle.vh_host.specs.Judging.{Refuses as IsRefused, status_of}
 use Rattle.vh_host.proofs.Appended.{appended_nothing}
 use Rattle.vh_host.proofs.Files.{files_back, some_contents, told_verdict}
 
+-- Nothing is written of a run before its first label.
+wrote_none : (design : First) (scripts : List ScriptData) (s : Status) → WroteOf default_budget [] s []
+    → Wrote fifo default_budget (opening design scripts) s []
+wrote_none design scripts s is = ([], tt, runs_keep_laws design scripts fifo [] tt, omega arith, is)
+
 -- Want of memory before the run begins, on any verdict.
 pub no_memory : (v : Verdict) (w : Option (List ℕ)) → AnswersWith v status.NoMemory w w
 no_memory (refuses r) w = ([], sym (appended_nothing w), (inr tt, refl))
-no_memory (accepts d scripts) w = ([], sym (appended_nothing w), ([], 0, tt, omega arith, refl))
+no_memory (accepts design scripts) w =
+    ([], sym (appended_nothing w), wrote_none design scripts status.NoMemory (0, refl, omega arith))
 
 -- A read that failed, on any verdict.
 pub read_failed : (v : Verdict) (n : ℕ) (w : Option (List ℕ)) → AnswersWith v (status.ReadFault n) w w
 read_failed (refuses r) n w = ([], sym (appended_nothing w), (inr tt, refl))
-read_failed (accepts d scripts) n w = ([], sym (appended_nothing w), refl)
+read_failed (accepts design scripts) n w =
+    ([], sym (appended_nothing w), wrote_none design scripts (status.ReadFault n) (refl, refl))
 
 -- A refusal.
 pub refuses_so : (v : Verdict) (r : Status) (w : Option (List ℕ)) → v ≡ refuses r → AnswersWith v r w w

@@ -1,5 +1,5 @@
 -- What is written of a run, by the status that the call answers.
-use Rattle.std.specs.Prelude.{◌≡◌, ℕ, ◌<◌, ◌≤◌, ◌++◌, List, [], ◌∷◌, length, take, Bool, true, not}
+use Rattle.std.specs.Prelude.{◌≡◌, ℕ, ◌≤◌, ◌++◌, List, [], ◌∷◌, length, take, Bool, true, not}
 use Rattle.std.specs.List.{list_all}
 use Rattle.vh_kernel.specs.declared.label.Ending.{Ending}
 use Rattle.vh_kernel.specs.declared.label.Ending.TheVariants as ending
@@ -7,6 +7,7 @@ use Rattle.vh_kernel.specs.declared.label.Label.TheVariants as label
 use Rattle.vh_kernel.specs.State.{State}
 use Rattle.vh_kernel.specs.Step.{Move, is_end}
 use Rattle.vh_kernel.specs.Run.{Chooser, IsRun, text_of}
+use Rattle.vh_laws.specs.Laws.{KeepsLaws}
 use Rattle.vh_host.specs.declared.status.Status.{Status}
 use Rattle.vh_host.specs.declared.status.Status.TheVariants as status
 
@@ -14,33 +15,43 @@ use Rattle.vh_host.specs.declared.status.Status.TheVariants as status
 abbrev pub none_ends : List Move → Bool
 none_ends moves = list_all (λ m. not (is_end m.0)) moves
 
--- The whole text of a run was written, whose last label is that end, within the budget.
-abbrev pub WroteEnded : Chooser → ℕ → State → Ending → List ℕ → Type 0
-WroteEnded order budget s e written =
-    (moves : List Move) × (t : State) × IsRun order s (moves ++ (label.End e, t) ∷ []) × (length moves < budget)
-    × (written ≡ text_of (moves ++ (label.End e, t) ∷ []))
+-- All labels of a list but the last.
+abbrev pub but_last : List Move → List Move
+but_last [] = []
+but_last (m ∷ []) = []
+but_last (m ∷ n ∷ moves) = m ∷ but_last (n ∷ moves)
 
--- The whole text of a run was written that has as many labels as the budget, and no end.
-abbrev pub WroteBudget : Chooser → ℕ → State → List ℕ → Type 0
-WroteBudget order budget s written =
-    (moves : List Move) × IsRun order s moves × (length moves ≡ budget) × (none_ends moves ≡ true) × (written ≡ text_of moves)
+-- The last label is that end, and the whole text of the labels was written.
+abbrev pub WroteEnded : List Move → Ending → List ℕ → Type 0
+WroteEnded moves e written =
+    (before : List Move) × (t : State) × (moves ≡ before ++ (label.End e, t) ∷ []) × (written ≡ text_of moves)
 
--- A front of the text of a run was written, of no more labels than the budget.
-abbrev pub WroteFront : Chooser → ℕ → State → List ℕ → Type 0
-WroteFront order budget s written =
-    (moves : List Move) × (part : ℕ) × IsRun order s moves × (length moves ≤ budget) × (written ≡ take part (text_of moves))
+-- There are as many labels as the budget, no end among them, and their whole text was written.
+abbrev pub WroteBudget : ℕ → List Move → List ℕ → Type 0
+WroteBudget budget moves written = (length moves ≡ budget) × (none_ends moves ≡ true) × (written ≡ text_of moves)
 
--- What was written of a run from a state under an order and a budget, by the status: a row for each.
-abbrev pub Wrote : Chooser → ℕ → State → Status → List ℕ → Type 0
-Wrote order budget s (status.Done cause) written = WroteEnded order budget s (ending.Cause cause) written
-Wrote order budget s (status.RunFault fault) written = WroteEnded order budget s (ending.Fault fault) written
-Wrote order budget s status.BudgetSpent written = WroteBudget order budget s written
-Wrote order budget s status.WriteFault written = WroteFront order budget s written
-Wrote order budget s status.NoMemory written = WroteFront order budget s written
+-- A front of the text of the labels was written, with the whole text of all of them but the last.
+abbrev pub WroteFront : List Move → List ℕ → Type 0
+WroteFront moves written =
+    (part : ℕ) × (written ≡ take part (text_of moves)) × (length (text_of (but_last moves)) ≤ length written)
+
+-- What was written of the text of these labels, by the status: a row for each.
+abbrev pub WroteOf : ℕ → List Move → Status → List ℕ → Type 0
+WroteOf budget moves (status.Done cause) written = WroteEnded moves (ending.Cause cause) written
+WroteOf budget moves (status.RunFault fault) written = WroteEnded moves (ending.Fault fault) written
+WroteOf budget moves status.BudgetSpent written = WroteBudget budget moves written
+WroteOf budget moves status.WriteFault written = WroteFront moves written
+WroteOf budget moves status.NoMemory written = WroteFront moves written
 -- the source failed before the run began
-Wrote order budget s (status.ReadFault n) written = written ≡ []
+WroteOf budget moves (status.ReadFault n) written = (moves ≡ []) × (written ≡ [])
 -- an accepted input isn't refused
-Wrote order budget s status.Usage written = ⊥
-Wrote order budget s (status.TooLong n) written = ⊥
-Wrote order budget s (status.DesignRefused f p) written = ⊥
-Wrote order budget s (status.AppRefused n f p) written = ⊥
+WroteOf budget moves status.Usage written = ⊥
+WroteOf budget moves (status.TooLong n) written = ⊥
+WroteOf budget moves (status.DesignRefused f p) written = ⊥
+WroteOf budget moves (status.AppRefused n f p) written = ⊥
+
+-- Labels of one run from a state under an order, no more than the budget, which keep the laws; and
+-- what was written is of their text.
+abbrev pub Wrote : Chooser → ℕ → State → Status → List ℕ → Type 0
+Wrote order budget s st written =
+    (moves : List Move) × IsRun order s moves × KeepsLaws s moves × (length moves ≤ budget) × WroteOf budget moves st written

@@ -11,7 +11,7 @@ struct Row {
     text: &'static str,
 }
 
-static ROWS: [Row; 4] = [
+static ROWS: [Row; 6] = [
     // A callback removes another and registers one more: neither fires for the same change.
     Row {
         design: "module top; reg r; initial begin #1 r = 0; #1 r = 1; end endmodule",
@@ -148,6 +148,105 @@ proc init { m = by_name \"top\" null; n = by_name \"top.q\" null; remove null; r
 0 do c1 remove h3 => E2
 0 done 1
 0 end none
+",
+    },
+    // The examples: a monitor that removes itself beside one that stays,
+    Row {
+        design: "module top;
+  reg r;
+  initial begin
+    #1 r = 0;
+    #1 r = 1;
+  end
+endmodule",
+        script: "# A monitor that is interested in the first change alone, and removes itself; beside one that stays.
+app watch;
+var r;
+
+startup {
+  register cbEndOfCompile null 0 proc begin 0;
+}
+
+proc begin {
+  r = by_name \"top.r\" null;
+  register cbValueChange r 0 proc first 0;
+  register cbValueChange r 0 proc every 0;
+}
+
+proc first {
+  remove me;
+  print \"the first change\";
+}
+
+proc every {
+  print \"a change\";
+}",
+        text: "0 startup watch
+0 do s1 register cbEndOfCompile null 0 proc watch.begin 0 => h0
+0 occ 1 cbEndOfCompile -
+0 fire 1 c1
+0 do c1 by_name \"top.r\" null => h1
+0 do c1 register cbValueChange h1 0 proc watch.first 0 => h2
+0 do c1 register cbValueChange h1 0 proc watch.every 0 => h3
+0 done 1
+1 occ 2 cbValueChange top.r
+1 fire 2 c2
+1 do c2 remove h2 => 1
+1 do c2 print \"the first change\" => ok
+1 fire 2 c3
+1 do c3 print \"a change\" => ok
+1 done 2
+2 occ 3 cbValueChange top.r
+2 fire 3 c3
+2 do c3 print \"a change\" => ok
+2 done 3
+2 end none
+",
+    },
+    // and one that registers its successor.
+    Row {
+        design: "module top;
+  reg r;
+  initial begin
+    #1 r = 0;
+    #1 r = 1;
+  end
+endmodule",
+        script: "# A monitor that removes itself at each change, and registers its successor, which fires from the next change on.
+app again;
+var r;
+
+startup {
+  register cbEndOfCompile null 0 proc begin 0;
+}
+
+proc begin {
+  r = by_name \"top.r\" null;
+  register cbValueChange r 0 proc seen 0;
+}
+
+proc seen {
+  remove me;
+  register cbValueChange r 0 proc seen 0;
+}",
+        text: "0 startup again
+0 do s1 register cbEndOfCompile null 0 proc again.begin 0 => h0
+0 occ 1 cbEndOfCompile -
+0 fire 1 c1
+0 do c1 by_name \"top.r\" null => h1
+0 do c1 register cbValueChange h1 0 proc again.seen 0 => h2
+0 done 1
+1 occ 2 cbValueChange top.r
+1 fire 2 c2
+1 do c2 remove h2 => 1
+1 do c2 register cbValueChange h1 0 proc again.seen 0 => h3
+1 done 2
+2 occ 3 cbValueChange top.r
+2 fire 3 c3
+2 do c3 remove h3 => 1
+2 do c3 register cbValueChange h1 0 proc again.seen 0 => h4
+2 done 3
+2 end none
 ",
     },
 ];

@@ -3,6 +3,7 @@ ghost use Rattle.vh_base.specs.Outside.{Rose, appended, AppendsFront};
 ghost use Rattle.vh_kernel.specs.Shown.{state_of};
 ghost use Rattle.vh_kernel.specs.Step.{choices_of};
 ghost use Rattle.vh_kernel.specs.Run.{line_of_move, fifo};
+ghost use Rattle.vh_laws.specs.Laws.{Lawful};
 ghost use Rattle.vh_host.specs.Turn.{Turned, status_after};
 ghost use Rattle.vh_host.specs.Transcript.{Wrote};
 ghost use Rattle.vh_host.specs.Headline.{default_budget};
@@ -16,7 +17,8 @@ use vh_kernel::{Ending, Kernel, Label, line_of};
 /// Runs a kernel under fifo, and writes the line of each label as it is made, until the run
 /// ends, 100,000,000 labels were made, or a fault of the sink or of memory cuts it short.
 pub fn transcribe<K: Sink>(alloc: Global, kernel: &mut Kernel, out: &mut K) -> Status
-    requires { 0 < choices_of (state_of kernel.old) }
+    requires goes { 0 < choices_of (state_of kernel.old) }
+    requires lawful { Lawful fifo (state_of kernel.old) }
     ensures wrote { (written : List ℕ) × (K.written out.new ≡ appended (K.written out.old) written)
         × Wrote fifo default_budget (state_of kernel.old) result written }
     ensures failed { result ≡ Status.WriteFault → Rose (K.faults out.old) (K.faults out.new) }

@@ -1,12 +1,14 @@
--- Each run under an order of choice is a path of the machine.
+-- Each run under an order of choice is a path of the machine, and so keeps the laws.
 use Rattle.std.proofs.Common.{◌<◌, ℕ, List, [], ◌∷◌, sym, subst, inl, inr}
 use Rattle.vh_kernel.specs.Run.{Chooser, fifo, IsRun, chosen, chooser_after}
 use Rattle.vh_kernel.specs.Settle.{opening}
 use Rattle.vh_kernel.specs.State.{State}
 use Rattle.vh_kernel.specs.Step.{Move, choices_of, is_end}
 use Rattle.vh_kernel.proofs.Goes.{step_goes, opening_goes}
-use Rattle.vh_laws.specs.Laws.{RunsArePaths}
+use Rattle.vh_laws.specs.Laws.{RunsKeepLaws}
 use Rattle.vh_laws.specs.Paths.{IsPath}
+use Rattle.vh_laws.proofs.FiringLaw.{firing_law}
+use Rattle.vh_laws.proofs.Naming.{handle_law}
 use Rattle.vh_laws.proofs.Splits.{either}
 
 -- The choice is one of those that there are.
@@ -25,5 +27,7 @@ run_path order s (m ∷ moves) some run = (
   ],
 )
 
-pub runs_are_paths : RunsArePaths
-runs_are_paths f scripts order moves run = run_path order (opening f scripts) moves (opening_goes f scripts) run
+pub runs_keep_laws : RunsKeepLaws
+runs_keep_laws f scripts order moves run =
+    let path : IsPath (opening f scripts) moves = run_path order (opening f scripts) moves (opening_goes f scripts) run in
+    (firing_law f scripts moves path, handle_law f scripts moves path)

@@ -25,7 +25,13 @@ FiringLaw = (f : First) (scripts : List ScriptData) (moves : List Move) → IsPa
 abbrev pub HandleLaw : Type 0
 HandleLaw = (f : First) (scripts : List ScriptData) (moves : List Move) → IsPath (opening f scripts) moves → KeepsHandleLaw (opening f scripts) moves
 
--- Each run under an order of choice is such a path, so that what is written of one keeps the laws.
-abbrev pub RunsArePaths : Type 0
-RunsArePaths =
-    (f : First) (scripts : List ScriptData) (order : Chooser) (moves : List Move) → IsRun order (opening f scripts) moves → IsPath (opening f scripts) moves
+-- Both laws.
+abbrev pub KeepsLaws : State → List Move → Type 0
+KeepsLaws s moves = KeepsFiringLaw s moves × KeepsHandleLaw s moves
+
+-- Every run from a state under an order of choice keeps both, whole or cut anywhere.
+abbrev pub Lawful : Chooser → State → Type 0
+Lawful order s = (moves : List Move) → IsRun order s moves → KeepsLaws s moves
+
+abbrev pub RunsKeepLaws : Type 0
+RunsKeepLaws = (f : First) (scripts : List ScriptData) (order : Chooser) → Lawful order (opening f scripts)

@@ -1,4 +1,4 @@
-use Rattle.vh_laws.proofs.Chosen.{runs_are_paths}
+use Rattle.vh_laws.proofs.Chosen.{runs_keep_laws}
 use Rattle.vh_laws.proofs.FiringLaw.{firing_law}
 use Rattle.vh_laws.proofs.Naming.{handle_law}
 use Rattle.vh_laws.proofs.theorem.laws.Goals as goal
@@ -10,4 +10,4 @@ pub returns-clause-handles : goal.returns-clause-handles
 returns-clause-handles c = handle_law
 
 pub returns-clause-runs : goal.returns-clause-runs
-returns-clause-runs c = runs_are_paths
+returns-clause-runs c = runs_keep_laws
