@@ -1,5 +1,5 @@
 -- Numbers given in order from 0 on.
-use Rattle.std.proofs.Common.{◌≡◌, ◌<◌, ◌≤◌, ◌+◌, ℕ, zero, suc, List, [], ◌∷◌, length, Bool, true, false, cond, nat_eq, nat_lt, nat_le, ◌||◌, refl, ap, subst, sym, arith}
+use Rattle.std.proofs.Common.{◌≡◌, ◌<◌, ◌≤◌, ◌+◌, ℕ, zero, suc, List, [], ◌∷◌, length, true, false, nat_eq, nat_lt, nat_le, ◌||◌, refl, ap, subst, arith}
 use Rattle.std.proofs.lemmas.Bool.{lt-ltb, ne_eqb, leb-false, or_parts}
 use Rattle.std.specs.List.{list_any}
 use Rattle.vh_kernel.specs.Handles.{with_number, up_from}

@@ -1,5 +1,5 @@
 -- After a label that is no end the machine has a step to make.
-use Rattle.std.proofs.Common.{◌≡◌, ◌<◌, ℕ, List, Bool, true, false, cond, Option, Some, None, slice_get, slice_set, arith, nat_lt, nat_le, ◌+◌, ◌-◌, refl, sym, subst}
+use Rattle.std.proofs.Common.{◌≡◌, ◌<◌, ℕ, List, Bool, true, false, cond, Option, Some, None, slice_get, arith, nat_lt, nat_le, ◌+◌, ◌-◌, refl, sym, subst}
 use Rattle.vh_base.specs.declared.first.First.{First}
 use Rattle.vh_base.specs.declared.first.FirstCode.{FirstCode}
 use Rattle.vh_base.specs.declared.first.FirstCode.TheVariants as code

@@ -1,5 +1,5 @@
 -- Numbers that rise: what is left without one of them.
-use Rattle.std.proofs.Common.{◌≡◌, ◌<◌, ◌≤◌, ◌+◌, ℕ, zero, suc, List, [], ◌∷◌, length, filter, Bool, true, false, not, cond, nat_eq, Option, Some, None, IsSome, OnSome, slice_get, refl, ap, subst, sym, ◌∙◌, arith}
+use Rattle.std.proofs.Common.{◌≡◌, ◌<◌, ◌≤◌, ◌+◌, ℕ, zero, suc, List, [], ◌∷◌, length, Bool, true, false, not, cond, nat_eq, Option, Some, None, IsSome, OnSome, slice_get, refl, ap, subst, sym, arith}
 use Rattle.std.specs.List.{remove}
 use Rattle.std.proofs.lemmas.Bool.{ne_eqb, eq-eqb}
 use Rattle.vh_callbacks.specs.Callbacks.{IsRising}

@@ -1,6 +1,6 @@
 -- What an order is answered and what it changes: a row for each order, its checks in the row's order.
 -- (IEEE 1364-2005, clause 27, in this project's profile; the codes of errors are own)
-use Rattle.std.specs.Prelude.{ℕ, ◌+◌, List, ◌∷◌, Bool, true, false, ◌&&◌, ◌||◌, Option, Some, None, Result, Ok, Err, bytes_eq, position, slice_get}
+use Rattle.std.specs.Prelude.{ℕ, List, Bool, true, false, ◌&&◌, ◌||◌, Option, Some, None, Result, Ok, Err, bytes_eq, position, slice_get}
 use Rattle.std.specs.Option.{option_map}
 use Rattle.vh_base.specs.declared.orders.Answer.{Answer}
 use Rattle.vh_base.specs.declared.orders.Answer.TheVariants as answer

@@ -1,9 +1,7 @@
 -- What is left of control and the agenda before the next label: an occurrence that no callback watches
 -- is dropped without one. (IEEE 1364-2005, 27.33; that it takes no label is own)
-use Rattle.std.specs.Prelude.{ℕ, List, [], ◌∷◌, drop, Bool, true, false, not, cond, Option, Some, None, slice_get}
+use Rattle.std.specs.Prelude.{List, [], ◌∷◌, drop, Bool, false, not, cond, Option, Some, None, slice_get}
 use Rattle.vh_base.specs.declared.first.First.{First}
-use Rattle.vh_base.specs.declared.first.FirstBit.{FirstBit}
-use Rattle.vh_base.specs.declared.orders.Object.{Object}
 use Rattle.vh_base.specs.declared.words.Reason.{Reason}
 use Rattle.vh_app.specs.Script.{ScriptData}
 use Rattle.vh_callbacks.specs.Callbacks.{Callbacks, matches}

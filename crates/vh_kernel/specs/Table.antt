@@ -27,7 +27,7 @@ use Rattle.vh_kernel.specs.Handles.{is_given}
 use Rattle.vh_kernel.specs.Numbers.{without_number}
 use Rattle.vh_kernel.specs.Settle.{occurrence_of, settled, opening}
 use Rattle.vh_kernel.specs.State.{State}
-use Rattle.vh_kernel.specs.Step.{Move, is_crowded, next_of, performed, worked, pushed, popped, told, called, asks, started, taken_up, finished, is_end, IsStep, choices_of}
+use Rattle.vh_kernel.specs.Step.{is_crowded, next_of, performed, worked, pushed, popped, told, called, asks, started, taken_up, finished, is_end, IsStep, choices_of}
 
 -- The run isn't over, and no more entries stand than the queue has room for.
 abbrev pub IsGoing : State → Type 0

@@ -3,6 +3,7 @@ ghost use Rattle.vh_kernel.specs.declared.control.Control.{Control};
 ghost use Rattle.vh_kernel.specs.Control.{is_frame, without_in, without_all, frames};
 
 use crate::activation::Activation;
+use crate::boxed::Boxed;
 use crate::occurrence::{Frame, Occurrence};
 use std::alloc::Global;
 use std::marker::Model;
@@ -18,7 +19,7 @@ pub enum Control {
     /// An occurrence that was told, and fires its callbacks.
     Frame(Frame),
     /// A startup or a procedure that gives its orders.
-    Activation(Activation),
+    Activation(Boxed<Activation>),
     /// The run finishes next.
     Leave(Cause),
 }
@@ -127,7 +128,13 @@ impl Stack {
 fn count_frames(items: &Vec<Control>) -> usize
     ensures { result ≡ frames items.now.items }
 {
-    items.iter().filter(|item| item.is_frame()).count()
+    let mut count = 0;
+    for item in items.iter() {
+        if item.is_frame() {
+            count += 1;
+        }
+    }
+    count
 }
 
 // A callback's number is in no set of a frame any more.

@@ -11,6 +11,7 @@ mod orders;
 mod processes;
 
 use crate::activation::{Activation, Body, Who};
+use crate::boxed::Boxed;
 use crate::control::{Control, Stack};
 use crate::events::{Queue, Work};
 use crate::handles::Handles;
@@ -383,8 +384,8 @@ impl Kernel {
             None => self.go_idle(alloc, k),
             Some(Control::Process(p)) => self.perform_next(alloc, p),
             Some(Control::Pending(what)) => self.occur(alloc, what),
-            Some(Control::Frame(frame)) => self.fire(frame, k),
-            Some(Control::Activation(activation)) => self.act(alloc, activation),
+            Some(Control::Frame(frame)) => self.fire(alloc, frame, k),
+            Some(Control::Activation(activation)) => self.act(alloc, activation.into_inner()),
             Some(Control::Leave(cause)) => self.finish(cause),
         }
     }
@@ -430,12 +431,12 @@ impl Kernel {
     {
         match self.agenda.pop_front() {
             None => self.pick(k),
-            Some(Agendum::Startup(number)) => self.start(number),
+            Some(Agendum::Startup(number)) => self.start(alloc, number),
             Some(Agendum::Occurrence(reason)) => self.occur(alloc, occurrence_of(reason)),
         }
     }
 
-    fn start(&mut self, number: u32) -> Result<Label, NoMemory>
+    fn start(&mut self, alloc: Global, number: u32) -> Result<Label, NoMemory>
         ensures { IfOk result (λ l. (l ≡ Label.Startup number)
             × (started (slice_get (state_of self.old).scripts (number - 1)) number (state_of self.old) ≡ state_of self.new)) }
     {
@@ -449,7 +450,8 @@ impl Kernel {
             at: script.startup(),
             seen: startup_seen(self.queue.time()),
         };
-        self.control.push(Control::Activation(activation))?;
+        self.control
+            .push(Control::Activation(Boxed::new(alloc, activation)?))?;
         Ok(Label::Startup(number))
     }
 

@@ -1,6 +1,7 @@
 ghost use Rattle.std.specs.Prelude.{◌≡◌};
 
 use crate::activation::Who;
+use crate::boxed::Boxed;
 use vh_base::{Answer, Bytes, Cause, CbNumber, Fault, Object, Order, ProcId, Reason, Serial};
 
 /// A region of the event queue (IEEE 1364-2005, 11.3).
@@ -33,7 +34,7 @@ pub enum Label {
     /// The startup of a script begins, by its number from 1.
     Startup(u32),
     /// An order, and what it was answered.
-    Do(Who, Order, Answer),
+    Do(Who, Boxed<Order>, Boxed<Answer>),
     /// An activation returns.
     Ret(Who),
     /// An occurrence is told under its number: its callbacks fire next.

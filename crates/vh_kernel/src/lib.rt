@@ -8,6 +8,7 @@
 #![tactic(auto)]
 
 mod activation;
+mod boxed;
 mod control;
 mod events;
 mod handles;
@@ -23,6 +24,7 @@ mod quoted;
 mod thread;
 
 pub use activation::Who;
+pub use boxed::Boxed;
 pub use kernel::Kernel;
 pub use label::{Ending, Label, Region};
 pub use laws::step_laws;

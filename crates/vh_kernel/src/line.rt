@@ -23,7 +23,13 @@ pub fn line_of(alloc: Global, k: &Kernel, l: &Label) -> Result<Option<String>, N
     match l {
         Label::Ret(_) | Label::Activate(_) | Label::Advance(_) | Label::Finish(_) => Ok(None),
         Label::Startup(number) => Ok(Some(line_of_startup(alloc, k, *number)?)),
-        Label::Do(who, order, answer) => Ok(Some(line_of_order(alloc, time, *who, order, answer)?)),
+        Label::Do(who, order, answer) => Ok(Some(line_of_order(
+            alloc,
+            time,
+            *who,
+            order.get(),
+            answer.get(),
+        )?)),
         Label::Occ(n, reason, object) => Ok(Some(line_of_occurrence(
             alloc, k, *n, *reason, *object,
         )?)),

@@ -5,6 +5,7 @@ ghost use Rattle.vh_kernel.specs.Control.{frames};
 ghost use Rattle.vh_kernel.specs.Step.{bit_text, first_seen, seen_after};
 
 use crate::activation::{Activation, Who};
+use crate::boxed::Boxed;
 use crate::control::Control;
 use crate::kernel::Kernel;
 use crate::kernel::orders::error_in;
@@ -111,7 +112,7 @@ impl Kernel {
     }
 
     // A frame that was on top of control fires the callback that was chosen, or is done.
-    pub(crate) fn fire(&mut self, frame: Frame, k: u32) -> Result<Label, NoMemory>
+    pub(crate) fn fire(&mut self, alloc: Global, frame: Frame, k: u32) -> Result<Label, NoMemory>
         ensures { IfOk result (λ l. fired (slice_get frame.left k) frame (state_of self.old) ≡ (l, state_of self.new)) }
     {
         let mut frame = frame;
@@ -121,12 +122,12 @@ impl Kernel {
             return Ok(Label::Done(number));
         };
         self.control.push(Control::Frame(frame))?;
-        self.call(c, what)?;
+        self.call(alloc, c, what)?;
         Ok(Label::Fire(number, c))
     }
 
     // What a callback calls begins.
-    fn call(&mut self, c: CbNumber, what: Occurrence) -> Result<(), NoMemory>
+    fn call(&mut self, alloc: Global, c: CbNumber, what: Occurrence) -> Result<(), NoMemory>
         ensures { OnOk result (state_of self.new ≡ called (info_of c (state_of self.old).callbacks) c what (state_of self.old)) }
     {
         let Some(registration) = self.callbacks.info(c) else {
@@ -141,7 +142,8 @@ impl Kernel {
             at: body.start,
             seen: first_seen(&registration, what, self.queue.time()),
         };
-        self.control.push(Control::Activation(activation))
+        self.control
+            .push(Control::Activation(Boxed::new(alloc, activation)?))
     }
 
     // An activation that was on top of control gives its next order, or returns.
@@ -174,7 +176,8 @@ impl Kernel {
         let answer = self.perform(alloc, &who, &order)?;
         self.error = error_in(&answer);
         let further = noted(activation, &answer);
-        self.control.push(Control::Activation(further))?;
-        Ok(Label::Do(who, order, answer))
+        self.control
+            .push(Control::Activation(Boxed::new(alloc, further)?))?;
+        Ok(Label::Do(who, Boxed::new(alloc, order)?, Boxed::new(alloc, answer)?))
     }
 }

@@ -1,4 +1,3 @@
-use Rattle.std.proofs.Common.{rules}
 use Rattle.vh_kernel.specs.Control.{is_frame}
 use Rattle.vh_kernel.proofs.Stacks.{count-reverse}
 use Rattle.vh_kernel.proofs.control.Stack.frames.Goals as goal

@@ -1,4 +1,4 @@
-use Rattle.std.proofs.Common.{◌≡◌, ◌<◌, length, false, subst, refl, sym, arith, rules}
+use Rattle.std.proofs.Common.{◌≡◌, ◌<◌, length, false, subst, refl, sym, rules}
 use Rattle.vh_kernel.specs.Handles.{Handles, is_full}
 use Rattle.vh_kernel.proofs.Given.{length_up, one_more, few_given}
 use Rattle.vh_kernel.proofs.handles.Handles.open.Goals as goal

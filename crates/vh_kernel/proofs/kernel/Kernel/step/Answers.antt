@@ -1,8 +1,7 @@
-use Rattle.std.proofs.Common.{◌≡◌, ◌<◌, true, false}
+use Rattle.std.proofs.Common.{◌≡◌, true}
 use Rattle.vh_kernel.specs.Handles.{fresh_of}
-use Rattle.vh_kernel.specs.Settle.{settled}
 use Rattle.vh_kernel.specs.Shown.{state_of}
-use Rattle.vh_kernel.specs.Step.{is_end, choices_of}
+use Rattle.vh_kernel.specs.Step.{is_end}
 use Rattle.vh_kernel.proofs.Goes.{label_goes}
 use Rattle.vh_kernel.proofs.kernel.Kernel.step.Goals as goal
 use Rattle.vh_kernel.proofs.kernel.Kernel.step.Goals.{then-not-is_end+in_ok-settle, else-not-is_end}
