@@ -1,5 +1,5 @@
 -- Decoding a string from any byte on.
-use Rattle.std.proofs.Common.{◌≡◌, ℕ, zero, suc, ◌+◌, ◌-◌, ◌<◌, ◌≤◌, List, [], ◌∷◌, ◌++◌, Option, Some, None, Bool, true, false, length, take, drop, nat_eq, refl, ap, sym, ◌∙◌, append_assoc, arith}
+use Rattle.std.proofs.Common.{◌≡◌, ℕ, zero, suc, ◌+◌, ◌≤◌, List, [], ◌∷◌, ◌++◌, Option, Some, None, false, length, drop, nat_eq, refl, ap, sym, ◌∙◌, append_assoc, arith}
 use Rattle.std.specs.Option.{option_map}
 use Rattle.vh_lex.specs.declared.text.Escape.{Escape}
 use Rattle.vh_lex.specs.Bytes.{one_more}

@@ -1,5 +1,5 @@
 -- White space and comments, from any byte on.
-use Rattle.std.proofs.Common.{◌≡◌, ℕ, zero, suc, ◌+◌, ◌-◌, ◌≤◌, List, [], ◌∷◌, Option, Some, None, length, drop, refl, ap, sym, ◌∙◌, arith}
+use Rattle.std.proofs.Common.{◌≡◌, ℕ, zero, suc, ◌+◌, List, [], ◌∷◌, Option, Some, None, length, drop, refl, ap, sym, ◌∙◌, arith}
 use Rattle.vh_lex.specs.Directives.{blank_at, gap_then, gap_after, gap_len}
 
 -- passing over bytes is going on behind them

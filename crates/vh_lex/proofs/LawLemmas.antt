@@ -1,15 +1,14 @@
 -- The laws of spelling.
-use Rattle.std.proofs.Common.{◌≡◌, ◌⊎◌, inl, inr, ℕ, List, [], ◌∷◌, ◌++◌, Option, Some, None, Result, Ok, Err, slice_get, refl, ap, sym, ◌∙◌}
+use Rattle.std.proofs.Common.{◌≡◌, ◌⊎◌, inl, inr, List, [], ◌∷◌, ◌++◌, Option, Some, None, Result, Ok, Err, slice_get, refl, ap, sym, ◌∙◌}
 use Rattle.vh_base.specs.declared.place.Place.{Place}
 use Rattle.vh_base.specs.declared.faults.DesignFault.{DesignFault}
 use Rattle.vh_base.specs.declared.faults.DesignFault.TheVariants.{L2}
-use Rattle.vh_lex.specs.declared.fault.LexFault.{LexFault}
-use Rattle.vh_lex.specs.declared.fault.LexFault.TheVariants.{Refused, NoMemory}
+use Rattle.vh_lex.specs.declared.fault.LexFault.TheVariants.{Refused}
 use Rattle.vh_lex.specs.declared.conditional.Conditional.{Conditional}
 use Rattle.vh_lex.specs.declared.token.Token.{Token}
 use Rattle.vh_lex.specs.State.{State, start_of}
 use Rattle.vh_lex.specs.Spelling.{Stop, read}
-use Rattle.vh_lex.specs.Lexed.{File, Lexed, reading, refused, exhausted, nothing_read, lexed_by, first_place, file_read, files_after, files_read, closed_by, end_of, IfReading, Spells, Refuses}
+use Rattle.vh_lex.specs.Lexed.{File, Lexed, reading, refused, exhausted, nothing_read, lexed_by, first_place, file_read, files_after, files_read, closed_by, end_of, IfReading}
 use Rattle.vh_lex.specs.Laws.{OneList, SpelledOrRefused, NeverBoth, FaultStays}
 
 one-list : (l : Lexed) (tokens others : List Token) → end_of l ≡ Ok tt → IfReading l (λ first s. s.made.tokens ≡ tokens) → IfReading l (λ first s. s.made.tokens ≡ others) → tokens ≡ others

@@ -1,10 +1,8 @@
 -- Cutting a macro's text into parts, from any byte on.
 use Rattle.std.proofs.Common.{◌≡◌, ℕ, zero, suc, ◌-◌, List, [], ◌∷◌, ◌++◌, drop, refl, ap, sym, ◌∙◌, append_assoc}
-use Rattle.vh_base.specs.declared.faults.DesignFault.{DesignFault}
 use Rattle.vh_lex.specs.declared.piece.Part.{Part}
-use Rattle.vh_lex.specs.declared.piece.Part.TheVariants.{Wrong}
 use Rattle.vh_lex.specs.declared.piece.Piece.{Piece}
-use Rattle.vh_lex.specs.declared.piece.Piece.TheVariants.{Blank, Kept, Fault}
+use Rattle.vh_lex.specs.declared.piece.Piece.TheVariants.{Blank, Kept}
 use Rattle.vh_lex.specs.Front.{front}
 use Rattle.vh_lex.specs.MacroTexts.{piece_then, parts_after, parts_of}
 

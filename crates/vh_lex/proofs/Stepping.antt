@@ -1,5 +1,5 @@
 -- Reading a file one piece after the other.
-use Rattle.std.proofs.Common.{◌≡◌, ℕ, zero, suc, ◌+◌, ◌-◌, ◌≤◌, List, [], ◌∷◌, Bool, true, false, Result, Ok, Err, length, take, drop, refl, ap, sym, subst, ◌∙◌}
+use Rattle.std.proofs.Common.{◌≡◌, ℕ, zero, suc, ◌-◌, List, [], ◌∷◌, true, false, Result, Ok, take, drop, refl, ap, sym, subst, ◌∙◌}
 use Rattle.vh_base.specs.declared.place.Place.{Place}
 use Rattle.vh_lex.specs.declared.fault.Stop.{Stop as StopOf}
 use Rattle.vh_lex.specs.declared.piece.Part.{Part}

@@ -1,5 +1,5 @@
 -- Reading the texts of macros that are open.
-use Rattle.std.proofs.Common.{◌≡◌, ℕ, zero, suc, ◌+◌, ◌-◌, ◌<◌, ◌≤◌, List, [], ◌∷◌, ◌++◌, Option, Some, None, Bool, true, false, Result, Ok, Err, length, map, reverse, refl, ap, sym, ◌∙◌, arith}
+use Rattle.std.proofs.Common.{◌≡◌, ℕ, suc, ◌-◌, ◌<◌, ◌≤◌, List, [], ◌∷◌, ◌++◌, Option, Some, Bool, true, false, Ok, Err, length, map, reverse, refl, ap, sym, ◌∙◌, arith}
 use Rattle.std.specs.Prelude.{is_some}
 use Rattle.std.specs.Borrow.{Bor}
 use Rattle.std.proofs.lemmas.List.{map-append, reverse-append, length-reverse, length-map}
@@ -10,7 +10,7 @@ use Rattle.vh_lex.specs.declared.fault.Halt.TheVariants as halt
 use Rattle.vh_lex.specs.declared.piece.Part.{Part}
 use Rattle.vh_lex.specs.declared.piece.Part.TheVariants as part
 use Rattle.vh_lex.specs.Directives.{directive_of}
-use Rattle.vh_lex.specs.Made.{Macros, Made, macro_of}
+use Rattle.vh_lex.specs.Made.{Made, macro_of}
 use Rattle.vh_lex.specs.Spelling.{Around, Making, and_then, with_use, used_within, part_made, parts_made, expanded, most_levels}
 use Rattle.vh_lex.specs.Uses.{frames_seen, used_in, finish, Pauses, TextMissing}
 use Rattle.vh_lex.specs.Outcomes.{Makes}

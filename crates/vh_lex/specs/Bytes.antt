@@ -1,4 +1,4 @@
--- The bytes of which texts are made, by their codes, and what bytes begin with (IEEE 1364-2005, clause 2).
+-- The bytes of which texts are made, by their codes, and what bytes begin with (IEEE 1364-2005, clause 3).
 use Rattle.std.specs.Prelude.{ℕ, ◌+◌, Bool, false, ◌&&◌, ◌||◌, not, List, [], ◌∷◌, Option, Some, None, if◌then◌else◌, nat_eq, nat_le}
 use Rattle.std.specs.Option.{option_map}
 
@@ -6,63 +6,63 @@ use Rattle.std.specs.Option.{option_map}
 abbrev pub is_between : ℕ → ℕ → ℕ → Bool
 is_between low high byte = nat_le low byte && nat_le byte high
 
--- white space: tab, line feed, form feed, carriage return, blank (2.2)
+-- white space: tab, line feed, form feed, carriage return, blank (3.2)
 abbrev pub is_space : ℕ → Bool
 is_space byte = nat_eq byte 9 || nat_eq byte 10 || nat_eq byte 12 || nat_eq byte 13 || nat_eq byte 32
 
--- the line feed, which ends a line (own; 2.3)
+-- the line feed, which ends a line (own; 3.3)
 abbrev pub is_line_end : ℕ → Bool
 is_line_end byte = nat_eq byte 10
 
 abbrev pub is_line_byte : ℕ → Bool
 is_line_byte byte = not (nat_eq byte 10)
 
--- a byte of which tokens are made (own; 2.1)
+-- a byte of which tokens are made (own; 3.1)
 abbrev pub is_graphic : ℕ → Bool
 is_graphic byte = is_between 33 126 byte
 
--- a byte that may stand outside strings and comments (own; 2.1)
+-- a byte that may stand outside strings and comments (own; 3.1)
 abbrev pub is_source : ℕ → Bool
 is_source byte = is_space byte || is_graphic byte
 
--- a byte of a string (2.6; the greatest code own)
+-- a byte of a string (3.6; the greatest code own)
 abbrev pub is_text : ℕ → Bool
 is_text byte = is_between 32 126 byte
 
--- a letter or an underscore, with which a name begins (2.7)
+-- a letter or an underscore, with which a name begins (3.7)
 abbrev pub is_name_start : ℕ → Bool
 is_name_start byte = is_between 97 122 byte || is_between 65 90 byte || nat_eq byte 95
 
--- a decimal digit (2.5)
+-- a decimal digit (3.5)
 abbrev pub is_digit : ℕ → Bool
 is_digit byte = is_between 48 57 byte
 
--- a letter, an underscore, a digit or a dollar sign, with which a name goes on (2.7)
+-- a letter, an underscore, a digit or a dollar sign, with which a name goes on (3.7)
 abbrev pub is_name_byte : ℕ → Bool
 is_name_byte byte = is_name_start byte || is_digit byte || nat_eq byte 36
 
--- a digit or an underscore, with which a decimal number goes on (2.5.1)
+-- a digit or an underscore, with which a decimal number goes on (3.5.1)
 abbrev pub is_decimal : ℕ → Bool
 is_decimal byte = is_digit byte || nat_eq byte 95
 
--- the letters X and Z in either case (2.5.1)
+-- the letters X and Z in either case (3.5.1)
 abbrev pub is_unknown : ℕ → Bool
 is_unknown byte = nat_eq byte 120 || nat_eq byte 88 || nat_eq byte 122 || nat_eq byte 90
 
--- a decimal digit, an underscore, or one of the letters A to F, X and Z in either case: the digits behind a base but `?` (2.5.1)
+-- a decimal digit, an underscore, or one of the letters A to F, X and Z in either case: the digits behind a base but `?` (3.5.1)
 abbrev pub is_based_letter : ℕ → Bool
 is_based_letter byte =
     is_digit byte || nat_eq byte 95 || is_between 97 102 byte || is_between 65 70 byte || is_unknown byte
 
--- `?`, which is written for z (2.5.1)
+-- `?`, which is written for z (3.5.1)
 abbrev pub is_question : ℕ → Bool
 is_question byte = nat_eq byte 63
 
--- a digit behind a base (2.5.1)
+-- a digit behind a base (3.5.1)
 abbrev pub is_based : ℕ → Bool
 is_based byte = is_based_letter byte || is_question byte
 
--- the letter of base ten, and that of another base, in either case (2.5.1)
+-- the letter of base ten, and that of another base, in either case (3.5.1)
 abbrev pub is_base_ten : ℕ → Bool
 is_base_ten byte = nat_eq byte 100 || nat_eq byte 68
 
@@ -70,18 +70,18 @@ abbrev pub is_base : ℕ → Bool
 is_base byte =
     is_base_ten byte || nat_eq byte 98 || nat_eq byte 66 || nat_eq byte 111 || nat_eq byte 79 || nat_eq byte 104 || nat_eq byte 72
 
--- the mark of a signed number, in either case (2.5.1)
+-- the mark of a signed number, in either case (3.5.1)
 abbrev pub is_sign_mark : ℕ → Bool
 is_sign_mark byte = nat_eq byte 115 || nat_eq byte 83
 
--- the mark of an exponent, in either case, and its sign (2.5.2)
+-- the mark of an exponent, in either case, and its sign (3.5.2)
 abbrev pub is_exponent : ℕ → Bool
 is_exponent byte = nat_eq byte 101 || nat_eq byte 69
 
 abbrev pub is_plus_or_minus : ℕ → Bool
 is_plus_or_minus byte = nat_eq byte 43 || nat_eq byte 45
 
--- an octal digit (2.6.3)
+-- an octal digit (3.6.3)
 abbrev pub is_octal : ℕ → Bool
 is_octal byte = is_between 48 55 byte
 

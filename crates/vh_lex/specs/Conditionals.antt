@@ -1,5 +1,5 @@
 -- The conditionals that are open (IEEE 1364-2005, 19.4).
-use Rattle.std.specs.Prelude.{ℕ, ◌-◌, Bool, true, false, List, Option, Some, None, length, take, slice_get, slice_set}
+use Rattle.std.specs.Prelude.{◌-◌, Bool, true, false, List, Option, Some, None, length, take, slice_get, slice_set}
 use Rattle.vh_lex.specs.declared.conditional.Conditional.{Conditional}
 use Rattle.vh_lex.specs.declared.conditional.Branch.{Branch}
 use Rattle.vh_lex.specs.declared.conditional.Branch.TheVariants as branch

@@ -1,4 +1,4 @@
--- The reserved words and their keywords (IEEE 1364-2005, 2.8 and Annex B).
+-- The reserved words and their keywords (IEEE 1364-2005, 3.7.2 and Annex B).
 use Rattle.std.specs.Prelude.{ℕ, List, [], ◌∷◌, Option, codes, bytes_eq}
 use Rattle.std.specs.List.{find}
 use Rattle.std.specs.Option.{option_map}
@@ -137,6 +137,6 @@ keyword_rows =
     (codes "xor", keyword.Xor) ∷
     []
 
--- the keyword that bytes spell, if they do (2.8)
+-- the keyword that bytes spell, if they do (3.7.2)
 abbrev pub keyword_of : List ℕ → Option Keyword
 keyword_of bytes = option_map (λ row. row.1) (find (λ row. bytes_eq row.0 bytes) keyword_rows)

@@ -55,15 +55,19 @@ turn false Plain byte bytes = plain_turn byte bytes
 turn false Quoted byte bytes = quoted_turn byte bytes
 turn false Comment byte bytes = comment_turn byte bytes
 
--- how many bytes a macro's text has: it runs to the line's end, a backslash before the line's end continuing it, or to
--- a `//` that stands in no string and no comment (19.3.1; own where a string or a comment has no end)
+-- a byte more than the rest, unless the text ends at it
 abbrev pub turned : Option Turn → (Bool → Mode → ℕ) → ℕ
 turned None rest = 0
 turned (Some t) rest = 1 + rest t.passes t.mode
 
+-- how many bytes a macro's text has: it runs to the line's end, a backslash before the line's end continuing it, or to
+-- a `//` that stands in no string and no comment (19.3.1; own where a string or a comment has no end)
 abbrev pub text_end : Bool → Mode → List ℕ → ℕ
 text_end passes mode [] = 0
 text_end passes mode (byte ∷ bytes) = turned (turn passes mode byte bytes) (λ p m. text_end p m bytes)
+
+abbrev pub text_len : List ℕ → ℕ
+text_len bytes = text_end false Plain bytes
 
 -- the bytes without each backslash that stands before a line end (19.3.1)
 abbrev pub joined_lines : List ℕ → List ℕ
@@ -71,9 +75,6 @@ joined_lines [] = []
 joined_lines (byte ∷ bytes) = if continues byte bytes then joined_lines bytes else byte ∷ joined_lines bytes
 
 -- the text that stands behind a macro's name, and how many bytes it has with a comment that ends it
-abbrev pub text_len : List ℕ → ℕ
-text_len bytes = text_end false Plain bytes
-
 abbrev pub macro_text : List ℕ → List ℕ
 macro_text bytes = joined_lines (take (text_len bytes) bytes)
 

@@ -1,7 +1,6 @@
 -- How contracts see what the code holds: without where it lies in memory.
 use Rattle.std.specs.Prelude.{ℕ, List}
 use Rattle.std.specs.Borrow.{Bor}
-use Rattle.vh_lex.specs.declared.mark.Mark.{Mark}
 use Rattle.vh_lex.specs.declared.name.Named.{Named as HeldNamed}
 use Rattle.vh_lex.specs.declared.macro_text.Next.{Next as HeldNext}
 use Rattle.vh_lex.specs.declared.scale.Found.{Found as HeldFound}

@@ -1,4 +1,4 @@
--- How the bytes of files spell tokens: one piece after the other from the left (IEEE 1364-2005, clauses 2 and 19).
+-- How the bytes of files spell tokens: one piece after the other from the left (IEEE 1364-2005, clauses 3 and 19).
 use Rattle.std.specs.Prelude.{ℕ, zero, suc, ◌+◌, ◌-◌, Bool, true, false, List, [], ◌∷◌, ◌++◌, Option, Some, None, Result, Ok, Err, if◌then◌else◌, length, take, drop, nat_eq, nat_lt, is_some}
 use Rattle.vh_base.specs.declared.place.Place.{Place}
 use Rattle.vh_base.specs.declared.faults.DesignFault.{DesignFault}

@@ -1,5 +1,5 @@
 -- The texts of macros that are open, the innermost last, as the code keeps them.
-use Rattle.std.specs.Prelude.{◌≡◌, ℕ, suc, ◌-◌, Bool, true, false, List, [], ◌∷◌, Option, Some, None, Result, Ok, Err, length, map, reverse, is_some}
+use Rattle.std.specs.Prelude.{◌≡◌, ℕ, ◌-◌, Bool, true, false, List, [], ◌∷◌, Option, Some, None, Result, Ok, Err, length, map, reverse, is_some}
 use Rattle.std.specs.Borrow.{Bor}
 use Rattle.vh_base.specs.declared.faults.DesignFault.TheVariants.{L3}
 use Rattle.vh_lex.specs.declared.fault.Halt.{Halt}

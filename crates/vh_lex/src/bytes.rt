@@ -62,7 +62,7 @@ pub(crate) fn run_len(class: Class, bytes: &[u8]) -> usize
     bytes.len()
 }
 
-/// White space (IEEE 1364-2005, 2.2).
+/// White space (IEEE 1364-2005, 3.2).
 pub(crate) fn is_space(byte: u8) -> bool
     ensures { result ≡ Bytes.is_space byte }
 {
@@ -83,21 +83,21 @@ pub(crate) fn is_text(byte: u8) -> bool
     matches!(byte, b' '..=b'~')
 }
 
-/// What a name begins with (IEEE 1364-2005, 2.7).
+/// What a name begins with (IEEE 1364-2005, 3.7).
 pub(crate) fn is_name_start(byte: u8) -> bool
     ensures { result ≡ Bytes.is_name_start byte }
 {
     matches!(byte, b'a'..=b'z' | b'A'..=b'Z' | b'_')
 }
 
-/// A decimal digit (IEEE 1364-2005, 2.5).
+/// A decimal digit (IEEE 1364-2005, 3.5).
 pub(crate) fn is_digit(byte: u8) -> bool
     ensures { result ≡ Bytes.is_digit byte }
 {
     matches!(byte, b'0'..=b'9')
 }
 
-/// A digit behind a base but `?` (IEEE 1364-2005, 2.5.1).
+/// A digit behind a base but `?` (IEEE 1364-2005, 3.5.1).
 fn is_based_letter(byte: u8) -> bool
     ensures { result ≡ Bytes.is_based_letter byte }
 {

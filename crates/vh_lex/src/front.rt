@@ -15,7 +15,7 @@ use crate::token::Kind;
 use std::alloc::Global;
 use vh_base::{DesignFault, NoMemory};
 
-/// What the bytes begin with (IEEE 1364-2005, clause 2). It takes time in the number of bytes of
+/// What the bytes begin with (IEEE 1364-2005, clause 3). It takes time in the number of bytes of
 /// that piece, and of white space behind it.
 pub(crate) fn front(alloc: Global, bytes: &[u8]) -> Result<Piece, NoMemory>
     ensures value { IfOk result (λ piece. piece ≡ Front.front bytes.now) }
@@ -128,7 +128,7 @@ fn mark_piece(bytes: &[u8]) -> Piece
 }
 
 /// How many bytes the comment has with which the bytes begin, if they begin with one that has an
-/// end (IEEE 1364-2005, 2.3).
+/// end (IEEE 1364-2005, 3.3).
 pub(crate) fn comment_len(bytes: &[u8]) -> Option<usize>
     ensures value { result ≡ Front.comment_len bytes.now }
     ensures inside { IfSome result (λ len. len ≤ length bytes.now) }
@@ -166,7 +166,7 @@ fn bracket_at(bytes: &[u8]) -> Piece
         return mark_piece(bytes);
     }
     match through(b'*', b')', after(2, bytes)) {
-        Some(len) => attribute_by(run_len(Class::Source, bytes), len + 2),
+        Some(len) => attribute_by(run_len(Class::Source, &bytes[..len + 2]), len + 2),
         None => Piece::Fault(DesignFault::L5, 0),
     }
 }

@@ -5,7 +5,7 @@ ghost use Rattle.std.specs.Option.{option_map};
 
 use crate::table::begun;
 
-/// An operator or a mark (IEEE 1364-2005, 2.4, Table 5-1 and Annex A).
+/// An operator or a mark (IEEE 1364-2005, 3.4, Table 5-1 and Annex A).
 #[derive(Clone, Copy, Debug, PartialEq, Eq)]
 pub enum Mark {
     /// `<<<`
@@ -102,7 +102,7 @@ pub enum Mark {
     Question,
 }
 
-/// The operators and marks, the longest first (IEEE 1364-2005, 2.4, Table 5-1 and Annex A).
+/// The operators and marks, the longest first (IEEE 1364-2005, 3.4, Table 5-1 and Annex A).
 static MARKS: [(&[u8], Mark); 46] = [
     (b"<<<", Mark::ArithmeticShiftLeft),
     (b">>>", Mark::ArithmeticShiftRight),

@@ -18,7 +18,7 @@ pub(crate) struct Named<'a> {
 }
 
 /// The name with which the bytes begin: a simple one, or an escaped one without its backslash
-/// (IEEE 1364-2005, 2.7 and 2.7.1).
+/// (IEEE 1364-2005, 3.7 and 3.7.1).
 pub(crate) fn name_of(bytes: &[u8]) -> Option<Named<'_>>
     ensures value { option_map named_seen result ≡ Front.name_of bytes.now }
     ensures inside { IfSome result (λ named. named.len ≤ length bytes.now) }

@@ -10,7 +10,7 @@ use crate::token::Kind;
 use vh_base::DesignFault;
 use vh_text::read_literal;
 
-/// The number with which the bytes begin, from a digit or an apostrophe on (IEEE 1364-2005, 2.5).
+/// The number with which the bytes begin, from a digit or an apostrophe on (IEEE 1364-2005, 3.5).
 /// It takes time in the number of its bytes and of the white space behind its first digits.
 pub(crate) fn number_at(bytes: &[u8]) -> Piece
     ensures value { result ≡ Numbers.number_at bytes.now }
@@ -43,7 +43,7 @@ fn number_of(bytes: &[u8], is_sized: bool, len: usize) -> Piece
     }
 }
 
-// Whether digits go on so as a real number (IEEE 1364-2005, 2.5.2).
+// Whether digits go on so as a real number (IEEE 1364-2005, 3.5.2).
 fn begins_real(bytes: &[u8]) -> bool
     ensures { result ≡ Numbers.begins_real bytes.now }
 {

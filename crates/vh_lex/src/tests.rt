@@ -120,7 +120,7 @@ fn check(rt: &impl Abort, alloc: Global, files: &[&[u8]], line: &str) -> Result<
 }
 
 // Texts with their tokens.
-static READ: [(&[u8], &str); 63] = [
+static READ: [(&[u8], &str); 64] = [
     (b"", ""),
     (b" \t\n\x0c\r\n ", ""),
     (b"a//b\nc", "1:1 a 2:1 c"),
@@ -219,6 +219,7 @@ static READ: [(&[u8], &str); 63] = [
         "2:31 z",
     ),
     (b"`ifdef /* c */\n A `endif x", "2:11 x"),
+    (b"`ifdef A `\\b//c `endif x", "1:24 x"),
     // Settings.
     (
         b"`timescale 1 ns // c\n/ 10ps module",
@@ -249,7 +250,7 @@ fn texts(rt: HostRuntime) -> Result<(), Fail> {
 }
 
 // Texts with their faults.
-static REFUSED: [(&[u8], &str); 73] = [
+static REFUSED: [(&[u8], &str); 75] = [
     (b"/* a", "L5 1:1"),
     (b"a /* b\n * /", "L5 1:3"),
     (b"/*/", "L5 1:1"),
@@ -302,6 +303,8 @@ static REFUSED: [(&[u8], &str); 73] = [
     (b"`define M /* x\ny `M", "L5 2:3"),
     (b"`define M \"a\\\nb\"\n`M", "L5 3:1"),
     (b"`define M \"a\n`M", "L5 2:1"),
+    (b"`define A x \\\r\n `A", "L1 2:2"),
+    (b"`define A 8'hg 'q\n `A", "L4 2:2"),
     (b"`else", "L2 1:1"),
     (b" `endif", "L2 1:2"),
     (b"`elsif A", "L2 1:1"),
@@ -449,7 +452,7 @@ fn count(alloc: Global, text: &[u8]) -> Option<usize> {
     Some(lexer.tokens().len())
 }
 
-// 4,194,304 tokens and no more, and a comment of 4,194,304 bytes.
+// 4,194,304 tokens and no more, a comment of 4,194,304 bytes, and as many bytes of attributes.
 #[test]
 fn tokens(rt: HostRuntime) -> Result<(), Fail> {
     let alloc = rt.alloc();
@@ -457,7 +460,9 @@ fn tokens(rt: HostRuntime) -> Result<(), Fail> {
     assert_eq!(&rt; count(alloc, &text), Some(4_194_304));
     check(&rt, alloc, &[text.as_slice(), b" ;"], "L6 2:1:2")?;
     let comment = repeated(alloc, b"/*", b"/ ", 2_097_150, b"*/")?;
-    check(&rt, alloc, &[comment.as_slice()], "")
+    check(&rt, alloc, &[comment.as_slice()], "")?;
+    let attributes = repeated(alloc, b"", b"(**)", 1_048_576, b"")?;
+    check(&rt, alloc, &[attributes.as_slice()], "")
 }
 
 // The places before the first byte and behind the last, and a fault that is answered again.

@@ -18,7 +18,7 @@ pub(crate) struct Escape {
     pub(crate) len: usize,
 }
 
-/// The string whose bytes after its first quote these are (IEEE 1364-2005, 2.6). It takes time in
+/// The string whose bytes after its first quote these are (IEEE 1364-2005, 3.6). It takes time in
 /// the number of its bytes.
 pub(crate) fn text_at(alloc: Global, bytes: &[u8]) -> Result<Piece, NoMemory>
     ensures value { IfOk result (λ piece. piece ≡ Texts.text_at bytes.now) }

@@ -4,7 +4,7 @@ use crate::setting::Setting;
 use vh_base::{Bytes, Place};
 use vh_logic::Vec4;
 
-/// What a token is (IEEE 1364-2005, 2.1).
+/// What a token is (IEEE 1364-2005, 3.1).
 #[derive(Drop)]
 pub enum Kind {
     /// The reserved word `module`, with what the directives before it set.

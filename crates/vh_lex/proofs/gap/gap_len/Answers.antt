@@ -1,4 +1,4 @@
-use Rattle.std.proofs.Common.{◌≡◌, ◌≤◌, length, Some, sym, ◌∙◌, arith, length-drop}
+use Rattle.std.proofs.Common.{length, sym, arith, length-drop}
 use Rattle.vh_lex.specs.Directives.{gap_len}
 use Rattle.vh_lex.proofs.Gaps.{gap-more}
 use Rattle.vh_lex.proofs.gap.gap_len.Goals as goal

@@ -1,6 +1,4 @@
-use Rattle.std.proofs.Common.{sym, ◌∙◌, ◌≡◌}
-use Rattle.vh_lex.specs.declared.piece.Piece.TheVariants.{Blank, Kept}
-use Rattle.vh_lex.specs.Front.{front}
+use Rattle.std.proofs.Common.{sym, ◌∙◌}
 use Rattle.vh_lex.specs.MacroTexts.{parts_of}
 use Rattle.vh_lex.proofs.Parting.{blank-more, part-more}
 use Rattle.vh_lex.proofs.macro_text.parts_of.Goals as goal

@@ -1,4 +1,4 @@
-use Rattle.std.proofs.Common.{◌≡◌, ◌-◌, ◌+◌, ◌≤◌, length}
+use Rattle.std.proofs.Common.{◌≡◌, ◌+◌, ◌≤◌, length}
 use Rattle.vh_lex.specs.MacroTexts.{text_len, text_end}
 use Rattle.vh_lex.proofs.macro_text.text_len.Given as goal
 

@@ -1,7 +1,6 @@
-use Rattle.std.proofs.Common.{◌≡◌, ◌≤◌, ◌+◌, ◌∷◌, ◌-◌, length, sym, subst, arith, rules}
-use Rattle.std.specs.Prelude.{List, ℕ}
+use Rattle.std.proofs.Common.{◌-◌, length, arith, rules}
 use Rattle.vh_lex.specs.Texts.{decoded}
-use Rattle.vh_lex.proofs.Decoding.{onto, plain-byte}
+use Rattle.vh_lex.proofs.Decoding.{plain-byte}
 use Rattle.vh_lex.proofs.text.decoded.Goals as goal
 
 pub loop-first-preserved : goal.loop-first-preserved

@@ -1,5 +1,5 @@
-use Rattle.std.proofs.Common.{◌≡◌, refl, sym, ◌∙◌, ap}
-use Rattle.vh_lex.specs.Made.{Macros, with_macro}
+use Rattle.std.proofs.Common.{refl, ◌∙◌, ap}
+use Rattle.vh_lex.specs.Made.{with_macro}
 use Rattle.vh_lex.specs.Texted.{macros_seen}
 use Rattle.vh_lex.proofs.TableLemmas.{seen-insert}
 use Rattle.vh_lex.proofs.macros.Macros.set.Goals as goal

@@ -1,4 +1,4 @@
-use Rattle.std.proofs.Common.{◌≡◌, Some, None, sym, ◌∙◌, ap}
+use Rattle.std.proofs.Common.{Some, None, sym, ◌∙◌, ap}
 use Rattle.vh_lex.proofs.TableLemmas.{found-text}
 use Rattle.vh_lex.proofs.macros.Macros.text.Goals as goal
 

@@ -1,4 +1,4 @@
-use Rattle.std.proofs.Common.{◌≡◌, ◌≤◌, ◌-◌, length, take, drop, ◌∙◌, ap, length-take, length-drop, arith}
+use Rattle.std.proofs.Common.{◌≡◌, ◌-◌, length, take, ◌∙◌, ap, length-take, length-drop, arith}
 use Rattle.vh_lex.specs.Spelling.{read}
 use Rattle.vh_lex.specs.State.{moved}
 use Rattle.vh_lex.proofs.Stepping.{read-more}
