@@ -5,7 +5,8 @@ use Rattle.std.specs.Option.{option_map}
 use Rattle.std.proofs.lemmas.Bool.Decides.{nat_tests}
 use Rattle.std.proofs.lemmas.List.Sums.{prefix_len-le-length}
 use Rattle.vh_app.specs.Token.{Token}
-use Rattle.vh_app.specs.Spelling.{Piece, space, token, wrong, piece_at, piece_then, further, tokens_after, tokens_of, is_between, is_space, is_name_start, is_name_byte, is_digit, is_comment_byte, is_escaped, is_mark, one_more, text_len, text_of}
+use Rattle.vh_app.specs.Spelling.{Piece, space, token, wrong, piece_at, piece_then, further, tokens_after, tokens_of, is_name_byte, is_comment_byte, is_escaped, is_mark, one_more, text_len, text_of}
+use Rattle.vh_base.specs.Classes.{is_between, is_space, is_name_start, is_digit}
 
 -- tokens before those that follow, if these are tokens
 abbrev pub tokens_before : List Token → Option (List Token) → Option (List Token)

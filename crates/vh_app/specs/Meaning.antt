@@ -3,6 +3,7 @@ use Rattle.std.specs.Prelude.{ℕ, ◌+◌, Bool, true, not, ◌&&◌, cond, Lis
 use Rattle.std.specs.List.{list_any}
 use Rattle.std.specs.Option.{option_map, option_and_then}
 use Rattle.vh_grammar.specs.Reading.{Out, got, stop}
+use Rattle.vh_base.specs.Lists.{all_differ, each}
 use Rattle.vh_app.specs.declared.command.Command.{Command}
 use Rattle.vh_app.specs.declared.command.Command.TheVariants.{Ask}
 use Rattle.vh_app.specs.declared.command.Form.{Form}
@@ -15,16 +16,6 @@ use Rattle.vh_app.specs.Spelling.{tokens_of}
 use Rattle.vh_app.specs.Tree as tree
 use Rattle.vh_app.specs.Grammar.{app_in}
 use Rattle.vh_app.specs.Script.{ScriptData}
-
--- no name is declared twice (own)
-abbrev pub all_differ : List (List ℕ) → Bool
-all_differ [] = true
-all_differ (name ∷ names) = not (list_any (bytes_eq name) names) && all_differ names
-
--- what the function makes of each, if it makes something of each
-abbrev pub each : {A B : Type 0} → (A → Option B) → List A → Option (List B)
-each f [] = Some []
-each f (x ∷ xs) = option_and_then (λ y. option_map (λ ys. y ∷ ys) (each f xs)) (f x)
 
 -- bytes that are no more than so many
 abbrev pub within : ℕ → List ℕ → Option (List ℕ)

@@ -1,6 +1,7 @@
 -- How contracts see what the code holds: without where it lies in memory.
 use Rattle.std.specs.Prelude.{◌≡◌, ℕ, List, map, Bool, false, Option, Some, None, Result, Ok, Err}
 use Rattle.std.specs.Borrow.{Bor}
+use Rattle.vh_base.specs.Lists.{names_seen}
 use Rattle.vh_app.specs.declared.token.Token.{Token as Held}
 use Rattle.vh_app.specs.declared.token.Token.TheVariants.{Name, Digits, Text, Mark}
 use Rattle.vh_app.specs.declared.lexer.Piece.{Piece as HeldPiece}
@@ -37,10 +38,6 @@ abbrev pub piece_seen : HeldPiece → Piece
 piece_seen (pieces.Space len) = space len
 piece_seen (pieces.Token t len) = token (token_seen t) len
 piece_seen pieces.Wrong = wrong
-
--- names of the code (own)
-abbrev pub names_seen : List (Bor (List ℕ)) → List (List ℕ)
-names_seen = map (λ name. name.now)
 
 -- where a handle stands in the code (own)
 abbrev pub handle_seen : HeldHandle → Handle

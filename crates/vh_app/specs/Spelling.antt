@@ -2,23 +2,8 @@
 use Rattle.std.specs.Prelude.{ℕ, zero, suc, ◌+◌, ◌-◌, Bool, true, false, ◌&&◌, ◌||◌, not, List, [], ◌∷◌, Option, Some, None, if◌then◌else◌, take, nat_eq, nat_le}
 use Rattle.std.specs.List.{prefix_len}
 use Rattle.std.specs.Option.{option_map}
+use Rattle.vh_base.specs.Classes.{is_between, is_space, is_name_start, is_digit}
 use Rattle.vh_app.specs.Token.{Token, name, digits, text, mark}
-
--- a byte of a range (own)
-abbrev pub is_between : ℕ → ℕ → ℕ → Bool
-is_between low high byte = nat_le low byte && nat_le byte high
-
--- white space: tab, line feed, form feed, carriage return, blank (own; IEEE 1364-2005, 2.2)
-abbrev pub is_space : ℕ → Bool
-is_space byte = nat_eq byte 9 || nat_eq byte 10 || nat_eq byte 12 || nat_eq byte 13 || nat_eq byte 32
-
--- a letter or an underscore, with which a name begins (own)
-abbrev pub is_name_start : ℕ → Bool
-is_name_start byte = is_between 97 122 byte || is_between 65 90 byte || nat_eq byte 95
-
--- a decimal digit (own)
-abbrev pub is_digit : ℕ → Bool
-is_digit byte = is_between 48 57 byte
 
 -- a letter, an underscore or a digit, with which a name goes on (own)
 abbrev pub is_name_byte : ℕ → Bool

@@ -1,32 +1,14 @@
 ghost use Rattle.std.specs.Prelude.{◌≡◌};
+ghost use Rattle.vh_base.specs.Classes;
 ghost use Rattle.vh_app.specs.Spelling;
 
-/// White space.
-pub fn is_space(byte: u8) -> bool
-    ensures { result ≡ Spelling.is_space byte }
-{
-    matches!(byte, b'\t' | b'\n' | 0x0c | b'\r' | b' ')
-}
-
-/// What a name begins with.
-pub fn is_name_start(byte: u8) -> bool
-    ensures { result ≡ Spelling.is_name_start byte }
-{
-    matches!(byte, b'a'..=b'z' | b'A'..=b'Z' | b'_')
-}
+use vh_base::{is_digit, is_name_start};
 
 /// What a name goes on with.
 pub fn is_name_byte(byte: u8) -> bool
     ensures { result ≡ Spelling.is_name_byte byte }
 {
     is_name_start(byte) || is_digit(byte)
-}
-
-/// A decimal digit.
-pub fn is_digit(byte: u8) -> bool
-    ensures { result ≡ Spelling.is_digit byte }
-{
-    matches!(byte, b'0'..=b'9')
 }
 
 /// What a comment goes on with.
@@ -45,7 +27,7 @@ pub fn is_escaped(byte: u8) -> bool
 
 /// What a text may hold.
 pub fn is_text_byte(byte: u8) -> bool
-    ensures { result ≡ Spelling.is_between 32 126 byte }
+    ensures { result ≡ Classes.is_between 32 126 byte }
 {
     matches!(byte, b' '..=b'~')
 }

@@ -1,15 +1,14 @@
 ghost use Rattle.std.specs.Prelude.{◌≡◌, ◌<◌, ◌≤◌, length, Some, None, IfOk, IfSome, false};
 ghost use Rattle.std.specs.List.{prefix_len};
+ghost use Rattle.vh_base.specs.Classes;
 ghost use Rattle.vh_app.specs.Spelling;
 ghost use Rattle.vh_app.specs.Seen.{tokens_seen, piece_seen};
 
-use crate::bytes::{
-    is_comment_byte, is_digit, is_escaped, is_mark, is_name_byte, is_name_start, is_space,
-    is_text_byte,
-};
+use crate::bytes::{is_comment_byte, is_escaped, is_mark, is_name_byte, is_text_byte};
 use crate::fault::NotRead;
 use crate::token::Token;
 use std::alloc::Global;
+use vh_base::{is_digit, is_name_start, is_space};
 
 /// What the bytes begin with, and how many bytes that is.
 pub enum Piece<'a> {
@@ -114,7 +113,7 @@ fn name_length(bytes: &[u8]) -> usize
 }
 
 fn digit_length(bytes: &[u8]) -> usize
-    ensures length { result ≡ prefix_len Spelling.is_digit bytes.now }
+    ensures length { result ≡ prefix_len Classes.is_digit bytes.now }
     ensures within { result ≤ length bytes.now }
 {
     let mut rest = bytes;

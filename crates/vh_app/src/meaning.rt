@@ -1,6 +1,7 @@
 ghost use Rattle.std.specs.Prelude.{◌≡◌, ◌≢◌, ◌++◌, ◌&&◌, ◌≤◌, List, ℕ, true, false, Some, None, IfOk, OnOk, map, not, nat_eq, nat_le};
 ghost use Rattle.vh_app.specs.Meaning;
-ghost use Rattle.vh_app.specs.Seen.{app_seen, command_seen, commands_seen, handle_seen, order_seen, procedure_seen, procedures_seen, names_seen, target_seen};
+ghost use Rattle.vh_app.specs.Seen.{app_seen, command_seen, commands_seen, handle_seen, order_seen, procedure_seen, procedures_seen, target_seen};
+ghost use Rattle.vh_base.specs.Lists.{all_differ, each, names_seen};
 ghost use Rattle.vh_app.specs.Spelling.{unescaped};
 
 use crate::command::{self, Form, Source};
@@ -35,9 +36,9 @@ pub fn script(alloc: Global, app: &App<'_>) -> Result<Script, NotRead>
 fn variables<'a>(alloc: Global, lists: &[Vec<&'a [u8]>]) -> Result<IndexSet<&'a [u8]>, NotRead>
     ensures names { IfOk result (λ set.
         names_seen set.keys ≡ Meaning.all_names (map (λ names. names_seen names.items) lists.now)) }
-    ensures differ { IfOk result (λ set. Meaning.all_differ (names_seen set.keys) ≡ true) }
+    ensures differ { IfOk result (λ set. all_differ (names_seen set.keys) ≡ true) }
     ensures not_read { result ≡ Err NotRead.NoScript →
-        Meaning.all_differ (Meaning.all_names (map (λ names. names_seen names.items) lists.now)) ≡ false }
+        all_differ (Meaning.all_names (map (λ names. names_seen names.items) lists.now)) ≡ false }
 {
     let mut variables = IndexSet::new(alloc);
     for names in lists {
@@ -51,9 +52,9 @@ fn add<'a>(declared: &mut IndexSet<&'a [u8]>, names: &[&'a [u8]]) -> Result<(), 
     ensures names { OnOk result (
         names_seen declared.new.keys ≡ names_seen declared.old.keys ++ names_seen names.now) }
     ensures differ { OnOk result (
-        Meaning.all_differ (names_seen declared.new.keys) ≡ Meaning.all_differ (names_seen declared.old.keys)) }
+        all_differ (names_seen declared.new.keys) ≡ all_differ (names_seen declared.old.keys)) }
     ensures not_read { result ≡ Err NotRead.NoScript → (more : List (List ℕ)) →
-        Meaning.all_differ (names_seen declared.old.keys ++ names_seen names.now ++ more) ≡ false }
+        all_differ (names_seen declared.old.keys ++ names_seen names.now ++ more) ≡ false }
 {
     for name in names {
         let (_, is_new) = declared.insert_full(*name)?;
@@ -67,9 +68,9 @@ fn add<'a>(declared: &mut IndexSet<&'a [u8]>, names: &[&'a [u8]]) -> Result<(), 
 // Refuses procedures of which two have one name.
 fn check_procedures(alloc: Global, procedures: &[Procedure<'_>]) -> Result<(), NotRead>
     ensures differ { OnOk result (
-        Meaning.all_differ (Meaning.procedure_names (procedures_seen procedures.now)) ≡ true) }
+        all_differ (Meaning.procedure_names (procedures_seen procedures.now)) ≡ true) }
     ensures not_read { result ≡ Err NotRead.NoScript →
-        Meaning.all_differ (Meaning.procedure_names (procedures_seen procedures.now)) ≡ false }
+        all_differ (Meaning.procedure_names (procedures_seen procedures.now)) ≡ false }
 {
     let names = procedure_names(alloc, procedures)?;
     let mut declared = IndexSet::new(alloc);
@@ -125,8 +126,8 @@ fn parts(alloc: Global, app: &App<'_>, variables: &IndexSet<&[u8]>) -> Result<Sc
 
 // The names, each with its own bytes.
 fn names(alloc: Global, names: &[&[u8]]) -> Result<Vec<Short>, NotRead>
-    ensures read { IfOk result (λ found. Meaning.each Meaning.name_of (names_seen names.now) ≡ Some found.items) }
-    ensures not_read { result ≡ Err NotRead.NoScript → Meaning.each Meaning.name_of (names_seen names.now) ≡ None }
+    ensures read { IfOk result (λ found. each Meaning.name_of (names_seen names.now) ≡ Some found.items) }
+    ensures not_read { result ≡ Err NotRead.NoScript → each Meaning.name_of (names_seen names.now) ≡ None }
 {
     let mut found = Vec::new(alloc);
     for name in names {
@@ -142,9 +143,9 @@ fn procedures(
     variables: &IndexSet<&[u8]>,
 ) -> Result<Vec<command::Procedure>, NotRead>
     ensures read { IfOk result (λ found.
-        Meaning.each (Meaning.procedure_of (names_seen variables.now.keys)) (procedures_seen procedures.now) ≡ Some found.items) }
+        each (Meaning.procedure_of (names_seen variables.now.keys)) (procedures_seen procedures.now) ≡ Some found.items) }
     ensures not_read { result ≡ Err NotRead.NoScript →
-        Meaning.each (Meaning.procedure_of (names_seen variables.now.keys)) (procedures_seen procedures.now) ≡ None }
+        each (Meaning.procedure_of (names_seen variables.now.keys)) (procedures_seen procedures.now) ≡ None }
 {
     let mut found = Vec::new(alloc);
     for procedure in procedures {
@@ -176,9 +177,9 @@ fn commands(
     variables: &IndexSet<&[u8]>,
 ) -> Result<Vec<command::Command>, NotRead>
     ensures read { IfOk result (λ found.
-        Meaning.each (Meaning.command_of (names_seen variables.now.keys)) (commands_seen commands.now) ≡ Some found.items) }
+        each (Meaning.command_of (names_seen variables.now.keys)) (commands_seen commands.now) ≡ Some found.items) }
     ensures not_read { result ≡ Err NotRead.NoScript →
-        Meaning.each (Meaning.command_of (names_seen variables.now.keys)) (commands_seen commands.now) ≡ None }
+        each (Meaning.command_of (names_seen variables.now.keys)) (commands_seen commands.now) ≡ None }
 {
     let mut found = Vec::new(alloc);
     for command in commands {

@@ -1,7 +1,8 @@
 ghost use Rattle.std.specs.Prelude.{◌≡◌, map, Some, None, false, IfOk};
 ghost use Rattle.vh_app.specs.Grammar;
 ghost use Rattle.vh_app.specs.Meaning;
-ghost use Rattle.vh_app.specs.Seen.{tokens_seen, names_seen, command_seen, commands_seen, order_seen, handle_seen, procedure_seen, procedures_seen, app_seen, ReadsPart, TakesToken, TakesMeaning, token_is_next};
+ghost use Rattle.vh_app.specs.Seen.{tokens_seen, command_seen, commands_seen, order_seen, handle_seen, procedure_seen, procedures_seen, app_seen, ReadsPart, TakesToken, TakesMeaning, token_is_next};
+ghost use Rattle.vh_base.specs.Lists.{names_seen};
 ghost use Rattle.vh_app.specs.Spelling.{unescaped};
 
 use crate::fault::NotRead;

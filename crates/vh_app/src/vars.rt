@@ -39,7 +39,7 @@ impl Vars {
         if let Some(number) = waiting
             && number < self.values.len()
         {
-            self.values[number] = copied(last);
+            self.values[number] = last.copy();
         }
     }
 
@@ -51,19 +51,5 @@ impl Vars {
             Some(Answer::Handle(handle)) => Some(*handle),
             _ => None,
         }
-    }
-}
-
-// The same answer once more.
-fn copied(answer: &Answer) -> Answer
-    ensures { result ≡ answer.now }
-{
-    match answer {
-        Answer::Done => Answer::Done,
-        Answer::Null => Answer::Null,
-        Answer::Handle(handle) => Answer::Handle(*handle),
-        Answer::Number(number) => Answer::Number(*number),
-        Answer::Text(text) => Answer::Text(text.copy()),
-        Answer::Refused(code) => Answer::Refused(*code),
     }
 }

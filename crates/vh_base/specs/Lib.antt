@@ -3,3 +3,5 @@ pub mod Outside
 pub mod Memory
 pub mod Held
 pub mod Promise
+pub mod Classes
+pub mod Lists

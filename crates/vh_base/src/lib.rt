@@ -7,6 +7,7 @@
 //! output stand with the program. Stands on std alone.
 #![tactic(auto)]
 
+mod byte_class;
 mod faults;
 mod first;
 mod format;
@@ -24,6 +25,7 @@ mod steps;
 mod tests;
 mod words;
 
+pub use byte_class::{is_digit, is_name_start, is_space};
 pub use faults::{AppFault, Cause, DesignFault, Fault, NoMemory};
 pub use first::{First, FirstBit, FirstBlocks, FirstCode, FirstNames};
 pub use format::Format;

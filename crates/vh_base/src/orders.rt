@@ -1,3 +1,5 @@
+ghost use Rattle.std.specs.Prelude.{◌≡◌};
+
 use crate::format::Format;
 use crate::numbers::{HandleNo, ObjId};
 use crate::short::Short;
@@ -132,6 +134,22 @@ pub enum Answer {
     Number(u64),
     Text(Short),
     Refused(Code),
+}
+
+impl Answer {
+    /// The same answer once more.
+    pub fn copy(&self) -> Answer
+        ensures { result ≡ self.now }
+    {
+        match self {
+            Answer::Done => Answer::Done,
+            Answer::Null => Answer::Null,
+            Answer::Handle(handle) => Answer::Handle(*handle),
+            Answer::Number(number) => Answer::Number(*number),
+            Answer::Text(text) => Answer::Text(text.copy()),
+            Answer::Refused(code) => Answer::Refused(*code),
+        }
+    }
 }
 
 /// What an activation sees at its next order.

@@ -1,5 +1,7 @@
-ghost use Rattle.std.specs.Prelude.{◌≡◌, List, length};
+ghost use Rattle.std.specs.Prelude.{◌≡◌, List, length, IfOk};
 
+use crate::faults::NoMemory;
+use std::alloc::Global;
 use std::marker::Model;
 
 /// Elements in order, which contracts see as their list. It is made from a `Vec`
@@ -16,6 +18,15 @@ impl<T> Model for Sequence<T> {
     ghost Value = { List T };
 
     ghost view = { λ s. s.items.items };
+}
+
+impl<T: Copy> Sequence<T> {
+    /// The elements of a slice once more.
+    pub fn from_slice(alloc: Global, items: &[T]) -> Result<Sequence<T>, NoMemory>
+        ensures { IfOk result (λ s. s ≡ items.now) }
+    {
+        Ok(Sequence::new(Vec::from_slice(alloc, items)?))
+    }
 }
 
 impl<T> Sequence<T> {

@@ -2,6 +2,7 @@
 use Rattle.std.specs.Prelude.{ℕ, ◌++◌, List, [], ◌∷◌, Bool, true, false, ◌&&◌, ◌||◌, if◌then◌else◌, nat_eq, nat_le, Option, Some, None, codes}
 use Rattle.std.specs.List.{list_all}
 use Rattle.std.specs.Fmt.{decimal}
+use Rattle.vh_base.specs.Classes.{is_name_start, is_digit}
 use Rattle.vh_base.specs.declared.format.Format.{Format}
 use Rattle.vh_base.specs.declared.format.Format.TheVariants as format
 use Rattle.vh_base.specs.declared.orders.Answer.{Answer}
@@ -120,14 +121,9 @@ abbrev pub handle_text : Option ℕ → List ℕ
 handle_text None = codes "null"
 handle_text (Some number) = codes "h" ++ decimal number
 
--- A letter or an underscore, with which a name begins. (own)
-abbrev pub is_name_start : ℕ → Bool
-is_name_start byte =
-    (nat_le 97 byte && nat_le byte 122) || (nat_le 65 byte && nat_le byte 90) || nat_eq byte 95
-
 -- A letter, an underscore or a digit. (own)
 abbrev pub is_name_byte : ℕ → Bool
-is_name_byte byte = is_name_start byte || (nat_le 48 byte && nat_le byte 57)
+is_name_byte byte = is_name_start byte || is_digit byte
 
 -- A text begins as a name does. (own)
 abbrev pub begins_as_name : List ℕ → Bool

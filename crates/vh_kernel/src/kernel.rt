@@ -93,21 +93,12 @@ fn joined(alloc: Global, scope: &[u8], path: &[u8]) -> Result<Bytes, NoMemory>
     Ok(Sequence::new(name))
 }
 
-// A text once more.
-fn copied(alloc: Global, text: &[u8]) -> Result<Bytes, NoMemory>
-    ensures { IfOk result (λ bytes. bytes ≡ text.now) }
-{
-    let mut bytes = Vec::new(alloc);
-    bytes.extend_from_slice(text)?;
-    Ok(Sequence::new(bytes))
-}
-
 // The full names of the module and its registers.
 fn all_names(alloc: Global, name: &[u8], regs: &[Bytes]) -> Result<Vec<Bytes>, NoMemory>
     ensures { IfOk result (λ names. names.items ≡ name.now ∷ map (below name.now) regs.now) }
 {
     let mut names = Vec::new(alloc);
-    names.push(copied(alloc, name)?)?;
+    names.push(Bytes::from_slice(alloc, name)?)?;
     for reg in regs {
         names.push(joined(alloc, name, reg.as_slice())?)?;
     }

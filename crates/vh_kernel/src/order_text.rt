@@ -3,7 +3,7 @@ ghost use Rattle.std.specs.Prelude.{◌≡◌, ◌++◌, ◌∷◌, [], true, On
 ghost use Rattle.std.specs.List.{list_all};
 ghost use Rattle.std.specs.Fmt.{decimal};
 ghost use Rattle.vh_kernel.specs.Quoted.{quoted};
-ghost use Rattle.vh_kernel.specs.OrderText.{reason_text, relation_text, property_text, format_text, mode_text, kind_text, code_text, handle_text, is_name_start as is_start, is_name_byte as is_byte, begins_as_name as begins_so, is_name as is_name_of, name_text, proc_text, body_text, spaced, event_words, compiletf_words, control_text, order_text, answer_text};
+ghost use Rattle.vh_kernel.specs.OrderText.{reason_text, relation_text, property_text, format_text, mode_text, kind_text, code_text, handle_text, is_name_byte as is_byte, begins_as_name as begins_so, is_name as is_name_of, name_text, proc_text, body_text, spaced, event_words, compiletf_words, control_text, order_text, answer_text};
 
 #[cfg(test)]
 mod tests;
@@ -12,7 +12,7 @@ use crate::quoted::push_quoted;
 use std::alloc::AllocError;
 use vh_base::{
     Answer, BodyName, Code, Format, HandleNo, Mode, Order, ProcName, Property, Reason, Relation,
-    Short, SystfKind,
+    Short, SystfKind, is_digit, is_name_start,
 };
 
 /// Adds an order as a line shows it: its name and its arguments.
@@ -307,18 +307,11 @@ fn has_name_bytes(text: &[u8]) -> bool
     text.iter().all(|byte| is_name_byte(*byte))
 }
 
-// Is a byte a letter or an underscore?
-fn is_name_start(byte: u8) -> bool
-    ensures { result ≡ is_start byte }
-{
-    matches!(byte, b'a'..=b'z' | b'A'..=b'Z' | b'_')
-}
-
 // Is a byte a letter, an underscore or a digit?
 fn is_name_byte(byte: u8) -> bool
     ensures { result ≡ is_byte byte }
 {
-    is_name_start(byte) || byte.is_ascii_digit()
+    is_name_start(byte) || is_digit(byte)
 }
 
 // Adds the bytes of a name.

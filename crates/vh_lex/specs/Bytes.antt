@@ -1,14 +1,7 @@
 -- The bytes of which texts are made, by their codes, and what bytes begin with (IEEE 1364-2005, clause 3).
 use Rattle.std.specs.Prelude.{ℕ, ◌+◌, Bool, false, ◌&&◌, ◌||◌, not, List, [], ◌∷◌, Option, Some, None, if◌then◌else◌, nat_eq, nat_le}
 use Rattle.std.specs.Option.{option_map}
-
--- a byte of a range
-abbrev pub is_between : ℕ → ℕ → ℕ → Bool
-is_between low high byte = nat_le low byte && nat_le byte high
-
--- white space: tab, line feed, form feed, carriage return, blank (3.2)
-abbrev pub is_space : ℕ → Bool
-is_space byte = nat_eq byte 9 || nat_eq byte 10 || nat_eq byte 12 || nat_eq byte 13 || nat_eq byte 32
+use Rattle.vh_base.specs.Classes.{is_between, is_space, is_name_start, is_digit}
 
 -- the line feed, which ends a line (own; 3.3)
 abbrev pub is_line_end : ℕ → Bool
@@ -28,14 +21,6 @@ is_source byte = is_space byte || is_graphic byte
 -- a byte of a string (3.6; the greatest code own)
 abbrev pub is_text : ℕ → Bool
 is_text byte = is_between 32 126 byte
-
--- a letter or an underscore, with which a name begins (3.7)
-abbrev pub is_name_start : ℕ → Bool
-is_name_start byte = is_between 97 122 byte || is_between 65 90 byte || nat_eq byte 95
-
--- a decimal digit (3.5)
-abbrev pub is_digit : ℕ → Bool
-is_digit byte = is_between 48 57 byte
 
 -- a letter, an underscore, a digit or a dollar sign, with which a name goes on (3.7)
 abbrev pub is_name_byte : ℕ → Bool

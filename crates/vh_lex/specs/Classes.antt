@@ -2,7 +2,8 @@
 use Rattle.std.specs.Prelude.{ℕ, Bool}
 use Rattle.vh_lex.specs.declared.bytes.Class.{Class}
 use Rattle.vh_lex.specs.declared.bytes.Class.TheVariants.{Space, Line, Graphic, Source, Name, Digit, Decimal, BasedLetter, Based, Octal}
-use Rattle.vh_lex.specs.Bytes.{is_space, is_line_byte, is_graphic, is_source, is_name_byte, is_digit, is_decimal, is_based_letter, is_based, is_octal}
+use Rattle.vh_lex.specs.Bytes.{is_line_byte, is_graphic, is_source, is_name_byte, is_decimal, is_based_letter, is_based, is_octal}
+use Rattle.vh_base.specs.Classes.{is_space, is_digit}
 
 abbrev pub of_class : Class → ℕ → Bool
 of_class Space = is_space

@@ -11,7 +11,8 @@ use Rattle.vh_lex.specs.declared.conditional.Branch.{Branch}
 use Rattle.vh_lex.specs.declared.conditional.Branch.TheVariants as branch
 use Rattle.vh_lex.specs.declared.directive.Directive.{Directive}
 use Rattle.vh_lex.specs.declared.directive.Directive.TheVariants as directive
-use Rattle.vh_lex.specs.Bytes.{begins, is_space, is_line_end, is_digit, is_name_byte}
+use Rattle.vh_lex.specs.Bytes.{begins, is_line_end, is_name_byte}
+use Rattle.vh_base.specs.Classes.{is_space, is_digit}
 use Rattle.vh_lex.specs.Front.{Named, name_of, is_long, comment_len}
 use Rattle.vh_lex.specs.Made.{macro_of, with_macro}
 use Rattle.vh_lex.specs.Conditionals.{innermost, with_innermost, without_innermost, skips}

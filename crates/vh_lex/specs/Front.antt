@@ -11,7 +11,8 @@ use Rattle.vh_lex.specs.declared.token.Kind.TheVariants.{Word, Mark, Name, SysNa
 use Rattle.vh_lex.specs.declared.piece.Part.TheVariants.{Token, Module, Use}
 use Rattle.vh_lex.specs.declared.piece.Piece.{Piece}
 use Rattle.vh_lex.specs.declared.piece.Piece.TheVariants.{Blank, Kept, Fault}
-use Rattle.vh_lex.specs.Bytes.{begins, begins_with, through, is_line_byte, is_space, is_source, is_graphic, is_name_start, is_name_byte, is_digit}
+use Rattle.vh_lex.specs.Bytes.{begins, begins_with, through, is_line_byte, is_source, is_graphic, is_name_byte}
+use Rattle.vh_base.specs.Classes.{is_space, is_name_start, is_digit}
 use Rattle.vh_lex.specs.Keywords.{module_word, keyword_of}
 use Rattle.vh_lex.specs.Marks.{mark_at}
 use Rattle.vh_lex.specs.Numbers.{number_at}

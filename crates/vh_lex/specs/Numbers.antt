@@ -9,7 +9,8 @@ use Rattle.vh_lex.specs.declared.token.Kind.TheVariants.{Number}
 use Rattle.vh_lex.specs.declared.piece.Part.TheVariants.{Token}
 use Rattle.vh_lex.specs.declared.piece.Piece.{Piece}
 use Rattle.vh_lex.specs.declared.piece.Piece.TheVariants.{Kept, Fault}
-use Rattle.vh_lex.specs.Bytes.{begins, is_space, is_digit, is_decimal, is_based_letter, is_question, is_based, is_base_ten, is_base, is_sign_mark, is_exponent, is_plus_or_minus}
+use Rattle.vh_lex.specs.Bytes.{begins, is_decimal, is_based_letter, is_question, is_based, is_base_ten, is_base, is_sign_mark, is_exponent, is_plus_or_minus}
+use Rattle.vh_base.specs.Classes.{is_space, is_digit}
 
 -- a point with a digit behind it (3.5.2)
 abbrev pub begins_fraction : List ℕ → Bool

@@ -1,10 +1,10 @@
 ghost use Rattle.std.specs.Prelude.{◌≡◌, ◌≤◌, length, drop, take, IfOk, IfSome, nat_eq, false, true};
 ghost use Rattle.std.specs.List.{prefix_len};
+ghost use Rattle.vh_base.specs.Classes;
 ghost use Rattle.vh_lex.specs.Bytes;
 ghost use Rattle.vh_lex.specs.Classes.{of_class};
 
-use std::alloc::Global;
-use vh_base::{Bytes, NoMemory};
+use vh_base::{is_digit, is_name_start, is_space};
 
 /// A class of bytes.
 #[derive(Clone, Copy)]
@@ -62,13 +62,6 @@ pub(crate) fn run_len(class: Class, bytes: &[u8]) -> usize
     bytes.len()
 }
 
-/// White space (IEEE 1364-2005, 3.2).
-pub(crate) fn is_space(byte: u8) -> bool
-    ensures { result ≡ Bytes.is_space byte }
-{
-    matches!(byte, b'\t' | b'\n' | 0x0c | b'\r' | b' ')
-}
-
 /// What tokens are made of.
 pub(crate) fn is_graphic(byte: u8) -> bool
     ensures { result ≡ Bytes.is_graphic byte }
@@ -81,20 +74,6 @@ pub(crate) fn is_text(byte: u8) -> bool
     ensures { result ≡ Bytes.is_text byte }
 {
     matches!(byte, b' '..=b'~')
-}
-
-/// What a name begins with (IEEE 1364-2005, 3.7).
-pub(crate) fn is_name_start(byte: u8) -> bool
-    ensures { result ≡ Bytes.is_name_start byte }
-{
-    matches!(byte, b'a'..=b'z' | b'A'..=b'Z' | b'_')
-}
-
-/// A decimal digit (IEEE 1364-2005, 3.5).
-pub(crate) fn is_digit(byte: u8) -> bool
-    ensures { result ≡ Bytes.is_digit byte }
-{
-    matches!(byte, b'0'..=b'9')
 }
 
 /// A digit behind a base but `?` (IEEE 1364-2005, 3.5.1).
@@ -139,7 +118,7 @@ pub(crate) fn begins_with(first: u8, second: u8, bytes: &[u8]) -> bool
 
 /// Whether the bytes begin with a decimal digit.
 pub(crate) fn begins_digit(bytes: &[u8]) -> bool
-    ensures { result ≡ Bytes.begins Bytes.is_digit bytes.now }
+    ensures { result ≡ Bytes.begins Classes.is_digit bytes.now }
 {
     match bytes.first() {
         Some(first) => is_digit(*first),
@@ -182,11 +161,4 @@ pub(crate) fn through(first: u8, second: u8, bytes: &[u8]) -> Option<usize>
         half = *b == first;
     }
     None
-}
-
-/// The bytes in memory of their own.
-pub(crate) fn copied(alloc: Global, bytes: &[u8]) -> Result<Bytes, NoMemory>
-    ensures { IfOk result (λ copy. copy ≡ bytes.now) }
-{
-    Ok(Bytes::new(Vec::from_slice(alloc, bytes)?))
 }

@@ -3,7 +3,6 @@ ghost use Rattle.vh_lex.specs.Outcomes.{Makes};
 ghost use Rattle.vh_lex.specs.Spelling.{expanded, most_levels};
 ghost use Rattle.vh_lex.specs.Uses.{around_seen, Pauses, frames_seen, UsesText};
 
-use crate::bytes::copied;
 use crate::directive::is_directive;
 use crate::fault::Halt;
 use crate::macros::Macros;
@@ -12,7 +11,7 @@ use crate::piece::Part;
 use crate::setting::Setting;
 use crate::token::Kind;
 use std::alloc::Global;
-use vh_base::{DesignFault, NoMemory, Place};
+use vh_base::{Bytes, DesignFault, NoMemory, Place};
 
 /// The greatest number of uses of macros that are open at one time.
 const LEVEL_LIMIT: usize = 64;
@@ -102,9 +101,9 @@ fn copied_kind(alloc: Global, kind: &Kind) -> Result<Kind, NoMemory>
         Kind::Module(setting) => Ok(Kind::Module(*setting)),
         Kind::Word(keyword) => Ok(Kind::Word(*keyword)),
         Kind::Mark(mark) => Ok(Kind::Mark(*mark)),
-        Kind::Name(name) => Ok(Kind::Name(copied(alloc, name.as_slice())?)),
-        Kind::SysName(name) => Ok(Kind::SysName(copied(alloc, name.as_slice())?)),
-        Kind::Text(text) => Ok(Kind::Text(copied(alloc, text.as_slice())?)),
+        Kind::Name(name) => Ok(Kind::Name(Bytes::from_slice(alloc, name.as_slice())?)),
+        Kind::SysName(name) => Ok(Kind::SysName(Bytes::from_slice(alloc, name.as_slice())?)),
+        Kind::Text(text) => Ok(Kind::Text(Bytes::from_slice(alloc, text.as_slice())?)),
         Kind::Number(value, is_sized) => Ok(Kind::Number(*value, *is_sized)),
     }
 }

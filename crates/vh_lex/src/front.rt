@@ -2,9 +2,7 @@ ghost use Rattle.std.specs.Prelude.{◌≡◌, ◌≤◌, ◌<◌, ◌+◌, leng
 ghost use Rattle.vh_lex.specs.Front;
 ghost use Rattle.vh_lex.specs.Inside.{IsInside};
 
-use crate::bytes::{
-    Class, after, begins, begins_with, copied, is_digit, is_name_start, is_space, run_len, through,
-};
+use crate::bytes::{Class, after, begins, begins_with, run_len, through};
 use crate::keyword::keyword_of;
 use crate::mark::mark_at;
 use crate::name::{is_long, name_of};
@@ -13,7 +11,7 @@ use crate::piece::{Part, Piece};
 use crate::text::text_at;
 use crate::token::Kind;
 use std::alloc::Global;
-use vh_base::{DesignFault, NoMemory};
+use vh_base::{Bytes, DesignFault, NoMemory, is_digit, is_name_start, is_space};
 
 /// What the bytes begin with (IEEE 1364-2005, clause 3). It takes time in the number of bytes of
 /// that piece, and of white space behind it.
@@ -75,7 +73,10 @@ fn name_piece(alloc: Global, name: &[u8], len: usize) -> Result<Piece, NoMemory>
     if is_long(name) {
         return Ok(Piece::Fault(DesignFault::L6, 0));
     }
-    Ok(Piece::Kept(Part::Token(Kind::Name(copied(alloc, name)?)), len))
+    Ok(Piece::Kept(
+        Part::Token(Kind::Name(Bytes::from_slice(alloc, name)?)),
+        len,
+    ))
 }
 
 // A system name.
@@ -90,7 +91,10 @@ fn system_at(alloc: Global, bytes: &[u8]) -> Result<Piece, NoMemory>
     if is_long(name) {
         return Ok(Piece::Fault(DesignFault::L6, 0));
     }
-    Ok(Piece::Kept(Part::Token(Kind::SysName(copied(alloc, name)?)), name.len()))
+    Ok(Piece::Kept(
+        Part::Token(Kind::SysName(Bytes::from_slice(alloc, name)?)),
+        name.len(),
+    ))
 }
 
 // An escaped name.
@@ -111,7 +115,10 @@ fn use_at(alloc: Global, behind: &[u8]) -> Result<Piece, NoMemory>
     ensures inside { IfOk result (λ piece. IsInside piece (length behind.now + 1)) }
 {
     match name_of(behind) {
-        Some(named) => Ok(Piece::Kept(Part::Use(copied(alloc, named.name)?), named.len + 1)),
+        Some(named) => Ok(Piece::Kept(
+            Part::Use(Bytes::from_slice(alloc, named.name)?),
+            named.len + 1,
+        )),
         None => Ok(Piece::Fault(DesignFault::L1, 0)),
     }
 }

@@ -5,7 +5,8 @@ ghost use Rattle.std.specs.Option.{option_map};
 ghost use Rattle.vh_lex.specs.Front;
 ghost use Rattle.vh_lex.specs.Seen.{named_seen};
 
-use crate::bytes::{Class, begins, is_name_start, run_len};
+use crate::bytes::{Class, begins, run_len};
+use vh_base::is_name_start;
 
 /// The greatest number of bytes of a name.
 pub(crate) const NAME_LIMIT: usize = 1024;

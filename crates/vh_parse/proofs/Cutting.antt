@@ -8,7 +8,8 @@ use Rattle.std.proofs.Common.{length-take, length-drop}
 use Rattle.vh_base.specs.declared.first.FirstBit.{FirstBit}
 use Rattle.vh_base.specs.declared.first.FirstBit.TheVariants.{Zero, One, X, Z}
 use Rattle.vh_parse.specs.Token.{Token}
-use Rattle.vh_parse.specs.Spelling.{Piece, space, token, wrong, piece_at, piece_then, further, tokens_after, tokens_of, is_space, is_name_start, is_name_byte, is_digit, is_text_byte, is_mark, is_reserved, name_of, bit_at, number_of, text_at}
+use Rattle.vh_parse.specs.Spelling.{Piece, space, token, wrong, piece_at, piece_then, further, tokens_after, tokens_of, is_name_byte, is_text_byte, is_mark, is_reserved, name_of, bit_at, number_of, text_at}
+use Rattle.vh_base.specs.Classes.{is_space, is_name_start, is_digit}
 
 -- tokens before those that follow, if these are tokens
 abbrev pub tokens_before : List Token → Option (List Token) → Option (List Token)

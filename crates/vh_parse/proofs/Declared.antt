@@ -13,7 +13,8 @@ use Rattle.vh_parse.specs.Token.{Token}
 use Rattle.vh_parse.specs.Spelling.{tokens_of}
 use Rattle.vh_parse.specs.Tree.{Step, wait, assign, show, finish, Module}
 use Rattle.vh_parse.specs.Grammar.{module_of}
-use Rattle.vh_parse.specs.Meaning.{each, all_differ, names_in, blocks_in, code_of, design_with, design_of, tree_of, first_of}
+use Rattle.vh_base.specs.Lists.{each, all_differ}
+use Rattle.vh_parse.specs.Meaning.{names_in, blocks_in, code_of, design_with, design_of, tree_of, first_of}
 
 -- What a chain of options gives came from something.
 some_then : {A B : Type 0} (f : A → Option B) (o : Option A) (y : B) → option_and_then f o ≡ Some y → (x : A) × (f x ≡ Some y)

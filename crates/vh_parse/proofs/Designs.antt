@@ -6,7 +6,8 @@ use Rattle.std.specs.Option.{option_map}
 use Rattle.vh_base.specs.declared.first.First.{First}
 use Rattle.vh_base.specs.declared.first.FirstCode.{FirstCode}
 use Rattle.vh_parse.specs.Tree.{Module}
-use Rattle.vh_parse.specs.Meaning.{all_differ, each, code_of, names_in, blocks_in, design_with, design_of}
+use Rattle.vh_base.specs.Lists.{all_differ, each}
+use Rattle.vh_parse.specs.Meaning.{code_of, names_in, blocks_in, design_with, design_of}
 
 -- with the names that the module declares
 module _ (m : Module) (names : List (List ℕ)) (are : names ≡ flat_map names_in m.items) where

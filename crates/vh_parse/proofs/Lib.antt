@@ -2,7 +2,5 @@ pub mod Cutting
 pub mod Loops
 pub mod Rows
 pub mod Numbers
-pub mod Each
-pub mod Registers
 pub mod Designs
 pub mod Declared

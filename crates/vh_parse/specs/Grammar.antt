@@ -58,7 +58,7 @@ abbrev pub text_in : Token → Option (List ℕ)
 text_in (text bytes) = Some bytes
 text_in _ = None
 
--- the number that decimal digits spell (IEEE 1364-2005, 2.5.1)
+-- the number that decimal digits spell (IEEE 1364-2005, 3.5.1)
 abbrev pub number_of : List ℕ → ℕ
 number_of spelling = fold (λ n byte. 10 * n + (byte - 48)) 0 spelling
 

@@ -6,6 +6,7 @@ use Rattle.vh_base.specs.declared.first.First.{First}
 use Rattle.vh_base.specs.declared.first.FirstCode.{FirstCode}
 use Rattle.vh_base.specs.declared.first.FirstCode.TheVariants.{Wait, Assign, Show, Finish}
 use Rattle.vh_grammar.specs.Reading.{Out, got, stop}
+use Rattle.vh_base.specs.Lists.{all_differ, each}
 use Rattle.vh_parse.specs.Token.{Token}
 use Rattle.vh_parse.specs.Spelling.{tokens_of}
 use Rattle.vh_parse.specs.Tree.{Step, wait, assign, show, finish, Item, registers, initial, Module}
@@ -20,16 +21,6 @@ names_in (initial steps) = []
 abbrev pub blocks_in : Item → List (List Step)
 blocks_in (registers names) = []
 blocks_in (initial steps) = steps ∷ []
-
--- no name is declared twice in one scope (IEEE 1364-2005, 12.8)
-abbrev pub all_differ : List (List ℕ) → Bool
-all_differ [] = true
-all_differ (name ∷ names) = not (list_any (bytes_eq name) names) && all_differ names
-
--- what the function makes of each, if it makes something of each
-abbrev pub each : {A B : Type 0} → (A → Option B) → List A → Option (List B)
-each f [] = Some []
-each f (x ∷ xs) = option_and_then (λ y. option_map (λ ys. y ∷ ys) (each f xs)) (f x)
 
 -- a step, its register by the place of its name from 0 on; a name that is not declared has none, and
 -- it may be declared later in the text (own)

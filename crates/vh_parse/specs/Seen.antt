@@ -1,6 +1,7 @@
 -- How contracts see what the code holds: without where it lies in memory.
 use Rattle.std.specs.Prelude.{◌≡◌, ◌<◌, length, ℕ, List, ◌++◌, map, Bool, Option, Result, Ok, Err}
 use Rattle.std.specs.Borrow.{Bor}
+use Rattle.vh_base.specs.Lists.{names_seen}
 use Rattle.vh_parse.specs.declared.token.Token.{Token as Held}
 use Rattle.vh_parse.specs.declared.token.Token.TheVariants.{Word, Name, System, Digits, Bit, Text, Mark}
 use Rattle.vh_parse.specs.declared.lexer.Piece.{Piece as HeldPiece}
@@ -47,10 +48,6 @@ step_seen steps.Finish = finish
 
 abbrev pub steps_seen : List HeldStep → List Step
 steps_seen = map step_seen
-
--- names of the code (own)
-abbrev pub names_seen : List (Bor (List ℕ)) → List (List ℕ)
-names_seen = map (λ name. name.now)
 
 -- items of the code (own)
 abbrev pub item_seen : HeldItem → Item

@@ -4,30 +4,15 @@ use Rattle.std.specs.List.{list_any, prefix_len, starts_with}
 use Rattle.std.specs.Option.{option_map}
 use Rattle.vh_base.specs.declared.first.FirstBit.{FirstBit}
 use Rattle.vh_base.specs.declared.first.FirstBit.TheVariants.{Zero, One, X, Z}
+use Rattle.vh_base.specs.Classes.{is_between, is_space, is_name_start, is_digit}
 use Rattle.vh_parse.specs.Token.{Token, word, name, system, digits, sized, text, mark}
 
--- a byte of a range
-abbrev pub is_between : ℕ → ℕ → ℕ → Bool
-is_between low high byte = nat_le low byte && nat_le byte high
-
--- white space: tab, line feed, form feed, carriage return, blank (IEEE 1364-2005, 2.2)
-abbrev pub is_space : ℕ → Bool
-is_space byte = nat_eq byte 9 || nat_eq byte 10 || nat_eq byte 12 || nat_eq byte 13 || nat_eq byte 32
-
--- a letter or an underscore, with which a name begins (IEEE 1364-2005, 2.7)
-abbrev pub is_name_start : ℕ → Bool
-is_name_start byte = is_between 97 122 byte || is_between 65 90 byte || nat_eq byte 95
-
--- a decimal digit (IEEE 1364-2005, 2.5)
-abbrev pub is_digit : ℕ → Bool
-is_digit byte = is_between 48 57 byte
-
--- a letter, an underscore, a digit or a dollar sign, with which a name goes on (IEEE 1364-2005, 2.7)
+-- a letter, an underscore, a digit or a dollar sign, with which a name goes on (IEEE 1364-2005, 3.7)
 abbrev pub is_name_byte : ℕ → Bool
 is_name_byte byte = is_name_start byte || is_digit byte || nat_eq byte 36
 
 -- what a string may hold: printable bytes without the quote, the backslash and the percent sign (own;
--- IEEE 1364-2005, 2.6)
+-- IEEE 1364-2005, 3.6)
 abbrev pub is_text_byte : ℕ → Bool
 is_text_byte byte = is_between 32 126 byte && not (nat_eq byte 34 || nat_eq byte 92 || nat_eq byte 37)
 
@@ -64,7 +49,7 @@ reserved_words =
     codes "uwire" ∷ codes "vectored" ∷ codes "wait" ∷ codes "wand" ∷ codes "weak0" ∷
     codes "weak1" ∷ codes "while" ∷ codes "wire" ∷ codes "wor" ∷ codes "xnor" ∷ codes "xor" ∷ []
 
--- a name that is reserved (IEEE 1364-2005, 2.8)
+-- a name that is reserved (IEEE 1364-2005, 3.7.2)
 abbrev pub is_reserved : List ℕ → Bool
 is_reserved bytes = list_any (λ reserved. bytes_eq reserved bytes) reserved_words
 
@@ -75,7 +60,7 @@ pub data Piece : Type 0 where
   wrong : Piece
 
 -- the name that the bytes begin with, of 1,024 bytes at most, or the reserved word; read whole
--- (IEEE 1364-2005, 2.7 and 2.7.1)
+-- (IEEE 1364-2005, 3.7 and 3.7.1)
 abbrev pub name_of : List ℕ → ℕ → Piece
 name_of bytes len =
     if is_reserved bytes then token (word bytes) len
@@ -84,11 +69,11 @@ name_of bytes len =
 abbrev pub name_at : List ℕ → Piece
 name_at bytes = name_of (take (prefix_len is_name_byte bytes) bytes) (prefix_len is_name_byte bytes)
 
--- the system name that the bytes begin with, read whole (IEEE 1364-2005, 2.7.4)
+-- the system name that the bytes begin with, read whole (IEEE 1364-2005, 3.7.3)
 abbrev pub system_at : List ℕ → Piece
 system_at bytes = token (system (take (prefix_len is_name_byte bytes) bytes)) (prefix_len is_name_byte bytes)
 
--- the digit whose sized number the bytes begin with, spelled exactly so (own; IEEE 1364-2005, 2.5.1)
+-- the digit whose sized number the bytes begin with, spelled exactly so (own; IEEE 1364-2005, 3.5.1)
 abbrev pub bit_at : List ℕ → Option FirstBit
 bit_at bytes =
     if starts_with nat_eq bytes (codes "1'b0") then Some Zero
@@ -96,18 +81,18 @@ bit_at bytes =
     else (if starts_with nat_eq bytes (codes "1'bx") then Some X
     else (if starts_with nat_eq bytes (codes "1'bz") then Some Z else None)))
 
--- the sized number that the bytes begin with, or else the digits (IEEE 1364-2005, 2.5.1)
+-- the sized number that the bytes begin with, or else the digits (IEEE 1364-2005, 3.5.1)
 abbrev pub number_of : Option FirstBit → List ℕ → Piece
 number_of (Some bit) bytes = token (sized bit) 4
 number_of None bytes = token (digits (take (prefix_len is_digit bytes) bytes)) (prefix_len is_digit bytes)
 
--- the string of 4,096 bytes at most that the bytes begin with, after its first quote (IEEE 1364-2005, 2.6)
+-- the string of 4,096 bytes at most that the bytes begin with, after its first quote (IEEE 1364-2005, 3.6)
 abbrev pub text_at : List ℕ → Piece
 text_at bytes =
     if nat_le (prefix_len is_text_byte bytes) 4096 && starts_with nat_eq (drop (prefix_len is_text_byte bytes) bytes) (codes "\"")
     then token (text (take (prefix_len is_text_byte bytes) bytes)) (prefix_len is_text_byte bytes + 2) else wrong
 
--- what the bytes begin with; a byte that no token has makes no text (IEEE 1364-2005, 2.1)
+-- what the bytes begin with; a byte that no token has makes no text (IEEE 1364-2005, 3.1)
 abbrev pub piece_at : List ℕ → Piece
 piece_at [] = wrong
 piece_at (byte ∷ bytes) =
@@ -137,6 +122,6 @@ tokens_after (suc skip) (byte ∷ bytes) = tokens_after skip bytes
 tokens_after zero (byte ∷ bytes) =
     piece_then (piece_at (byte ∷ bytes)) (tokens_after (further (piece_at (byte ∷ bytes))) bytes)
 
--- the tokens that the bytes spell, if they spell any (IEEE 1364-2005, 2.1)
+-- the tokens that the bytes spell, if they spell any (IEEE 1364-2005, 3.1)
 abbrev pub tokens_of : List ℕ → Option (List Token)
 tokens_of bytes = tokens_after 0 bytes

@@ -1,6 +1,8 @@
 ghost use Rattle.std.specs.Prelude.{◌≡◌};
 ghost use Rattle.vh_parse.specs.Spelling;
 
+use vh_base::{is_digit, is_name_start};
+
 /// The reserved words (IEEE 1364-2005, Annex B).
 const RESERVED: [&[u8]; 124] = [
     b"always",
@@ -129,32 +131,11 @@ const RESERVED: [&[u8]; 124] = [
     b"xor",
 ];
 
-/// White space (IEEE 1364-2005, 2.2).
-pub fn is_space(byte: u8) -> bool
-    ensures { result ≡ Spelling.is_space byte }
-{
-    matches!(byte, b'\t' | b'\n' | 0x0c | b'\r' | b' ')
-}
-
-/// What a name begins with (IEEE 1364-2005, 2.7).
-pub fn is_name_start(byte: u8) -> bool
-    ensures { result ≡ Spelling.is_name_start byte }
-{
-    matches!(byte, b'a'..=b'z' | b'A'..=b'Z' | b'_')
-}
-
-/// What a name goes on with (IEEE 1364-2005, 2.7).
+/// What a name goes on with (IEEE 1364-2005, 3.7).
 pub fn is_name_byte(byte: u8) -> bool
     ensures { result ≡ Spelling.is_name_byte byte }
 {
     is_name_start(byte) || is_digit(byte) || byte == b'$'
-}
-
-/// A decimal digit (IEEE 1364-2005, 2.5).
-pub fn is_digit(byte: u8) -> bool
-    ensures { result ≡ Spelling.is_digit byte }
-{
-    matches!(byte, b'0'..=b'9')
 }
 
 /// What a string of the first texts is made of.

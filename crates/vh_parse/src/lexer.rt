@@ -1,15 +1,14 @@
 ghost use Rattle.std.specs.Prelude.{◌≡◌, ◌<◌, ◌≤◌, length, Some, None, IfOk};
 ghost use Rattle.std.specs.List.{prefix_len};
+ghost use Rattle.vh_base.specs.Classes;
 ghost use Rattle.vh_parse.specs.Spelling;
 ghost use Rattle.vh_parse.specs.Seen.{tokens_seen, piece_seen};
 
-use crate::bytes::{
-    is_digit, is_mark, is_name_byte, is_name_start, is_reserved, is_space, is_text_byte,
-};
+use crate::bytes::{is_mark, is_name_byte, is_reserved, is_text_byte};
 use crate::fault::FirstFault;
 use crate::token::Token;
 use std::alloc::Global;
-use vh_base::FirstBit;
+use vh_base::{FirstBit, is_digit, is_name_start, is_space};
 
 /// The greatest number of bytes of a name.
 const NAME_LIMIT: usize = 1024;
@@ -146,7 +145,7 @@ fn name_length(bytes: &[u8]) -> usize
 }
 
 fn digit_length(bytes: &[u8]) -> usize
-    ensures length { result ≡ prefix_len Spelling.is_digit bytes.now }
+    ensures length { result ≡ prefix_len Classes.is_digit bytes.now }
     ensures within { result ≤ length bytes.now }
 {
     let mut rest = bytes;

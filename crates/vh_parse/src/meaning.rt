@@ -1,7 +1,8 @@
 ghost use Rattle.std.specs.Prelude.{◌≡◌, ◌≢◌, ◌++◌, List, ℕ, Some, None, true, false, IfOk, OnOk, flat_map, position};
 ghost use Rattle.std.specs.Str.{bytes_eq};
 ghost use Rattle.vh_parse.specs.Meaning;
-ghost use Rattle.vh_parse.specs.Seen.{module_seen, items_seen, steps_seen, step_seen, names_seen};
+ghost use Rattle.vh_parse.specs.Seen.{module_seen, items_seen, steps_seen, step_seen};
+ghost use Rattle.vh_base.specs.Lists.{all_differ, each, names_seen};
 
 use crate::fault::FirstFault;
 use crate::tree::{Item, Module, Step};
@@ -33,9 +34,9 @@ pub fn design(alloc: Global, parsed: &Module<'_>) -> Result<First, FirstFault>
 fn registers<'a>(alloc: Global, items: &[Item<'a>]) -> Result<IndexSet<&'a [u8]>, FirstFault>
     ensures names { IfOk result (λ set.
         names_seen set.keys ≡ flat_map Meaning.names_in (items_seen items.now)) }
-    ensures differ { IfOk result (λ set. Meaning.all_differ (names_seen set.keys) ≡ true) }
+    ensures differ { IfOk result (λ set. all_differ (names_seen set.keys) ≡ true) }
     ensures not_built { result ≡ Err FirstFault.NotBuilt →
-        Meaning.all_differ (flat_map Meaning.names_in (items_seen items.now)) ≡ false }
+        all_differ (flat_map Meaning.names_in (items_seen items.now)) ≡ false }
 {
     let mut registers = IndexSet::new(alloc);
     for item in items {
@@ -52,9 +53,9 @@ fn add<'a>(registers: &mut IndexSet<&'a [u8]>, names: &[&'a [u8]]) -> Result<(),
     ensures names { OnOk result (
         names_seen registers.new.keys ≡ names_seen registers.old.keys ++ names_seen names.now) }
     ensures differ { OnOk result (
-        Meaning.all_differ (names_seen registers.new.keys) ≡ Meaning.all_differ (names_seen registers.old.keys)) }
+        all_differ (names_seen registers.new.keys) ≡ all_differ (names_seen registers.old.keys)) }
     ensures not_built { result ≡ Err FirstFault.NotBuilt → (more : List (List ℕ)) →
-        Meaning.all_differ (names_seen registers.old.keys ++ names_seen names.now ++ more) ≡ false }
+        all_differ (names_seen registers.old.keys ++ names_seen names.now ++ more) ≡ false }
 {
     for name in names {
         let (_, is_new) = registers.insert_full(*name)?;
@@ -72,10 +73,10 @@ fn blocks(
     registers: &IndexSet<&[u8]>,
 ) -> Result<Vec<Sequence<FirstCode>>, FirstFault>
     ensures built { IfOk result (λ found.
-        Meaning.each (Meaning.each (Meaning.code_of (names_seen registers.now.keys)))
+        each (each (Meaning.code_of (names_seen registers.now.keys)))
         (flat_map Meaning.blocks_in (items_seen items.now)) ≡ Some found.items) }
     ensures not_built { result ≡ Err FirstFault.NotBuilt →
-        Meaning.each (Meaning.each (Meaning.code_of (names_seen registers.now.keys)))
+        each (each (Meaning.code_of (names_seen registers.now.keys)))
         (flat_map Meaning.blocks_in (items_seen items.now)) ≡ None }
 {
     let mut found = Vec::new(alloc);
@@ -95,9 +96,9 @@ fn code(
     registers: &IndexSet<&[u8]>,
 ) -> Result<Vec<FirstCode>, FirstFault>
     ensures built { IfOk result (λ found.
-        Meaning.each (Meaning.code_of (names_seen registers.now.keys)) (steps_seen steps.now) ≡ Some found.items) }
+        each (Meaning.code_of (names_seen registers.now.keys)) (steps_seen steps.now) ≡ Some found.items) }
     ensures not_built { result ≡ Err FirstFault.NotBuilt →
-        Meaning.each (Meaning.code_of (names_seen registers.now.keys)) (steps_seen steps.now) ≡ None }
+        each (Meaning.code_of (names_seen registers.now.keys)) (steps_seen steps.now) ≡ None }
 {
     let mut found = Vec::new(alloc);
     for step in steps {

@@ -2,7 +2,8 @@ ghost use Rattle.std.specs.Prelude.{◌≡◌, ◌<◌, length, codes, Some, Non
 ghost use Rattle.vh_grammar.specs.Reading.{reader};
 ghost use Rattle.vh_parse.specs.Grammar;
 ghost use Rattle.vh_parse.specs.Meaning;
-ghost use Rattle.vh_parse.specs.Seen.{tokens_seen, steps_seen, module_seen, item_seen, names_seen, Adds, ReadsPart, AddsPart, TakesToken, TakesMeaning, token_is_next, IsShorter, IsShorterBeside};
+ghost use Rattle.vh_parse.specs.Seen.{tokens_seen, steps_seen, module_seen, item_seen, Adds, ReadsPart, AddsPart, TakesToken, TakesMeaning, token_is_next, IsShorter, IsShorterBeside};
+ghost use Rattle.vh_base.specs.Lists.{names_seen};
 
 use crate::fault::FirstFault;
 use crate::token::Token;

@@ -51,22 +51,8 @@ fn noted(activation: Activation, answer: &Answer) -> Activation
 {
     let mut further = activation;
     further.seen.step = further.seen.step.saturating_add(1);
-    further.seen.last = copied(answer);
+    further.seen.last = answer.copy();
     further
-}
-
-// The same answer once more.
-fn copied(answer: &Answer) -> Answer
-    ensures { result ≡ answer.now }
-{
-    match answer {
-        Answer::Done => Answer::Done,
-        Answer::Null => Answer::Null,
-        Answer::Handle(handle) => Answer::Handle(*handle),
-        Answer::Number(number) => Answer::Number(*number),
-        Answer::Text(text) => Answer::Text(text.copy()),
-        Answer::Refused(code) => Answer::Refused(*code),
-    }
 }
 
 // A value as text, if there is one.

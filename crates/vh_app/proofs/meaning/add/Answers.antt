@@ -1,5 +1,5 @@
 use Rattle.std.proofs.Common.{[]}
-use Rattle.vh_app.proofs.Names.{add-repeats, add-keeps}
+use Rattle.vh_base.proofs.Names.{add-repeats, add-keeps}
 use Rattle.vh_app.proofs.meaning.add.Goals as goal
 
 pub returns-then-not-is_new-clause-not_read : goal.returns-then-not-is_new-clause-not_read

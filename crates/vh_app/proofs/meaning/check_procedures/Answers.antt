@@ -1,6 +1,6 @@
 use Rattle.std.proofs.Common.{◌∙◌, ap}
-use Rattle.vh_app.specs.Seen.{names_seen}
-use Rattle.vh_app.proofs.Names.{differ-only}
+use Rattle.vh_base.specs.Lists.{names_seen}
+use Rattle.vh_base.proofs.Names.{differ-only}
 use Rattle.vh_app.proofs.meaning.check_procedures.Goals as goal
 
 pub returns-clause-not_read : goal.returns-clause-not_read

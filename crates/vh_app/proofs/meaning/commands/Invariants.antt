@@ -1,7 +1,8 @@
 use Rattle.std.proofs.Common.{◌≡◌, drop}
-use Rattle.vh_app.specs.Meaning.{each, command_of}
-use Rattle.vh_app.specs.Seen.{names_seen, commands_seen}
-use Rattle.vh_app.proofs.Each.{onto}
+use Rattle.vh_base.specs.Lists.{each, names_seen}
+use Rattle.vh_app.specs.Meaning.{command_of}
+use Rattle.vh_app.specs.Seen.{commands_seen}
+use Rattle.vh_base.proofs.Each.{onto}
 use Rattle.vh_app.proofs.meaning.commands.Given as goal
 
 abbrev pub invariant-loop-command : goal.invariant-loop-command

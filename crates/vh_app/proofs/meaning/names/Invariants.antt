@@ -1,7 +1,7 @@
 use Rattle.std.proofs.Common.{◌≡◌, drop}
-use Rattle.vh_app.specs.Meaning.{each, name_of}
-use Rattle.vh_app.specs.Seen.{names_seen}
-use Rattle.vh_app.proofs.Each.{onto}
+use Rattle.vh_base.specs.Lists.{each, names_seen}
+use Rattle.vh_app.specs.Meaning.{name_of}
+use Rattle.vh_base.proofs.Each.{onto}
 use Rattle.vh_app.proofs.meaning.names.Given as goal
 
 abbrev pub invariant-loop-name : goal.invariant-loop-name

@@ -1,6 +1,6 @@
 use Rattle.std.proofs.Common.{◌∙◌, sym}
 use Rattle.std.specs.Str.{bytes_eq}
-use Rattle.vh_app.proofs.Names.{position-seen}
+use Rattle.vh_base.proofs.Names.{position-seen}
 use Rattle.vh_app.proofs.meaning.number.Goals as goal
 
 pub returns-in-Some-clause-read : goal.returns-in-Some-clause-read

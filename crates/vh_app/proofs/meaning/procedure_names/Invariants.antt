@@ -1,6 +1,7 @@
 use Rattle.std.proofs.Common.{◌≡◌, ◌++◌, drop}
 use Rattle.vh_app.specs.Meaning.{procedure_names}
-use Rattle.vh_app.specs.Seen.{names_seen, procedures_seen}
+use Rattle.vh_base.specs.Lists.{names_seen}
+use Rattle.vh_app.specs.Seen.{procedures_seen}
 use Rattle.vh_app.proofs.meaning.procedure_names.Given as goal
 
 abbrev pub invariant-loop-procedure : goal.invariant-loop-procedure

@@ -1,7 +1,8 @@
 use Rattle.std.proofs.Common.{◌≡◌, drop}
-use Rattle.vh_app.specs.Meaning.{each, procedure_of}
-use Rattle.vh_app.specs.Seen.{names_seen, procedures_seen}
-use Rattle.vh_app.proofs.Each.{onto}
+use Rattle.vh_base.specs.Lists.{each, names_seen}
+use Rattle.vh_app.specs.Meaning.{procedure_of}
+use Rattle.vh_app.specs.Seen.{procedures_seen}
+use Rattle.vh_base.proofs.Each.{onto}
 use Rattle.vh_app.proofs.meaning.procedures.Given as goal
 
 abbrev pub invariant-loop-procedure : goal.invariant-loop-procedure

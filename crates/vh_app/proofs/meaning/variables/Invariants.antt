@@ -1,6 +1,6 @@
 use Rattle.std.proofs.Common.{◌≡◌, ◌++◌, true, drop, map}
-use Rattle.vh_app.specs.Meaning.{all_differ, all_names}
-use Rattle.vh_app.specs.Seen.{names_seen}
+use Rattle.vh_base.specs.Lists.{all_differ, names_seen}
+use Rattle.vh_app.specs.Meaning.{all_names}
 use Rattle.vh_app.proofs.meaning.variables.Given as goal
 
 abbrev pub invariant-loop-names : goal.invariant-loop-names

@@ -2,7 +2,8 @@ use Rattle.std.proofs.Common.{◌∙◌, sym, map, codes}
 use Rattle.std.proofs.lemmas.Result.{err_from_is_err_and}
 use Rattle.std.proofs.lemmas.List.{map_push}
 use Rattle.vh_app.specs.Grammar.{is_word, declarations, declaration}
-use Rattle.vh_app.specs.Seen.{tokens_seen, names_seen}
+use Rattle.vh_app.specs.Seen.{tokens_seen}
+use Rattle.vh_base.specs.Lists.{names_seen}
 use Rattle.vh_app.proofs.Loops.{loop-begins, loop-goes, loop-stops, loop-ends, turn-less, declaration-eats}
 use Rattle.vh_app.proofs.parser.declarations.Goals as goal
 

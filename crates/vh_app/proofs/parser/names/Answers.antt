@@ -2,7 +2,8 @@ use Rattle.std.proofs.Common.{◌∙◌, sym}
 use Rattle.std.proofs.lemmas.Result.{err_from_is_err_and}
 use Rattle.std.proofs.lemmas.List.{map_push}
 use Rattle.vh_app.specs.Grammar.{is_mark, comma}
-use Rattle.vh_app.specs.Seen.{tokens_seen, names_seen}
+use Rattle.vh_app.specs.Seen.{tokens_seen}
+use Rattle.vh_base.specs.Lists.{names_seen}
 use Rattle.vh_app.proofs.Loops.{one_name, loop-goes, loop-stops, loop-ends, turn-less, names-begin, one_name-read, one_name-stopped}
 use Rattle.vh_app.proofs.parser.names.Goals as goal
 use Rattle.std.proofs.Common.{refl}

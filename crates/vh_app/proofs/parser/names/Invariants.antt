@@ -1,7 +1,8 @@
 use Rattle.std.proofs.Common.{◌≡◌, length}
 use Rattle.vh_grammar.specs.Reading.{read, joined}
 use Rattle.vh_app.specs.Grammar.{grammar, names}
-use Rattle.vh_app.specs.Seen.{tokens_seen, names_seen}
+use Rattle.vh_app.specs.Seen.{tokens_seen}
+use Rattle.vh_base.specs.Lists.{names_seen}
 use Rattle.vh_app.proofs.Loops.{more_names}
 use Rattle.vh_app.proofs.parser.names.Given as goal
 

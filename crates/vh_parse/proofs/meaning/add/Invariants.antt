@@ -1,6 +1,5 @@
 use Rattle.std.proofs.Common.{◌≡◌, ◌++◌, drop}
-use Rattle.vh_parse.specs.Meaning.{all_differ}
-use Rattle.vh_parse.specs.Seen.{names_seen}
+use Rattle.vh_base.specs.Lists.{all_differ, names_seen}
 use Rattle.vh_parse.proofs.meaning.add.Given as goal
 
 abbrev pub invariant-loop-name : goal.invariant-loop-name

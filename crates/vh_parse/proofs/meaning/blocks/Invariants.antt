@@ -1,7 +1,8 @@
 use Rattle.std.proofs.Common.{◌≡◌, drop, flat_map}
-use Rattle.vh_parse.specs.Meaning.{each, code_of, blocks_in}
-use Rattle.vh_parse.specs.Seen.{names_seen, items_seen}
-use Rattle.vh_parse.proofs.Each.{onto}
+use Rattle.vh_base.specs.Lists.{each, names_seen}
+use Rattle.vh_parse.specs.Meaning.{code_of, blocks_in}
+use Rattle.vh_parse.specs.Seen.{items_seen}
+use Rattle.vh_base.proofs.Each.{onto}
 use Rattle.vh_parse.proofs.meaning.blocks.Given as goal
 
 abbrev pub invariant-loop-item : goal.invariant-loop-item

@@ -1,7 +1,8 @@
 use Rattle.std.proofs.Common.{◌≡◌, drop}
-use Rattle.vh_parse.specs.Meaning.{each, code_of}
-use Rattle.vh_parse.specs.Seen.{names_seen, steps_seen}
-use Rattle.vh_parse.proofs.Each.{onto}
+use Rattle.vh_base.specs.Lists.{each, names_seen}
+use Rattle.vh_parse.specs.Meaning.{code_of}
+use Rattle.vh_parse.specs.Seen.{steps_seen}
+use Rattle.vh_base.proofs.Each.{onto}
 use Rattle.vh_parse.proofs.meaning.code.Given as goal
 
 abbrev pub invariant-loop-step : goal.invariant-loop-step

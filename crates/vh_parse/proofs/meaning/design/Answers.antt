@@ -1,9 +1,10 @@
 use Rattle.std.proofs.Common.{◌∙◌, sym, ap, Err, flat_map}
 use Rattle.std.specs.Str.{bytes_eq}
 use Rattle.std.proofs.lemmas.Result.{err_from_is_err_and}
-use Rattle.vh_parse.specs.Meaning.{names_in, blocks_in, each, code_of}
-use Rattle.vh_parse.specs.Seen.{items_seen, names_seen, module_seen}
-use Rattle.vh_parse.proofs.Registers.{list_any-seen}
+use Rattle.vh_parse.specs.Meaning.{names_in, blocks_in, code_of}
+use Rattle.vh_base.specs.Lists.{each, names_seen}
+use Rattle.vh_parse.specs.Seen.{items_seen, module_seen}
+use Rattle.vh_base.proofs.Names.{list_any-seen}
 use Rattle.vh_parse.proofs.Designs.{design-clash, design-none, design-some, fault-same}
 use Rattle.vh_parse.proofs.meaning.design.Goals as goal
 

@@ -1,5 +1,5 @@
 use Rattle.std.proofs.Common.{◌≡◌, take}
-use Rattle.vh_parse.specs.Seen.{names_seen}
+use Rattle.vh_base.specs.Lists.{names_seen}
 use Rattle.vh_parse.proofs.meaning.names.Given as goal
 
 abbrev pub invariant-loop-name : goal.invariant-loop-name

@@ -1,6 +1,6 @@
 use Rattle.std.proofs.Common.{◌∙◌, sym}
 use Rattle.std.specs.Str.{bytes_eq}
-use Rattle.vh_parse.proofs.Registers.{position-seen}
+use Rattle.vh_base.proofs.Names.{position-seen}
 use Rattle.vh_parse.proofs.meaning.number.Goals as goal
 
 pub returns-in-Some-clause-built : goal.returns-in-Some-clause-built

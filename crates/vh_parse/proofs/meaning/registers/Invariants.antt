@@ -1,6 +1,7 @@
 use Rattle.std.proofs.Common.{◌≡◌, ◌++◌, true, drop, flat_map}
-use Rattle.vh_parse.specs.Meaning.{all_differ, names_in}
-use Rattle.vh_parse.specs.Seen.{names_seen, items_seen}
+use Rattle.vh_base.specs.Lists.{all_differ, names_seen}
+use Rattle.vh_parse.specs.Meaning.{names_in}
+use Rattle.vh_parse.specs.Seen.{items_seen}
 use Rattle.vh_parse.proofs.meaning.registers.Given as goal
 
 abbrev pub invariant-loop-item : goal.invariant-loop-item

@@ -3,7 +3,8 @@ use Rattle.std.proofs.lemmas.Result.{err_from_is_err_and}
 use Rattle.vh_grammar.specs.Reading.{got, then_, token_of, read}
 use Rattle.vh_parse.specs.Tree.{registers}
 use Rattle.vh_parse.specs.Grammar.{grammar, names, only, is_mark, semicolon}
-use Rattle.vh_parse.specs.Seen.{tokens_seen, names_seen}
+use Rattle.vh_parse.specs.Seen.{tokens_seen}
+use Rattle.vh_base.specs.Lists.{names_seen}
 use Rattle.vh_parse.proofs.Loops.{declared, declaration-begins, stops-then}
 use Rattle.vh_parse.proofs.parser.declaration.Goals as goal
 

@@ -1,7 +1,8 @@
 use Rattle.std.proofs.Common.{◌∙◌, sym, arith}
 use Rattle.std.proofs.lemmas.Result.{err_from_is_err_and}
 use Rattle.std.proofs.lemmas.List.{map_push}
-use Rattle.vh_parse.specs.Seen.{tokens_seen, names_seen}
+use Rattle.vh_parse.specs.Seen.{tokens_seen}
+use Rattle.vh_base.specs.Lists.{names_seen}
 use Rattle.vh_parse.proofs.Loops.{names-begin, names-go, names-stopped}
 use Rattle.vh_parse.proofs.parser.names.Goals as goal
 

@@ -1,7 +1,8 @@
 use Rattle.std.proofs.Common.{◌≡◌, ◌<◌, length}
 use Rattle.vh_grammar.specs.Reading.{read, joined}
 use Rattle.vh_parse.specs.Grammar.{grammar, names}
-use Rattle.vh_parse.specs.Seen.{tokens_seen, names_seen}
+use Rattle.vh_parse.specs.Seen.{tokens_seen}
+use Rattle.vh_base.specs.Lists.{names_seen}
 use Rattle.vh_parse.proofs.Loops.{more_names}
 use Rattle.vh_parse.proofs.parser.names.Given as goal
 

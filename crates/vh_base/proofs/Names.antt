@@ -1,13 +1,12 @@
 -- Names that differ, a name at a time.
-use Rattle.std.proofs.Common.{◌≡◌, ℕ, suc, ◌+◌, ◌<◌, Bool, true, false, not, ◌&&◌, ◌||◌, cond, nat_eq, List, [], ◌∷◌, ◌++◌, length, drop, get_or, add-one, Bor, refl, ap, sym, ◌∙◌, append_assoc, arith}
+use Rattle.std.proofs.Common.{◌≡◌, ℕ, suc, ◌+◌, ◌<◌, Bool, true, false, not, ◌&&◌, ◌||◌, cond, nat_eq, List, [], ◌∷◌, ◌++◌, length, drop, get_or, add-one, Bor, refl, ap, sym, ◌∙◌, append_assoc, append-nil, arith}
 use Rattle.std.specs.List.{list_any, position, prefix_len}
 use Rattle.std.specs.Str.{bytes_eq}
 use Rattle.std.proofs.lemmas.Bool.Decides.{nat_tests}
 use Rattle.std.proofs.lemmas.List.{length-map, map_push}
 use Rattle.std.proofs.Math.Seq.{drop-cons}
 use Rattle.std.proofs.lemmas.List.Folds.{list_any-append}
-use Rattle.vh_parse.specs.Meaning.{all_differ}
-use Rattle.vh_parse.specs.Seen.{names_seen}
+use Rattle.vh_base.specs.Lists.{all_differ, names_seen}
 
 -- the place of a name among the names of the code
 pub position-seen : (p : List ℕ → Bool) (keys : List (Bor (List ℕ))) → position p (names_seen keys) ≡ position (λ key. p key.now) keys
@@ -106,3 +105,9 @@ add-keeps keys keys' names i next all is_new differ h e d added tested grown = (
 
     keys_are : names_seen keys' ≡ names_seen keys ++ (get_or names i next).now ∷ []
     keys_are = ap names_seen (grown ∙ ap (λ b. cond b keys (keys ++ get_or names i next ∷ [])) is_absent) ∙ map_push (λ key. key.now) keys (get_or names i next)
+
+-- names that repeat, where none was declared before
+pub differ-only : (old names : List (Bor (List ℕ))) (all : List (List ℕ)) → old ≡ [] → names_seen names ≡ all
+    → ((more : List (List ℕ)) → all_differ (names_seen old ++ names_seen names ++ more) ≡ false) → all_differ all ≡ false
+differ-only old names all e f h =
+    ap all_differ (sym (append-nil (names_seen old ++ names_seen names) ∙ ap (λ keys. names_seen keys ++ names_seen names) e ∙ f)) ∙ h []
