@@ -16,7 +16,7 @@ use Rattle.vh_callbacks.proofs.Rising.{at_eq}
 use Rattle.vh_callbacks.proofs.Telling.{live_below}
 
 -- Numbers that rise from one on rise from any below it.
-from_lower : (low lower : ℕ) (numbers : List ℕ) → lower ≤ low → IsRising low numbers → IsRising lower numbers
+pub from_lower : (low lower : ℕ) (numbers : List ℕ) → lower ≤ low → IsRising low numbers → IsRising lower numbers
 from_lower low lower [] below rising = tt
 from_lower low lower (n ∷ numbers) below rising = ((let h = rising.0 in omega arith), rising.1)
 

@@ -3,14 +3,10 @@ use Rattle.std.proofs.Common.{◌≡◌, ◌<◌, ◌≤◌, ◌+◌, ℕ, zero,
 use Rattle.std.specs.List.{remove}
 use Rattle.std.proofs.lemmas.Bool.{ne_eqb, eq-eqb}
 use Rattle.vh_callbacks.specs.Callbacks.{IsRising}
+use Rattle.vh_callbacks.proofs.Matching.{from_lower}
 use Rattle.vh_kernel.specs.Numbers.{without_number}
 
--- They rise from any lower number too.
-from_lower : (low lower : ℕ) (ns : List ℕ) → lower ≤ low → IsRising low ns → IsRising lower ns
-from_lower low lower [] below rising = tt
-from_lower low lower (n ∷ ns) below rising = ((let h = rising.0 in omega arith), rising.1)
-
--- So do some of them, and there are no more.
+-- Some of them rise too, and there are no more.
 rising_by : (b : Bool) (low n : ℕ) (ns : List ℕ) → low ≤ n → IsRising (n + 1) ns → IsRising low (cond b (n ∷ ns) ns)
 rising_by true low n ns above rising = (above, rising)
 rising_by false low n ns above rising = from_lower (n + 1) low ns (omega arith) rising

@@ -13,7 +13,7 @@ use Rattle.vh_kernel.specs.Handles.{thing_at, is_given}
 use Rattle.vh_kernel.specs.Orders.{is_startup, needs_object}
 use Rattle.vh_kernel.specs.State.{State}
 use Rattle.vh_kernel.specs.Step.{Move}
-use Rattle.vh_laws.specs.Paths.{any, end_of}
+use Rattle.vh_laws.specs.Paths.{Deed, tells, fires, closes, answers, other, deed_of, any, end_of}
 
 -- Is this the handle?
 abbrev pub is_handle : ℕ → Option ℕ → Bool
@@ -30,19 +30,15 @@ gives h (answer.Text text) = false
 gives h (answer.Refused c) = false
 
 -- Does a label?
+abbrev pub gives_of : ℕ → Deed → Bool
+gives_of h (tells number) = false
+gives_of h (fires number callback) = false
+gives_of h (closes number) = false
+gives_of h (answers answer) = gives h answer
+gives_of h other = false
+
 abbrev pub is_giving : ℕ → Label → Bool
-is_giving h (label.Startup k) = false
-is_giving h (label.Do who order answer) = gives h answer
-is_giving h (label.Ret who) = false
-is_giving h (label.Occ number reason object) = false
-is_giving h (label.Fire number callback) = false
-is_giving h (label.Done number) = false
-is_giving h (label.Activate region) = false
-is_giving h (label.Advance time) = false
-is_giving h (label.Pick serial shown) = false
-is_giving h (label.Stmt process shown) = false
-is_giving h (label.Finish cause) = false
-is_giving h (label.End ending) = false
+is_giving h l = gives_of h (deed_of l)
 
 -- Does an order read the handle? A registration for a reason without an object reads none. The orders that
 -- no script gives yet read none until they are there.

@@ -1,6 +1,7 @@
 -- Paths of the machine: labels, each with the state after it, by any choices. (IEEE 1364-2005, 11.4.2)
 use Rattle.std.specs.Prelude.{ℕ, ◌<◌, List, [], ◌∷◌, Bool, false, ◌&&◌, not, nat_eq}
 use Rattle.std.specs.List.{list_any}
+use Rattle.vh_base.specs.declared.orders.Answer.{Answer}
 use Rattle.vh_callbacks.specs.Callbacks.{is_live}
 use Rattle.vh_kernel.specs.declared.label.Label.{Label}
 use Rattle.vh_kernel.specs.declared.label.Label.TheVariants as label
@@ -21,65 +22,77 @@ end_of s (m ∷ moves) = end_of m.1 moves
 abbrev pub is_among : ℕ → List ℕ → Bool
 is_among n numbers = list_any (nat_eq n) numbers
 
+-- What a label tells of occurrences, callbacks and handles.
+pub data Deed : Type 0 where
+  -- an occurrence is told
+  tells : ℕ → Deed
+  -- a callback fires for an occurrence
+  fires : ℕ → ℕ → Deed
+  -- an occurrence is done
+  closes : ℕ → Deed
+  -- an order is answered
+  answers : Answer → Deed
+  -- none of these
+  other : Deed
+
+-- A row for each label.
+abbrev pub deed_of : Label → Deed
+deed_of (label.Startup k) = other
+deed_of (label.Do who order answer) = answers answer
+deed_of (label.Ret who) = other
+deed_of (label.Occ number reason object) = tells number
+deed_of (label.Fire number callback) = fires number callback
+deed_of (label.Done number) = closes number
+deed_of (label.Activate region) = other
+deed_of (label.Advance time) = other
+deed_of (label.Pick serial shown) = other
+deed_of (label.Stmt process shown) = other
+deed_of (label.Finish cause) = other
+deed_of (label.End ending) = other
+
 -- Does a callback fire for an occurrence?
+abbrev pub fires_for : ℕ → ℕ → Deed → Bool
+fires_for n c (tells number) = false
+fires_for n c (fires number callback) = nat_eq n number && nat_eq c callback
+fires_for n c (closes number) = false
+fires_for n c (answers answer) = false
+fires_for n c other = false
+
 abbrev pub is_fire : ℕ → ℕ → Label → Bool
-is_fire n c (label.Startup k) = false
-is_fire n c (label.Do who order answer) = false
-is_fire n c (label.Ret who) = false
-is_fire n c (label.Occ number reason object) = false
-is_fire n c (label.Fire number callback) = nat_eq n number && nat_eq c callback
-is_fire n c (label.Done number) = false
-is_fire n c (label.Activate region) = false
-is_fire n c (label.Advance time) = false
-is_fire n c (label.Pick serial shown) = false
-is_fire n c (label.Stmt process shown) = false
-is_fire n c (label.Finish cause) = false
-is_fire n c (label.End ending) = false
+is_fire n c l = fires_for n c (deed_of l)
 
 -- Does a callback fire, for whichever occurrence?
+abbrev pub fires_any : ℕ → Deed → Bool
+fires_any c (tells number) = false
+fires_any c (fires number callback) = nat_eq c callback
+fires_any c (closes number) = false
+fires_any c (answers answer) = false
+fires_any c other = false
+
 abbrev pub is_fire_of : ℕ → Label → Bool
-is_fire_of c (label.Startup k) = false
-is_fire_of c (label.Do who order answer) = false
-is_fire_of c (label.Ret who) = false
-is_fire_of c (label.Occ number reason object) = false
-is_fire_of c (label.Fire number callback) = nat_eq c callback
-is_fire_of c (label.Done number) = false
-is_fire_of c (label.Activate region) = false
-is_fire_of c (label.Advance time) = false
-is_fire_of c (label.Pick serial shown) = false
-is_fire_of c (label.Stmt process shown) = false
-is_fire_of c (label.Finish cause) = false
-is_fire_of c (label.End ending) = false
+is_fire_of c l = fires_any c (deed_of l)
 
 -- Is an occurrence told?
+abbrev pub tells_of : ℕ → Deed → Bool
+tells_of n (tells number) = nat_eq n number
+tells_of n (fires number callback) = false
+tells_of n (closes number) = false
+tells_of n (answers answer) = false
+tells_of n other = false
+
 abbrev pub is_told : ℕ → Label → Bool
-is_told n (label.Startup k) = false
-is_told n (label.Do who order answer) = false
-is_told n (label.Ret who) = false
-is_told n (label.Occ number reason object) = nat_eq n number
-is_told n (label.Fire number callback) = false
-is_told n (label.Done number) = false
-is_told n (label.Activate region) = false
-is_told n (label.Advance time) = false
-is_told n (label.Pick serial shown) = false
-is_told n (label.Stmt process shown) = false
-is_told n (label.Finish cause) = false
-is_told n (label.End ending) = false
+is_told n l = tells_of n (deed_of l)
 
 -- Is an occurrence done?
+abbrev pub closes_of : ℕ → Deed → Bool
+closes_of n (tells number) = false
+closes_of n (fires number callback) = false
+closes_of n (closes number) = nat_eq n number
+closes_of n (answers answer) = false
+closes_of n other = false
+
 abbrev pub is_done : ℕ → Label → Bool
-is_done n (label.Startup k) = false
-is_done n (label.Do who order answer) = false
-is_done n (label.Ret who) = false
-is_done n (label.Occ number reason object) = false
-is_done n (label.Fire number callback) = false
-is_done n (label.Done number) = nat_eq n number
-is_done n (label.Activate region) = false
-is_done n (label.Advance time) = false
-is_done n (label.Pick serial shown) = false
-is_done n (label.Stmt process shown) = false
-is_done n (label.Finish cause) = false
-is_done n (label.End ending) = false
+is_done n l = closes_of n (deed_of l)
 
 -- Is there such a label?
 abbrev pub any : (Label → Bool) → List Move → Bool
