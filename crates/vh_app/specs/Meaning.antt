@@ -1,6 +1,5 @@
 -- What the bytes of a script mean: variables by number, and the commands of the startup and of each procedure.
-use Rattle.std.specs.Prelude.{ℕ, ◌+◌, Bool, true, not, ◌&&◌, cond, List, [], ◌∷◌, Option, Some, None, bytes_eq, position, flat_map, length, map, nat_le}
-use Rattle.std.specs.List.{list_any}
+use Rattle.std.specs.Prelude.{ℕ, ◌+◌, ◌&&◌, cond, List, [], ◌∷◌, Option, Some, None, bytes_eq, position, flat_map, length, map, nat_le}
 use Rattle.std.specs.Option.{option_map, option_and_then}
 use Rattle.vh_grammar.specs.Reading.{Out, got, stop}
 use Rattle.vh_base.specs.Lists.{all_differ, each}

@@ -1,5 +1,5 @@
 -- Which orders a native may answer. (own)
-use Rattle.std.specs.Prelude.{◌≡◌, ℕ, zero, suc, ◌+◌, ◌%◌, List, Option, Some, None, Bool, true, false, cond, codes, bytes_eq}
+use Rattle.std.specs.Prelude.{◌≡◌, ℕ, zero, suc, ◌+◌, ◌%◌, List, Option, Bool, false, cond, codes, bytes_eq}
 use Rattle.std.specs.Fmt.{decimal}
 use Rattle.vh_base.specs.declared.format.Format.TheVariants as format
 use Rattle.vh_base.specs.declared.orders.Answer.{Answer}

@@ -1,5 +1,5 @@
 -- The bytes of which texts are made, by their codes, and what bytes begin with (IEEE 1364-2005, clause 3).
-use Rattle.std.specs.Prelude.{ℕ, ◌+◌, Bool, false, ◌&&◌, ◌||◌, not, List, [], ◌∷◌, Option, Some, None, if◌then◌else◌, nat_eq, nat_le}
+use Rattle.std.specs.Prelude.{ℕ, ◌+◌, Bool, false, ◌&&◌, ◌||◌, not, List, [], ◌∷◌, Option, Some, None, if◌then◌else◌, nat_eq}
 use Rattle.std.specs.Option.{option_map}
 use Rattle.vh_base.specs.Classes.{is_between, is_space, is_name_start, is_digit}
 

@@ -8,7 +8,6 @@ use Rattle.vh_base.specs.declared.first.FirstBit.{FirstBit}
 use Rattle.vh_base.specs.declared.first.FirstCode.{FirstCode}
 use Rattle.vh_base.specs.declared.first.FirstCode.TheVariants as code
 use Rattle.vh_base.specs.First.{is_declared, are_declared}
-use Rattle.vh_grammar.specs.Reading.{Out}
 use Rattle.vh_parse.specs.Token.{Token}
 use Rattle.vh_parse.specs.Spelling.{tokens_of}
 use Rattle.vh_parse.specs.Tree.{Step, wait, assign, show, finish, Module}

@@ -1,6 +1,5 @@
 -- What the first texts mean: the registers by number, and the code of each initial construct.
-use Rattle.std.specs.Prelude.{ℕ, Bool, true, not, ◌&&◌, cond, List, [], ◌∷◌, Option, Some, None, bytes_eq, position, flat_map}
-use Rattle.std.specs.List.{list_any}
+use Rattle.std.specs.Prelude.{ℕ, cond, List, [], ◌∷◌, Option, Some, None, bytes_eq, position, flat_map}
 use Rattle.std.specs.Option.{option_map, option_and_then}
 use Rattle.vh_base.specs.declared.first.First.{First}
 use Rattle.vh_base.specs.declared.first.FirstCode.{FirstCode}

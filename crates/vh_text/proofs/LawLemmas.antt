@@ -1,15 +1,14 @@
 -- That the texts of a value are read as its digits.
-use Rattle.std.proofs.Common.{◌≡◌, ℕ, zero, suc, ◌+◌, ◌-◌, ◌*◌, ◌/◌, ◌%◌, ◌^◌, ◌<◌, ◌≤◌, List, [], ◌∷◌, ◌++◌, length, take, drop, replicate, get_or, refl, ap, arith, ◌∙◌, sym, subst, Bool, true, false, cond, eqb, ltb, leb, Option, Some, None, inl, inr, append_assoc, append-nil}
-use Rattle.std.specs.Prelude.{◌&&◌, ◌||◌, not, slice_index}
+use Rattle.std.proofs.Common.{◌≡◌, ℕ, zero, suc, ◌+◌, ◌*◌, ◌/◌, ◌%◌, ◌^◌, ◌<◌, ◌≤◌, List, [], ◌∷◌, ◌++◌, length, drop, replicate, get_or, refl, ap, arith, ◌∙◌, sym, Bool, true, false, cond, eqb, ltb, leb, Option, Some, None, inl, inr, append_assoc, append-nil}
+use Rattle.std.specs.Prelude.{◌&&◌, ◌||◌, not}
 use Rattle.std.specs.Char.{is_ascii_digit}
-use Rattle.std.specs.Int.{is_in_range}
 use Rattle.std.specs.List.{list_all, position, prefix_len}
 use Rattle.std.specs.Fmt.{digits, digits_onto, digit_glyph}
 use Rattle.std.specs.Str.Parse.{digits_value}
 use Rattle.std.proofs.lemmas.Fmt.{digits_is_IsNumeral}
 use Rattle.std.proofs.lemmas.List.{length-append, take_all, take-append-le, take_at, drop_at}
-use Rattle.std.proofs.lemmas.Bool.{lt-ltb, le-ltb, le-leb, ltb-true, eq-eqb, ne_eqb}
-use Rattle.std.proofs.lemmas.Bool.Decides.{eqb_tells, leb_tells, nat_tests}
+use Rattle.std.proofs.lemmas.Bool.{lt-ltb, le-ltb, le-leb, eq-eqb, ne_eqb}
+use Rattle.std.proofs.lemmas.Bool.Decides.{eqb_tells, leb_tells}
 use Rattle.std.proofs.Math.Nat.{pow-suc}
 use Rattle.std.proofs.Math.Pow.{pow_mono}
 use Rattle.vh_logic.specs.declared.digits.Digit.{Digit}
@@ -17,11 +16,10 @@ use Rattle.vh_logic.specs.declared.digits.Digit.TheVariants.{Zero, One, X, Z}
 use Rattle.vh_logic.specs.Vector.{Vector}
 use Rattle.vh_logic.specs.Number.{binary, number_of}
 use Rattle.vh_logic.specs.Planes.{digit_of, digits_of, plane_of, aval_bit, bval_bit}
-use Rattle.vh_text.specs.Marks.{colon}
 use Rattle.vh_text.specs.Texts.{groups_text, group_count, character_text, digits_text, vector_text}
 use Rattle.vh_text.specs.Digits.{character_digits, joined, spelled_digits}
 use Rattle.vh_text.specs.Patterns.{digits_alone}
-use Rattle.vh_text.specs.Values.{string_value, cut_or_padded, is_lower_hex, hex_number, has_plane_form, plane_value, planes_value, parted_value}
+use Rattle.vh_text.specs.Values.{string_value, cut_or_padded, is_lower_hex, has_plane_form, plane_value, planes_value, parted_value}
 use Rattle.vh_text.proofs.ValueLemmas.{string_value-is}
 
 -- joined parts, in any order of joining

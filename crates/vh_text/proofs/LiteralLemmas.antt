@@ -1,15 +1,14 @@
 -- What the code of literals owes its definitions.
-use Rattle.std.proofs.Common.{◌≡◌, ℕ, zero, suc, ◌+◌, ◌-◌, ◌*◌, ◌/◌, ◌%◌, ◌^◌, ◌<◌, ◌≤◌, List, [], ◌∷◌, ◌++◌, length, take, drop, replicate, map, refl, ap, arith, ◌∙◌, sym, subst, Bool, true, false, cond, eqb, ltb, leb, Option, Some, None, inl, inr}
+use Rattle.std.proofs.Common.{◌≡◌, ℕ, zero, suc, ◌+◌, ◌-◌, ◌*◌, ◌/◌, ◌%◌, ◌^◌, ◌≤◌, List, [], ◌∷◌, length, take, map, refl, ap, arith, ◌∙◌, sym, Bool, true, false, cond, eqb, Option, Some, None, inl, inr}
 use Rattle.std.specs.Prelude.{◌&&◌, not}
 use Rattle.std.specs.Char.{digit_value, is_ascii_digit}
-use Rattle.std.specs.Int.{is_in_range}
 use Rattle.std.specs.List.{list_all, filter}
 use Rattle.std.specs.Option.{option_map}
 use Rattle.std.specs.Str.{all_ascii_digits}
 use Rattle.std.specs.Str.Parse.{digits_value_after}
 use Rattle.std.proofs.lemmas.List.{length-take-le, take-take, take_all, take-append-le}
 use Rattle.std.proofs.lemmas.Bool.{lt-ltb, le-ltb, leb-true}
-use Rattle.std.proofs.lemmas.Bool.Decides.{nat_tests, eqb_tells}
+use Rattle.std.proofs.lemmas.Bool.Decides.{eqb_tells}
 use Rattle.std.proofs.Math.Nat.{pow-suc}
 use Rattle.std.proofs.Math.Arith.{mod-mul}
 use Rattle.std.proofs.lemmas.Nat.{pow_pos}
@@ -18,12 +17,11 @@ use Rattle.vh_logic.specs.declared.digits.Digit.TheVariants.{X, Z}
 use Rattle.vh_logic.specs.Number.{binary}
 use Rattle.vh_logic.specs.Planes.{digits_of}
 use Rattle.vh_text.specs.declared.pattern.Pattern.{Pattern}
-use Rattle.vh_text.specs.declared.number.Number.{Number}
-use Rattle.vh_text.specs.Digits.{question_as_z, characters, decimal_number, sized, is_held}
+use Rattle.vh_text.specs.Digits.{question_as_z, characters, sized}
 use Rattle.vh_text.specs.Marks.{is_x_letter, is_z_letter}
 use Rattle.vh_text.specs.Literals.{lone_letter, by_front, behind_size, after_white, size_of_number, unsigned_number}
-use Rattle.vh_text.specs.Patterns.{pattern_of, number_kept}
-use Rattle.vh_text.proofs.PatternLemmas.{digits_of-binary, is_held-take, short_or}
+use Rattle.vh_text.specs.Patterns.{pattern_of}
+use Rattle.vh_text.proofs.PatternLemmas.{digits_of-binary, short_or}
 
 -- the number that digits write when they follow those of n
 abbrev pub number_after : ℕ → List ℕ → Option ℕ

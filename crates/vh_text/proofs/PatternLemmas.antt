@@ -1,8 +1,8 @@
 -- How digits are read, kept and filled.
-use Rattle.std.proofs.Common.{◌≡◌, ℕ, zero, suc, ◌+◌, ◌-◌, ◌*◌, ◌/◌, ◌%◌, ◌^◌, ◌<◌, ◌≤◌, List, [], ◌∷◌, ◌++◌, length, take, drop, min, replicate, get_or, refl, ap, arith, ◌∙◌, sym, subst, Bool, true, false, cond, eqb, ltb, Option, Some, None, append_assoc, append-nil, ◌⊎◌, inl, inr}
+use Rattle.std.proofs.Common.{◌≡◌, ℕ, zero, suc, ◌+◌, ◌-◌, ◌*◌, ◌/◌, ◌%◌, ◌^◌, ◌<◌, ◌≤◌, List, [], ◌∷◌, ◌++◌, length, take, drop, replicate, get_or, refl, ap, arith, ◌∙◌, sym, subst, Bool, true, false, cond, eqb, Option, Some, None, append_assoc, append-nil, ◌⊎◌, inl, inr}
 use Rattle.std.specs.Prelude.{◌&&◌, IsSome}
 use Rattle.std.specs.Char.{digit_value}
-use Rattle.std.specs.List.{list_all, filter}
+use Rattle.std.specs.List.{list_all}
 use Rattle.std.specs.Option.{option_map}
 use Rattle.std.proofs.lemmas.List.{length-drop, length-append, length-take, length-take-le, take-take, take_all, drop_all, take-append-drop, take-append-le, drop-append-le, take-replicate, length-replicate, get_or-append-add, drop_at, drop-drop}
 use Rattle.std.proofs.lemmas.List.Folds.{list_all-append}
@@ -18,8 +18,8 @@ use Rattle.vh_logic.specs.Number.{binary}
 use Rattle.vh_logic.specs.Planes.{digit_of, digits_of}
 use Rattle.vh_logic.specs.PlanesBack.{by_bit}
 use Rattle.vh_text.specs.declared.pattern.Pattern.{Pattern}
-use Rattle.vh_text.specs.Marks.{is_x_letter, is_z_letter, underscore}
-use Rattle.vh_text.specs.Digits.{character_digits, joined, spelled_digits, question_as_z, characters, spelled, fill_of, sized, is_held}
+use Rattle.vh_text.specs.Marks.{is_x_letter, is_z_letter}
+use Rattle.vh_text.specs.Digits.{character_digits, joined, spelled_digits, question_as_z, characters, spelled, fill_of, is_held}
 use Rattle.vh_text.specs.Patterns.{digits_alone, pattern_of, pattern_pushed}
 
 pub digits_of-binary : (w n : ℕ) → digits_of w n 0 ≡ binary w n

@@ -1,8 +1,8 @@
 -- The definitions at rows that are worked out from the rules.
-use Rattle.std.proofs.Common.{◌≡◌, refl, List, [], ◌∷◌, ◌++◌, replicate, Some, None, Ok, Err, Bool, true, false}
-use Rattle.std.specs.Prelude.{codes, ℕ}
+use Rattle.std.proofs.Common.{◌≡◌, refl, List, [], ◌∷◌, ◌++◌, replicate, Some, None, Ok, Err, true, false}
+use Rattle.std.specs.Prelude.{codes}
 use Rattle.std.specs.Fmt.{digits}
-use Rattle.vh_base.specs.declared.format.Format.TheVariants.{VpiBinStrVal, VpiOctStrVal, VpiHexStrVal, VpiDecStrVal, VpiIntVal, VpiScalarVal, VpiVectorVal}
+use Rattle.vh_base.specs.declared.format.Format.TheVariants.{VpiBinStrVal, VpiHexStrVal, VpiDecStrVal, VpiIntVal, VpiVectorVal}
 use Rattle.vh_logic.specs.declared.digits.Digit.{Digit}
 use Rattle.vh_logic.specs.declared.digits.Digit.TheVariants.{Zero, One, X, Z}
 use Rattle.vh_logic.specs.Vector.{Vector}
@@ -12,7 +12,7 @@ use Rattle.vh_text.specs.declared.radix.Radix.TheVariants.{Binary, Octal, Hex, D
 use Rattle.vh_text.specs.declared.literal.LiteralFault.TheVariants.{Malformed, TooWide}
 use Rattle.vh_text.specs.Texts.{text, vector_text, groups_text}
 use Rattle.vh_text.specs.Digits.{spelled_digits}
-use Rattle.vh_text.specs.Literals.{literal, Reading}
+use Rattle.vh_text.specs.Literals.{literal}
 use Rattle.vh_text.specs.Values.{value_of_text}
 
 -- a vector of digits, lowest first

@@ -1,8 +1,8 @@
 -- What the code of texts owes its definitions.
-use Rattle.std.proofs.Common.{◌≡◌, ℕ, zero, suc, ◌+◌, ◌-◌, ◌*◌, ◌/◌, ◌%◌, ◌^◌, ◌<◌, ◌≤◌, List, [], ◌∷◌, ◌++◌, length, take, drop, min, replicate, refl, ap, arith, ◌∙◌, sym, Bool, true, false, cond, leb, Option, Some, None}
-use Rattle.std.specs.Prelude.{◌&&◌, ◌||◌, ℤ, pos, neg_ℤ}
+use Rattle.std.proofs.Common.{◌≡◌, ℕ, zero, suc, ◌+◌, ◌-◌, ◌*◌, ◌/◌, ◌%◌, ◌^◌, ◌<◌, ◌≤◌, List, [], ◌∷◌, ◌++◌, length, take, drop, replicate, refl, ap, arith, ◌∙◌, Bool, true, false, cond, leb, Some, None}
+use Rattle.std.specs.Prelude.{◌||◌, pos, neg_ℤ}
 use Rattle.std.specs.List.{list_all, list_any, slice_get}
-use Rattle.std.proofs.lemmas.List.{take_min, length-drop, drop-drop}
+use Rattle.std.proofs.lemmas.List.{drop-drop}
 use Rattle.std.proofs.lemmas.Nat.{pow_pos, shr_split}
 use Rattle.std.proofs.lemmas.Bool.{le-leb}
 use Rattle.std.proofs.lemmas.Bool.Decides.{nat_tests}
@@ -14,7 +14,7 @@ use Rattle.vh_logic.specs.declared.digits.Digit.TheVariants.{Zero, One, X, Z}
 use Rattle.vh_logic.specs.Digit.{is_same, test_digit}
 use Rattle.vh_logic.specs.Vector.{Vector, all_places}
 use Rattle.vh_logic.specs.Number.{number_of, digit_value, all_known, known_number, twos_complement, integer_at, integer_of}
-use Rattle.vh_text.specs.Texts.{groups_text, group_count, character_text}
+use Rattle.vh_text.specs.Texts.{groups_text, character_text}
 
 or_true : (b : Bool) → (b || true) ≡ true
 or_true true = refl

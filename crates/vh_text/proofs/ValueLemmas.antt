@@ -1,25 +1,23 @@
 -- What the code of value texts owes its definitions.
-use Rattle.std.proofs.Common.{◌≡◌, ℕ, zero, suc, ◌+◌, ◌-◌, ◌*◌, ◌/◌, ◌%◌, ◌^◌, ◌<◌, ◌≤◌, List, [], ◌∷◌, ◌++◌, length, take, drop, replicate, map, refl, ap, arith, ◌∙◌, sym, subst, Bool, true, false, cond, eqb, ltb, leb, Option, Some, None, inl, inr}
+use Rattle.std.proofs.Common.{◌≡◌, ℕ, ◌+◌, ◌-◌, ◌*◌, ◌/◌, ◌%◌, ◌^◌, ◌<◌, ◌≤◌, List, [], ◌∷◌, length, take, replicate, refl, ap, arith, ◌∙◌, sym, Bool, true, false, cond, eqb, Option, Some, None, inl, inr}
 use Rattle.std.specs.Prelude.{◌&&◌, ◌||◌, not, ℤ, pos, neg_ℤ, ◌+ℤ◌, unsigned_abs}
 use Rattle.std.specs.Char.{digit_value, is_ascii_digit}
-use Rattle.std.specs.List.{list_all, list_any, filter}
+use Rattle.std.specs.List.{list_all, list_any}
 use Rattle.std.specs.Option.{option_map}
 use Rattle.std.specs.Str.{all_ascii_digits}
 use Rattle.std.specs.Str.Parse.{digits_value_after}
 use Rattle.std.proofs.lemmas.Int.{ints, int_rem_euclid_is}
 use Rattle.std.proofs.lemmas.List.{length-take-le, take-take, take_all, take-append-le}
-use Rattle.std.proofs.lemmas.Bool.{lt-ltb, le-leb, ltb-true, eq-eqb}
+use Rattle.std.proofs.lemmas.Bool.{lt-ltb, le-leb, ltb-true}
 use Rattle.std.proofs.lemmas.Bool.Decides.{eqb_tells}
 use Rattle.std.proofs.lemmas.Nat.{pow_pos, pow-add, shr_split}
 use Rattle.std.proofs.Math.Nat.{mod-eq_of_lt, pow-le-pow_right}
-use Rattle.std.proofs.Math.Pow.{pow_mono}
 use Rattle.vh_logic.specs.declared.digits.Digit.{Digit}
 use Rattle.vh_logic.specs.declared.digits.Digit.TheVariants.{Zero}
-use Rattle.vh_logic.specs.Vector.{Vector}
 use Rattle.vh_logic.specs.Number.{binary, wrapped, signed_integer, vector_of}
 use Rattle.vh_logic.specs.Planes.{digits_of}
 use Rattle.vh_text.specs.declared.number.Number.{Number}
-use Rattle.vh_text.specs.Digits.{character_digits, joined, spelled_digits, question_as_z, characters, decimal_number}
+use Rattle.vh_text.specs.Digits.{character_digits, joined, spelled_digits, characters, decimal_number}
 use Rattle.vh_text.specs.Patterns.{number_kept, digits_alone}
 use Rattle.vh_text.specs.Values.{cut_or_padded, string_value, numeral, is_lower_hex, integer_value}
 use Rattle.vh_text.proofs.PatternLemmas.{base_is, digits_of-binary, character_digits-none, short_or}

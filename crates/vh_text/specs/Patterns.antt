@@ -1,5 +1,5 @@
 -- What the code keeps of digits and numbers that it reads (own).
-use Rattle.std.specs.Prelude.{ℕ, ◌-◌, ◌%◌, ◌^◌, ◌≤◌, nat_lt, Bool, false, ◌&&◌, List, ◌++◌, take, length, Option, Some, None, IfSome}
+use Rattle.std.specs.Prelude.{ℕ, ◌-◌, ◌%◌, ◌^◌, ◌≤◌, nat_lt, false, ◌&&◌, List, ◌++◌, take, length, Option, IfSome}
 use Rattle.vh_logic.specs.declared.digits.Digit.{Digit}
 use Rattle.vh_logic.specs.Vector.{Vector}
 use Rattle.vh_text.specs.declared.pattern.Pattern.{Pattern}

@@ -3,7 +3,7 @@ use Rattle.std.specs.Prelude.{ℕ, ◌+◌, ◌-◌, ◌^◌, ◌==◌, nat_le, 
 use Rattle.std.specs.Char.{is_ascii_digit}
 use Rattle.std.specs.Int.{is_in_range}
 use Rattle.std.specs.List.{list_all, position}
-use Rattle.std.specs.Option.{option_map, option_and_then}
+use Rattle.std.specs.Option.{option_map}
 use Rattle.std.specs.Str.Parse.{digits_value}
 use Rattle.vh_base.specs.declared.format.Format.{Format}
 use Rattle.vh_base.specs.declared.format.Format.TheVariants.{VpiBinStrVal, VpiOctStrVal, VpiHexStrVal, VpiDecStrVal, VpiIntVal, VpiScalarVal, VpiVectorVal}

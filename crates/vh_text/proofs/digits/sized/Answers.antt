@@ -1,8 +1,8 @@
-use Rattle.std.proofs.Common.{◌≡◌, ap, ◌∙◌, sym, arith, ◌≤◌, ◌-◌, length, List, replicate, ◌++◌, take, ℕ, false, get_or}
+use Rattle.std.proofs.Common.{◌≡◌, ap, ◌∙◌, sym, arith, ◌-◌, length, List, replicate, ◌++◌, get_or}
 use Rattle.std.proofs.lemmas.Option.{get_or_from_slice_get}
 use Rattle.vh_logic.specs.declared.digits.Digit.{Digit}
 use Rattle.vh_logic.specs.declared.digits.Digit.TheVariants.{Zero}
-use Rattle.vh_logic.specs.Vector.{Vector, highest, filled}
+use Rattle.vh_logic.specs.Vector.{Vector, highest}
 use Rattle.vh_text.specs.Digits.{fill_of}
 use Rattle.vh_text.proofs.PatternLemmas.{sized-same}
 use Rattle.vh_text.proofs.digits.sized.Goals as goal

@@ -1,4 +1,4 @@
-use Rattle.std.proofs.Common.{◌≤◌, arith, length}
+use Rattle.std.proofs.Common.{arith}
 use Rattle.vh_text.proofs.LawLemmas.{binary_back, planes_back}
 use Rattle.vh_text.proofs.laws.text_laws.Goals as goal
 

@@ -1,9 +1,7 @@
-use Rattle.std.proofs.Common.{◌≡◌, ap, ◌∙◌, sym, ℕ, List, [], ◌∷◌, Option, true}
+use Rattle.std.proofs.Common.{◌≡◌, ap, ◌∙◌, sym, ℕ, List, [], ◌∷◌, true}
 use Rattle.std.specs.Prelude.{IsSome}
 use Rattle.std.specs.List.{list_all}
 use Rattle.std.proofs.Common.{eqb}
-use Rattle.vh_logic.specs.declared.digits.Digit.{Digit}
-use Rattle.vh_text.specs.Marks.{is_x_letter, is_z_letter}
 use Rattle.vh_text.specs.Digits.{characters, question_as_z, spelled}
 use Rattle.vh_text.specs.Literals.{lone_letter}
 use Rattle.vh_text.proofs.PatternLemmas.{characters-first}

@@ -1,4 +1,4 @@
-use Rattle.std.proofs.Common.{◌≡◌, ap, ◌∙◌, sym, subst, ℕ, List, Option, Ok, ◌%◌, ◌^◌}
+use Rattle.std.proofs.Common.{ap, ◌∙◌, sym, subst, ℕ, List, Option, Ok}
 use Rattle.vh_logic.specs.declared.digits.Digit.{Digit}
 use Rattle.vh_logic.specs.Vector.{Vector}
 use Rattle.vh_logic.specs.Planes.{digits_of}

@@ -1,12 +1,11 @@
-use Rattle.std.proofs.Common.{◌≡◌, ap, ◌∙◌, sym, subst, ℕ, List, Bool, Option, Some, None, Ok, Err, arith, take, ◌≤◌, true, false}
+use Rattle.std.proofs.Common.{◌≡◌, ap, ◌∙◌, sym, ℕ, List, Bool, Option, Ok, arith}
 use Rattle.std.specs.Prelude.{◌&&◌}
-use Rattle.std.specs.Option.{option_map}
 use Rattle.vh_logic.specs.declared.digits.Digit.{Digit}
 use Rattle.vh_logic.specs.Vector.{Vector}
 use Rattle.vh_text.specs.declared.pattern.Pattern.{Pattern}
 use Rattle.vh_text.specs.Digits.{is_held}
 use Rattle.vh_text.specs.Literals.{at_width, of_digits, natural_width, width_by, patterned}
-use Rattle.vh_text.specs.Patterns.{pattern_of, IsWidthIfSome}
+use Rattle.vh_text.specs.Patterns.{pattern_of}
 use Rattle.vh_text.proofs.PatternLemmas.{is_held-take}
 use Rattle.vh_text.proofs.LiteralLemmas.{from_pattern, sized-take}
 use Rattle.vh_text.proofs.literal.patterned.Goals as goal

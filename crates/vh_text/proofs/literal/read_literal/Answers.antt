@@ -1,10 +1,10 @@
-use Rattle.std.proofs.Common.{◌≡◌, ap, ◌∙◌, sym, ℕ, List, length, take, drop, Result}
+use Rattle.std.proofs.Common.{ap, ◌∙◌, sym, ℕ, List, length, take, drop, Result}
 use Rattle.std.specs.List.{take_while}
 use Rattle.vh_text.specs.Marks.{is_number_byte}
 use Rattle.std.proofs.lemmas.Bool.{eqb-false}
 use Rattle.vh_text.specs.declared.literal.LiteralFault.{LiteralFault}
 use Rattle.vh_text.specs.declared.literal.Size.{Size}
-use Rattle.vh_text.specs.Literals.{by_front, behind_size, after_white, based, size_of_number, unsigned_number}
+use Rattle.vh_text.specs.Literals.{by_front, behind_size, after_white, based, unsigned_number}
 use Rattle.vh_text.proofs.LiteralLemmas.{by_front-sized}
 use Rattle.vh_text.proofs.literal.read_literal.Goals as goal
 

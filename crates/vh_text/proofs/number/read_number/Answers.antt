@@ -1,8 +1,7 @@
-use Rattle.std.proofs.Common.{◌≡◌, ap, ◌∙◌, sym, arith, ◌<◌, ◌+◌, ◌*◌, ◌-◌, length, List, ◌∷◌, drop, get_or, ℕ, true}
-use Rattle.std.specs.Char.{digit_value, is_ascii_digit}
+use Rattle.std.proofs.Common.{◌≡◌, ap, ◌∙◌, sym, ◌<◌, ◌+◌, ◌*◌, ◌-◌, length, List, ◌∷◌, drop, get_or, ℕ, true}
+use Rattle.std.specs.Char.{is_ascii_digit}
 use Rattle.std.proofs.lemmas.List.{drop_more}
-use Rattle.vh_text.specs.Digits.{characters, question_as_z}
-use Rattle.vh_text.specs.Patterns.{number_kept}
+use Rattle.vh_text.specs.Digits.{characters}
 use Rattle.vh_text.proofs.PatternLemmas.{characters-next, characters-mark}
 use Rattle.vh_text.proofs.LiteralLemmas.{number_after, number_after-more, digit_value-is, question-same}
 use Rattle.vh_text.proofs.number.read_number.Goals as goal

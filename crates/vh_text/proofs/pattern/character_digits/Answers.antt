@@ -1,5 +1,4 @@
-use Rattle.std.proofs.Common.{◌≡◌, ap, ◌∙◌, sym, arith, ◌≤◌, ◌<◌, ◌^◌, List, Some, ℕ, Option}
-use Rattle.std.specs.Prelude.{false}
+use Rattle.std.proofs.Common.{◌≡◌, ap, ◌∙◌, sym, arith, ◌<◌, ◌^◌, List, Some, Option}
 use Rattle.std.specs.Char.{digit_value}
 use Rattle.std.specs.Option.{option_map}
 use Rattle.vh_logic.specs.declared.digits.Digit.{Digit}

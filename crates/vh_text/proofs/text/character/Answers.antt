@@ -1,4 +1,4 @@
-use Rattle.std.proofs.Common.{◌≡◌, Some, arith, ◌∙◌, sym, ◌^◌, ◌≤◌, ◌<◌, length}
+use Rattle.std.proofs.Common.{arith, ◌∙◌, sym, ◌^◌, ◌≤◌, ◌<◌, length}
 use Rattle.std.proofs.Math.Pow.{pow_mono}
 use Rattle.vh_text.proofs.TextLemmas.{known_number-lt}
 use Rattle.vh_text.proofs.text.character.Goals as goal

@@ -1,4 +1,4 @@
-use Rattle.std.proofs.Common.{◌≡◌, ◌-◌, ◌*◌, ◌/◌, ◌+◌, ◌≤◌, length, drop, take, [], ◌∷◌, ◌++◌, List, ℕ, refl, ap, arith, ◌∙◌, sym, min, suc}
+use Rattle.std.proofs.Common.{◌≡◌, ◌-◌, ◌*◌, ◌/◌, ◌+◌, length, drop, take, ◌++◌, List, ℕ, ap, arith, ◌∙◌, sym, min, suc}
 use Rattle.std.specs.String.{string_bytes}
 use Rattle.std.proofs.lemmas.List.{take_min, length-drop}
 use Rattle.vh_logic.specs.declared.digits.Digit.{Digit}

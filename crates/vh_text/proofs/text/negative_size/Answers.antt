@@ -1,6 +1,5 @@
-use Rattle.std.proofs.Common.{◌≡◌, Some, arith, ap, ◌∙◌, sym, ◌^◌, ◌≤◌, ◌<◌, ◌-◌, ◌/◌, ◌+◌, length, ℕ, Bool, true, false}
+use Rattle.std.proofs.Common.{◌≡◌, Some, arith, ap, ◌∙◌, sym, ◌^◌, ◌≤◌, ◌<◌, ◌-◌, ◌/◌, ◌+◌, length, ℕ, Bool, true}
 use Rattle.std.proofs.lemmas.Nat.Bits.{ones_shr}
-use Rattle.std.proofs.lemmas.Nat.{pow_pos}
 use Rattle.std.specs.Prelude.{ℤ, pos, neg_ℤ}
 use Rattle.vh_logic.specs.Number.{integer_at}
 use Rattle.vh_text.proofs.TextLemmas.{known_number-lt, integer_of-known, twos_complement-negative, twos_complement-positive}

@@ -1,4 +1,4 @@
-use Rattle.std.proofs.Common.{◌<◌, ◌^◌, arith, Fits, w64}
+use Rattle.std.proofs.Common.{arith}
 use Rattle.vh_text.proofs.ValueLemmas.{room}
 use Rattle.vh_text.proofs.value.hex_number.Goals as goal
 

@@ -1,7 +1,6 @@
-use Rattle.std.proofs.Common.{◌≡◌, ap, ◌∙◌, sym, ℕ, List, Option, length}
+use Rattle.std.proofs.Common.{ap, ◌∙◌, sym, ℕ, Option, length}
 use Rattle.std.specs.Option.{option_map}
 use Rattle.std.proofs.lemmas.Bool.{eqb-false}
-use Rattle.vh_text.specs.declared.number.Number.{Number}
 use Rattle.vh_text.specs.Patterns.{number_kept}
 use Rattle.vh_text.proofs.ValueLemmas.{numeral-marks, numeral-plain}
 use Rattle.vh_text.proofs.value.numeral.Goals as goal

@@ -1,4 +1,4 @@
-use Rattle.std.proofs.Common.{◌≡◌, ap, ◌∙◌, sym, ℕ, List, Option}
+use Rattle.std.proofs.Common.{ap, ◌∙◌, sym, ℕ, List, Option}
 use Rattle.std.specs.Option.{option_map}
 use Rattle.vh_logic.specs.declared.digits.Digit.{Digit}
 use Rattle.vh_text.specs.Digits.{spelled_digits}

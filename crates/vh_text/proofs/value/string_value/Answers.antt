@@ -1,4 +1,4 @@
-use Rattle.std.proofs.Common.{◌≡◌, ap, ◌∙◌, sym, ℕ, List, Option, Some, length, false}
+use Rattle.std.proofs.Common.{ap, ◌∙◌, sym, Some, length, false}
 use Rattle.std.proofs.lemmas.Bool.{eqb-false}
 use Rattle.vh_logic.specs.Vector.{Vector}
 use Rattle.vh_logic.specs.Parts.{resized}
