@@ -1,4 +1,4 @@
--- The bytes that numbers and value texts are written with, by their codes (IEEE 1364-2005, 2.5.1).
+-- The bytes that numbers and value texts are written with, by their codes (IEEE 1364-2005, 3.5.1).
 use Rattle.std.specs.Prelude.{ℕ, ◌==◌, Bool, ◌||◌, if◌then◌else◌, Option, Some, None}
 use Rattle.std.specs.Char.{is_ascii_digit}
 use Rattle.vh_text.specs.declared.radix.Radix.{Radix}
@@ -16,11 +16,11 @@ minus = 45
 abbrev pub colon : ℕ
 colon = 58
 
--- `?`, which is written for z (2.5.1)
+-- `?`, which is written for z (3.5.1)
 abbrev pub question : ℕ
 question = 63
 
--- `_`, which may stand behind a digit and says nothing (2.5.1)
+-- `_`, which may stand behind a digit and says nothing (3.5.1)
 abbrev pub underscore : ℕ
 underscore = 95
 
@@ -37,27 +37,23 @@ upper_x = 88
 abbrev pub upper_z : ℕ
 upper_z = 90
 
--- an x in either case (2.5.1)
+-- an x in either case (3.5.1)
 abbrev pub is_x_letter : ℕ → Bool
 is_x_letter c = c == lower_x || c == upper_x
 
--- a z in either case (2.5.1)
+-- a z in either case (3.5.1)
 abbrev pub is_z_letter : ℕ → Bool
 is_z_letter c = c == lower_z || c == upper_z
 
--- the mark of a signed number, in either case (2.5.1)
+-- the mark of a signed number, in either case (3.5.1)
 abbrev pub is_sign_mark : ℕ → Bool
 is_sign_mark c = c == 115 || c == 83
 
--- white space: a tab, a line feed, a form feed, a carriage return or a blank (2.2)
-abbrev pub is_white : ℕ → Bool
-is_white c = c == 9 || c == 10 || c == 12 || c == 13 || c == 32
-
--- a byte of an unsigned number (2.5.1)
+-- a byte of an unsigned number (3.5.1)
 abbrev pub is_number_byte : ℕ → Bool
 is_number_byte c = is_ascii_digit c || c == underscore
 
--- the base that a letter names, in either case (2.5.1)
+-- the base that a letter names, in either case (3.5.1)
 abbrev pub base_of : ℕ → Option Radix
 base_of c =
     if c == 98 || c == 66 then Some Binary else

@@ -17,7 +17,7 @@ use vh_logic::{Digit, Vec4};
 /// Why the bytes of a literal have no value.
 #[derive(Clone, Copy, Debug, PartialEq, Eq)]
 pub enum LiteralFault {
-    /// The bytes are no number (IEEE 1364-2005, 2.5.1).
+    /// The bytes are no number (IEEE 1364-2005, 3.5.1).
     Malformed,
     /// The bytes are a number, but its size is above 64, or it has none and its value needs more
     /// than 64 digits.
@@ -36,7 +36,7 @@ pub(crate) enum Size {
 }
 
 /// The value of a number as a source writes it, from its first byte to its last (IEEE 1364-2005,
-/// 2.5.1). It takes time in the number of bytes.
+/// 3.5.1). It takes time in the number of bytes.
 pub fn read_literal(bytes: &[u8]) -> Result<Vec4, LiteralFault>
     ensures { result ≡ literal bytes.now }
 {

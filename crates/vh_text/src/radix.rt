@@ -1,4 +1,4 @@
-/// The base in which the digits of a value are written (IEEE 1364-2005, 2.5.1 and 17.1.1).
+/// The base in which the digits of a value are written (IEEE 1364-2005, 3.5.1 and 17.1.1).
 #[derive(Clone, Copy, Debug, PartialEq, Eq)]
 pub enum Radix {
     /// One digit for each character.

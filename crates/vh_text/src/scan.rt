@@ -1,7 +1,10 @@
 ghost use Rattle.std.specs.Prelude.{◌≡◌, ◌≤◌, length};
 ghost use Rattle.std.specs.List.{prefix_len};
-ghost use Rattle.vh_text.specs.Marks.{is_number_byte, is_white, is_x_letter, is_z_letter, is_sign_mark};
+ghost use Rattle.vh_base.specs.Classes;
+ghost use Rattle.vh_text.specs.Marks.{is_number_byte, is_x_letter, is_z_letter, is_sign_mark};
 ghost use Rattle.vh_text.specs.Literals.{after_white};
+
+use vh_base::is_space;
 
 /// How many bytes at the front are digits or underscores.
 pub(crate) fn number_len(bytes: &[u8]) -> usize
@@ -26,11 +29,11 @@ pub(crate) fn after_white(bytes: &[u8]) -> &[u8]
 
 /// How many bytes at the front are white space.
 fn white_len(bytes: &[u8]) -> usize
-    ensures value { result ≡ prefix_len is_white bytes.now }
+    ensures value { result ≡ prefix_len Classes.is_space bytes.now }
     ensures inside { result ≤ length bytes.now }
 {
     for (i, b) in bytes.iter().enumerate() {
-        if !is_white(*b) {
+        if !is_space(*b) {
             return i;
         }
     }
@@ -42,13 +45,6 @@ fn is_number_byte(b: u8) -> bool
     ensures { result ≡ is_number_byte b }
 {
     b.is_ascii_digit() || b == b'_'
-}
-
-/// White space of a source.
-fn is_white(b: u8) -> bool
-    ensures { result ≡ is_white b }
-{
-    b == b'\t' || b == b'\n' || b == 12 || b == b'\r' || b == b' '
 }
 
 /// An x in either case.
