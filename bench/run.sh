@@ -1,21 +1,20 @@
 #!/bin/sh
-# Measures `vhost run` on the design of bench/blocks.sh: seconds, labels a second, and, where
-# valgrind is there, instructions a label. Run it after ./vhost has built the program.
-here=$(CDPATH= cd -- "$(dirname -- "$0")/.." && pwd) || exit 1
-program="$here/.vhost/vhost"
+# Measures `vhost run` on a design of so many `initial` blocks of 20 statements each (1,000 if none are
+# given): 8 delays, 8 assignments and 4 displays. Run it after ./vhost has built the program.
+. "$(dirname -- "$0")/measure.sh"
 blocks=${1:-1000}
-work=$(mktemp -d) && trap 'rm -rf "$work"' EXIT
-sh "$here/bench/blocks.sh" "$blocks" >"$work/blocks.v"
+{
+    echo 'module top; reg a;'
+    repeated "$blocks" 'initial begin #1 a = 1; #1 a = 0; #1 a = 1; #1 $display("tick"); #1 a = 0; #1 $display("tock"); #1 a = 1; #1 $display("tick"); a = 0; a = 1; a = 0; $display("tock"); end'
+    echo 'endmodule'
+} >"$work/blocks.v"
 # Each block makes a pick and a label for each of its 20 statements, a pick after each of its 8
 # delays, and one label for its end; time advances 8 times, and a finish and an end close the run.
-labels=$((blocks * 30 + 10))
-start=$(date +%s%N)
-"$program" run "$work/blocks.v" >"$work/text" || exit 1
-end=$(date +%s%N)
-echo "blocks $blocks labels $labels lines $(wc -l <"$work/text")"
-echo "seconds $(awk "BEGIN { print ($end - $start) / 1e9 }") labels a second $(awk "BEGIN { printf \"%d\", $labels / (($end - $start) / 1e9) }")"
-if command -v valgrind >/dev/null; then
-    valgrind --tool=callgrind --callgrind-out-file="$work/calls" "$program" run "$work/blocks.v" >/dev/null 2>"$work/valgrind"
-    count=$(sed -n 's/.*Collected : \([0-9]*\).*/\1/p' "$work/valgrind")
-    echo "instructions a label $(awk "BEGIN { printf \"%d\", $count / $labels }")"
+measured label $((blocks * 30 + 10)) "$work/blocks.v"
+if command -v iverilog >/dev/null; then
+    iverilog -o "$work/blocks" "$work/blocks.v" || exit 1
+    start=$(date +%s%N)
+    vvp "$work/blocks" >"$work/icarus" || exit 1
+    end=$(date +%s%N)
+    awk "BEGIN { printf \"icarus seconds %.3f\\n\", ($end - $start) / 1e9 }"
 fi
