@@ -1,10 +1,10 @@
 //! The call that runs a design with a script: words and files to the transcript's bytes.
 //!
 //! The one contract used above: [`run`] writes exactly the text of a run of the machine
-//! for accepted words, texts and scripts, and its status says how the run ended, or which
-//! input was refused; [`status_line`] and [`exit_number`] are the table of statuses. Stands on
-//! vh_parse for the text's design, on vh_app for the scripts, which are read and not run yet,
-//! and on vh_kernel for the machine.
+//! for accepted words, texts and scripts, which keeps the firing law and the handle law, and
+//! its status says how the run ended, or which input was refused; [`status_line`] and
+//! [`exit_number`] are the table of statuses. Stands on vh_parse for the text's design, on
+//! vh_app for the scripts, on vh_kernel for the machine, and on vh_laws for what its runs keep.
 #![tactic(auto)]
 
 mod file;
