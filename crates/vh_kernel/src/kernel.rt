@@ -29,8 +29,8 @@ use vh_base::{
 use vh_callbacks::Registry;
 
 /// The machine of one design with its scripts. What it shows is a state; each call of
-/// [`Kernel::step`] goes over the queue's entries, and takes no other time that grows with
-/// the design.
+/// [`Kernel::step`] goes over the queue's entries, and over the design's names where an order
+/// looks for one, and takes no other time that grows with the design.
 #[derive(Drop)]
 pub struct Kernel {
     names: Vec<Bytes>,
