@@ -5,3 +5,4 @@ pub mod Held
 pub mod Promise
 pub mod Classes
 pub mod Lists
+pub mod Checks

@@ -4,7 +4,7 @@ use Rattle.vh_kernel.specs.declared.control.Control.{Control}
 use Rattle.vh_kernel.specs.declared.control.Control.TheVariants as top
 use Rattle.vh_kernel.specs.Numbers.{without_number}
 
--- Is it a frame?
+-- How many frames stand.
 abbrev pub is_frame : Control → Bool
 is_frame (top.Process p) = false
 is_frame (top.Pending o) = false
@@ -12,11 +12,10 @@ is_frame (top.Frame f) = true
 is_frame (top.Activation a) = false
 is_frame (top.Leave c) = false
 
--- How many frames stand.
 abbrev pub frames : List Control → ℕ
 frames control = length (filter is_frame control)
 
--- A removed callback is in no set of a frame any more.
+-- A callback is in no set of a frame any more.
 abbrev pub without_in : ℕ → Control → Control
 without_in c (top.Process p) = top.Process p
 without_in c (top.Pending o) = top.Pending o

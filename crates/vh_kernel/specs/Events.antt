@@ -1,37 +1,54 @@
 -- The event queue: a finite map from serials to entries, kept as the list of its entries by rising
 -- serial, with the next serial and the present time. (IEEE 1364-2005, 11.3 and 11.4)
-use Rattle.std.specs.Prelude.{ℕ, zero, suc, ◌+◌, ◌++◌, List, [], ◌∷◌, length, map, filter, min, Bool, cond, not, ◌||◌, nat_eq, nat_le, nat_lt, Option, Some, None}
+use Rattle.std.specs.Prelude.{ℕ, zero, suc, ◌+◌, ◌++◌, List, [], ◌∷◌, length, map, filter, min, Bool, true, false, if◌then◌else◌, not, ◌&&◌, ◌||◌, ◌==◌, nat_le, nat_lt, Option, Some, None}
 use Rattle.std.specs.List.{list_any}
+use Rattle.vh_kernel.specs.declared.events.TheConstants.{MOST_ENTRIES, MOST_SERIALS}
 use Rattle.vh_kernel.specs.declared.label.Region.{Region}
 use Rattle.vh_kernel.specs.declared.label.Region.TheVariants as region
 use Rattle.vh_kernel.specs.declared.events.Entry.{Entry}
 use Rattle.vh_kernel.specs.declared.events.Work.{Work}
 use Rattle.vh_kernel.specs.declared.events.Work.TheVariants as work
-use Rattle.vh_kernel.specs.Entry.{is_due, is_ripe}
 
 pub record Events : Type 0 where
   pub entries : List Entry
   pub next : ℕ
   pub time : ℕ
 
--- Does an entry stand in the region at the present time?
+-- The regions in the order in which those of one time are performed.
+abbrev pub rank : Region → ℕ
+rank region.Start = 0
+rank region.Active = 1
+rank region.Inactive = 2
+rank region.Nonblocking = 3
+rank region.Monitor = 4
+
+-- Does the entry stand in this region at this time?
+abbrev pub is_at : Option ℕ → ℕ → Bool
+is_at None now = false
+is_at (Some time) now = time == now
+
+abbrev pub is_due : Region → ℕ → Entry → Bool
+is_due region now e = is_at e.time now && rank e.region == rank region
+
+-- Does such an entry stand at the present time?
 abbrev pub any_due : Region → Events → Bool
 any_due r q = list_any (is_due r q.time) q.entries
 
 -- The entries that may be picked: those of the start of this time, or else the active ones.
+abbrev pub is_ripe : Bool → ℕ → Entry → Bool
+is_ripe true now e = is_due region.Start now e
+is_ripe false now e = rank e.region == rank region.Active
+
 abbrev pub eligible : Events → List Entry
 eligible q = filter (is_ripe (any_due region.Start q) q.time) q.entries
 
 -- All entries but that of the serial.
 abbrev pub without_serial : ℕ → List Entry → List Entry
-without_serial serial entries = filter (λ e. not (nat_eq e.serial serial)) entries
-
-abbrev pub without : ℕ → Events → Events
-without serial q = record q { entries = without_serial serial q.entries }
+without_serial serial entries = filter (λ e. not (e.serial == serial)) entries
 
 -- No entry may be added where 1,048,576 stand, or where 2^63 serials were given. (own)
 abbrev pub is_full : Events → Bool
-is_full q = nat_le 1048576 (length q.entries) || nat_lt 9223372036854775808 q.next
+is_full q = nat_le MOST_ENTRIES (length q.entries) || nat_lt MOST_SERIALS q.next
 
 -- One entry more, by the next serial.
 abbrev pub added : Option ℕ → Region → Work → Events → Events
@@ -44,27 +61,23 @@ added time r w q = record q {
 -- nonblocking ones, else those of the monitor region.
 abbrev pub next_region : Events → Option Region
 next_region q =
-    cond (any_due region.Inactive q) (Some region.Inactive)
-    (cond (any_due region.Nonblocking q) (Some region.Nonblocking)
-    (cond (any_due region.Monitor q) (Some region.Monitor) None))
+    if any_due region.Inactive q then Some region.Inactive
+    else (if any_due region.Nonblocking q then Some region.Nonblocking
+    else (if any_due region.Monitor q then Some region.Monitor else None))
 
--- An entry of that region at that time is active from now on; any other stays.
+-- The entries of that region at that time are active from now on; any other stays.
 abbrev pub activated_entry : Region → ℕ → Entry → Entry
-activated_entry r now e = cond (is_due r now e) (record e { region = region.Active }) e
+activated_entry r now e = if is_due r now e then record e { region = region.Active } else e
 
 abbrev pub activated_of : Region → ℕ → List Entry → List Entry
 activated_of r now entries = map (activated_entry r now) entries
 
-abbrev pub activated : Region → Events → Events
-activated r q = record q { entries = activated_of r q.time q.entries }
-
--- The earlier of two times that may be missing.
+-- The least time of an entry.
 abbrev pub earlier_of : Option ℕ → Option ℕ → Option ℕ
 earlier_of None b = b
 earlier_of (Some a) None = Some a
 earlier_of (Some a) (Some b) = Some (min a b)
 
--- The least time of an entry.
 abbrev pub least_time : List Entry → Option ℕ
 least_time [] = None
 least_time (e ∷ es) = earlier_of e.time (least_time es)
@@ -72,10 +85,6 @@ least_time (e ∷ es) = earlier_of e.time (least_time es)
 -- Time goes on to that time, whose inactive entries become active.
 abbrev pub advanced : ℕ → Events → Events
 advanced time q = record q { entries = activated_of region.Inactive time q.entries; time = time }
-
--- No entry is left.
-abbrev pub emptied : Events → Events
-emptied q = record q { entries = [] }
 
 -- The evaluations of so many processes from this one on: now, active, with the serials from one
 -- above its number.

@@ -1,5 +1,5 @@
 -- The names of a design's objects. (IEEE 1364-2005, 12.5)
-use Rattle.std.specs.Prelude.{ℕ, ◌+◌, ◌++◌, List, [], ◌∷◌, map, Bool, nat_eq, Option, None, bytes_eq, position, slice_get, unwrap_or}
+use Rattle.std.specs.Prelude.{ℕ, ◌+◌, ◌++◌, List, [], ◌∷◌, map, Bool, ◌==◌, Option, None, bytes_eq, position, slice_get, unwrap_or}
 use Rattle.vh_base.specs.declared.first.First.{First}
 use Rattle.vh_base.specs.declared.orders.Object.{Object}
 
@@ -23,10 +23,6 @@ name_of id names = unwrap_or (slice_get names id) []
 abbrev pub whole : ℕ → Object
 whole id = record { id = id; word = None }
 
--- The object of a register.
-abbrev pub register_object : ℕ → Object
-register_object reg = whole (reg + 1)
-
 -- Is the object a scope? The module is; a register isn't.
 abbrev pub is_scope : Object → Bool
-is_scope o = nat_eq o.id 0
+is_scope o = o.id == 0

@@ -1,7 +1,6 @@
 -- What an order is answered and what it changes: a row for each order, its checks in the row's order.
 -- (IEEE 1364-2005, clause 27, in this project's profile; the codes of errors are own)
-use Rattle.std.specs.Prelude.{ℕ, List, Bool, true, false, ◌&&◌, ◌||◌, Option, Some, None, Result, Ok, Err, bytes_eq, position, slice_get}
-use Rattle.std.specs.Option.{option_map}
+use Rattle.std.specs.Prelude.{ℕ, List, [], ◌∷◌, Bool, true, false, if◌then◌else◌, not, ◌&&◌, Option, Some, None, is_some, Result, Ok, Err, bytes_eq, ok_or, option_map, option_and_then, position, slice_get}
 use Rattle.vh_base.specs.declared.orders.Answer.{Answer}
 use Rattle.vh_base.specs.declared.orders.Answer.TheVariants as answer
 use Rattle.vh_base.specs.declared.orders.BodyName.{BodyName}
@@ -13,6 +12,9 @@ use Rattle.vh_base.specs.declared.words.Code.{Code}
 use Rattle.vh_base.specs.declared.words.Code.TheVariants as code
 use Rattle.vh_base.specs.declared.words.Reason.{Reason}
 use Rattle.vh_base.specs.declared.words.Reason.TheVariants as reason
+use Rattle.vh_base.specs.declared.words.Relation.{Relation}
+use Rattle.vh_base.specs.declared.words.Relation.TheVariants as relation
+use Rattle.vh_base.specs.Checks.{unless, with_some, with_ok}
 use Rattle.vh_app.specs.Next.{procedure_named}
 use Rattle.vh_app.specs.Script.{ScriptData}
 use Rattle.vh_callbacks.specs.declared.registration.Registration.{Registration}
@@ -20,58 +22,63 @@ use Rattle.vh_callbacks.specs.Callbacks.{is_full as no_callback_more, registered
 use Rattle.vh_kernel.specs.declared.activation.Body.{Body}
 use Rattle.vh_kernel.specs.declared.activation.Who.{Who}
 use Rattle.vh_kernel.specs.declared.activation.Who.TheVariants as who_is
+use Rattle.vh_kernel.specs.Control.{without_all}
 use Rattle.vh_kernel.specs.declared.handles.Thing.{Thing}
 use Rattle.vh_kernel.specs.declared.handles.Thing.TheVariants as thing
-use Rattle.vh_kernel.specs.Control.{without_all}
 use Rattle.vh_kernel.specs.Handles.{thing_at, opened, freed, is_full as no_handle_more}
 use Rattle.vh_kernel.specs.Names.{object_named, name_of, below, whole, is_scope}
+use Rattle.vh_kernel.specs.Outcome.{Outcome, silently}
 use Rattle.vh_kernel.specs.State.{State}
 
--- What becomes of an order: it is refused, and nothing changes; it is answered, with the state after it;
--- or it gives a new handle, whose number is free, with the state after it for each number.
-pub data Effect : Type 0 where
-  refuses : Code → Effect
-  answers : Answer → State → Effect
-  opens : (ℕ → State) → Effect
+-- An order is refused with an error, and nothing changes; or it is answered; or it gives a new handle,
+-- with the state for each number that this may get.
+pub data Done : Type 0 where
+  answers : Answer → Outcome → Done
+  opens : (ℕ → State) → Done
 
--- The answer and the state after it, where the new handle would get this number.
-abbrev pub with_handle : ℕ → State → Effect → Answer × State
-with_handle h s (refuses c) = (answer.Refused c, s)
-with_handle h s (answers a t) = (a, t)
-with_handle h s (opens after) = (answer.Handle h, after h)
+abbrev pub Effect : Type 0
+Effect = Result Done Code
+
+-- What a step may choose besides its number: the number of a new handle.
+pub record Given : Type 0 where
+  pub handle : ℕ
+
+-- The answer of an order, and what comes of it.
+abbrev pub answered : Effect → State → Given → Answer × Outcome
+answered (Err c) s g = (answer.Refused c, silently s)
+answered (Ok (answers a outcome)) s g = (a, outcome)
+answered (Ok (opens after)) s g = (answer.Handle g.handle, silently (after g.handle))
 
 -- Startups come before the design is there.
 abbrev pub is_startup : Who → Bool
 is_startup (who_is.Callback c) = false
 is_startup (who_is.Startup k) = true
 
--- by_name: the object of a full name, or of a path below a scope. (27.21)
-abbrev pub finds : Bool → ℕ → State → Effect
-finds true id s = refuses code.E10
-finds false id s = opens (λ h. record s { handles = opened h (thing.Object (whole id)) s.handles })
+-- The object, or the callback, that a handle names: E1 where it isn't live, E2 where it names another thing.
+abbrev pub object_in : Option Thing → Result Object Code
+object_in None = Err code.E1
+object_in (Some (thing.Object o)) = Ok o
+object_in (Some (thing.Callback c)) = Err code.E2
 
-abbrev pub found : Option ℕ → State → Effect
-found None s = answers answer.Null s
-found (Some id) s = finds (no_handle_more s.handles) id s
+abbrev pub callback_in : Option Thing → Result ℕ Code
+callback_in None = Err code.E1
+callback_in (Some (thing.Object o)) = Err code.E2
+callback_in (Some (thing.Callback c)) = Ok c
 
-abbrev pub named_in : Bool → Object → List ℕ → State → Effect
-named_in false o text s = refuses code.E2
-named_in true o text s = found (object_named (below (name_of o.id s.names) text) s.names) s
+-- The full name that a path below a scope means; below null it is the path.
+abbrev pub name_meant : Option ℕ → List ℕ → State → Result (List ℕ) Code
+name_meant None path s = Ok path
+name_meant (Some h) path s =
+    with_ok (object_in (thing_at h s.handles)) (λ o. unless (not (is_scope o)) code.E2 (Ok (below (name_of o.id s.names) path)))
 
-abbrev pub named_at : Option Thing → List ℕ → State → Effect
-named_at None text s = refuses code.E1
-named_at (Some (thing.Object o)) text s = named_in (is_scope o) o text s
-named_at (Some (thing.Callback c)) text s = refuses code.E2
+-- A new handle of an object, or null where there is none.
+abbrev pub new_handle : Option ℕ → State → Effect
+new_handle None s = Ok (answers answer.Null (silently s))
+new_handle (Some id) s =
+    unless (no_handle_more s.handles) code.E10
+    (Ok (opens (λ h. record s { handles = opened h (thing.Object (whole id)) s.handles })))
 
-abbrev pub named_below : Option ℕ → List ℕ → State → Effect
-named_below None text s = found (object_named text s.names) s
-named_below (Some h) text s = named_at (thing_at h s.handles) text s
-
-abbrev pub named : Bool → Option ℕ → List ℕ → State → Effect
-named true scope text s = refuses code.E9
-named false scope text s = named_below scope text s
-
--- Which reasons watch an object. (27.33.1)
+-- Which reasons watch an object. (27.33)
 abbrev pub needs_object : Reason → Bool
 needs_object reason.CbValueChange = true
 needs_object reason.CbForce = true
@@ -85,8 +92,8 @@ needs_object reason.CbEndOfCompile = false
 needs_object reason.CbStartOfSimulation = false
 needs_object reason.CbEndOfSimulation = false
 
--- Which reasons stand for an entry of the event queue. (27.33.2) They come later, and until then no
--- script names one; they are refused.
+-- Which reasons stand for an entry of the event queue. (27.33) They come later, and until then no script
+-- names one; they are refused.
 abbrev pub needs_entry : Reason → Bool
 needs_entry reason.CbValueChange = false
 needs_entry reason.CbForce = false
@@ -100,49 +107,34 @@ needs_entry reason.CbEndOfCompile = false
 needs_entry reason.CbStartOfSimulation = false
 needs_entry reason.CbEndOfSimulation = false
 
--- Is it too early for the reason: for one that watches an object, in a startup; for one that isn't there yet?
-abbrev pub is_early : Who → Reason → Bool
-is_early w r = is_startup w && needs_object r || needs_entry r
+-- The object that a registration watches: a register.
+abbrev pub object_watched : Bool → Option ℕ → State → Result (Option Object) Code
+object_watched false h s = Ok None
+object_watched true h s =
+    with_some h code.E1 (λ n.
+    with_ok (object_in (thing_at n s.handles)) (λ o. unless (is_scope o) code.E2 (Ok (Some o))))
 
--- The object that a registration watches, or the error of its handle.
-abbrev pub watched_object : Bool → Object → Result (Option Object) Code
-watched_object true o = Err code.E2
-watched_object false o = Ok (Some o)
-
-abbrev pub watched_thing : Option Thing → Result (Option Object) Code
-watched_thing None = Err code.E1
-watched_thing (Some (thing.Object o)) = watched_object (is_scope o) o
-watched_thing (Some (thing.Callback c)) = Err code.E2
-
-abbrev pub watched_at : Option ℕ → State → Result (Option Object) Code
-watched_at None s = Err code.E1
-watched_at (Some h) s = watched_thing (thing_at h s.handles)
-
-abbrev pub watched : Bool → Option ℕ → State → Result (Option Object) Code
-watched false h s = Ok None
-watched true h s = watched_at h s
-
--- The procedure of a script. A native is none, since no natives are handed in yet.
-abbrev pub start_in : ℕ → List ℕ → Option ScriptData → Option Body
-start_in i name None = None
-start_in i name (Some script) = option_map (λ p. record { script = i; start = p }) (procedure_named script name)
-
-abbrev pub script_named : List ℕ → List ScriptData → Option ℕ
-script_named app scripts = position (λ s. bytes_eq s.name app) scripts
-
-abbrev pub body_at : Option ℕ → List ℕ → List ScriptData → Option Body
-body_at None name scripts = None
-body_at (Some i) name scripts = start_in i name (slice_get scripts i)
-
-abbrev pub found_body : Option Body → Result Body Code
-found_body None = Err code.E13
-found_body (Some b) = Ok b
+-- The procedure of a script, by their names. A native is none, since no natives are handed in yet.
+abbrev pub start_in : ℕ → List ℕ → ScriptData → Option Body
+start_in i name script = option_map (λ at. record { script = i; start = at }) (procedure_named script name)
 
 abbrev pub body_named : BodyName → List ScriptData → Result Body Code
-body_named (body_name.Proc p) scripts = found_body (body_at (script_named p.app scripts) p.name scripts)
+body_named (body_name.Proc p) scripts =
+    with_some (position (λ s. bytes_eq s.name p.app) scripts) code.E13 (λ i.
+    with_some (slice_get scripts i) code.E13 (λ script. ok_or (start_in i p.name script) code.E13))
 body_named (body_name.Native name) scripts = Err code.E12
 
--- register: a callback for a reason and an object, with what it calls and its user data. (27.33)
+-- A new callback, with its handle.
+abbrev pub new_callback : (ℕ → Registration) → Body → State → Effect
+new_callback r b s =
+    unless (no_callback_more s.callbacks) code.E11
+    (unless (no_handle_more s.handles) code.E10
+    (Ok (opens (λ me. record s {
+      callbacks = registered (r me) b s.callbacks;
+      handles = opened me (thing.Callback s.callbacks.next) s.handles;
+    }))))
+
+-- What is registered, under the handle that it gets.
 abbrev pub registration_of : Reason → Option Object → Option ℕ → ℕ → ℕ → ℕ → Registration
 registration_of r object named_handle time n me = record {
   reason = r;
@@ -154,83 +146,150 @@ registration_of r object named_handle time n me = record {
   user_data = n;
 }
 
-abbrev pub gives : Bool → (ℕ → Registration) → Body → State → Effect
-gives true r b s = refuses code.E10
-gives false r b s = opens (λ h. record s {
-  callbacks = registered (r h) b s.callbacks;
-  handles = opened h (thing.Callback s.callbacks.next) s.handles;
-})
-
-abbrev pub numbers : Bool → (ℕ → Registration) → Body → State → Effect
-numbers true r b s = refuses code.E11
-numbers false r b s = gives (no_handle_more s.handles) r b s
-
-abbrev pub calls : Result Body Code → (ℕ → Registration) → State → Effect
-calls (Err c) r s = refuses c
-calls (Ok b) r s = numbers (no_callback_more s.callbacks) r b s
-
-abbrev pub watches : Result (Option Object) Code → Reason → Option ℕ → ℕ → BodyName → ℕ → State → Effect
-watches (Err c) r h time body n s = refuses c
-watches (Ok object) r h time body n s = calls (body_named body s.scripts) (registration_of r object h time n) s
-
-abbrev pub registers : Bool → Reason → Option ℕ → ℕ → BodyName → ℕ → State → Effect
-registers true r h time body n s = refuses code.E9
-registers false r h time body n s = watches (watched (needs_object r) h s) r h time body n s
-
--- remove: the callback is gone, from every frame's set too, and its handle is freed. (27.36)
-abbrev pub removes_thing : Option Thing → ℕ → State → Effect
-removes_thing None h s = refuses code.E1
-removes_thing (Some (thing.Object o)) h s = refuses code.E2
-removes_thing (Some (thing.Callback c)) h s = answers (answer.Number 1) (record s {
+-- A callback is gone, from every frame's set too, and a handle is freed.
+abbrev pub without_callback : ℕ → ℕ → State → State
+without_callback c h s = record s {
   callbacks = removed c s.callbacks;
   handles = freed h s.handles;
   control = without_all c s.control;
-})
+}
 
-abbrev pub removes_at : Option ℕ → State → Effect
-removes_at None s = refuses code.E1
-removes_at (Some h) s = removes_thing (thing_at h s.handles) h s
+-- The relation of the running call takes null, and so does that of the top modules.
+abbrev pub is_running_call : Relation → Bool
+is_running_call relation.VpiModule = false
+is_running_call relation.VpiScope = false
+is_running_call relation.VpiParent = false
+is_running_call relation.VpiSysTfCall = true
+is_running_call relation.VpiInternalScope = false
+is_running_call relation.VpiNet = false
+is_running_call relation.VpiPort = false
+is_running_call relation.VpiContAssign = false
+is_running_call relation.VpiProcess = false
+is_running_call relation.VpiReg = false
+is_running_call relation.VpiVariables = false
+is_running_call relation.VpiMemory = false
+is_running_call relation.VpiParameter = false
+is_running_call relation.VpiNamedEvent = false
+is_running_call relation.VpiMemoryWord = false
+is_running_call relation.VpiArgument = false
 
-abbrev pub removes : Bool → Option ℕ → State → Effect
-removes true h s = refuses code.E9
-removes false h s = removes_at h s
+abbrev pub is_module : Relation → Bool
+is_module relation.VpiModule = true
+is_module relation.VpiScope = false
+is_module relation.VpiParent = false
+is_module relation.VpiSysTfCall = false
+is_module relation.VpiInternalScope = false
+is_module relation.VpiNet = false
+is_module relation.VpiPort = false
+is_module relation.VpiContAssign = false
+is_module relation.VpiProcess = false
+is_module relation.VpiReg = false
+is_module relation.VpiVariables = false
+is_module relation.VpiMemory = false
+is_module relation.VpiParameter = false
+is_module relation.VpiNamedEvent = false
+is_module relation.VpiMemoryWord = false
+is_module relation.VpiArgument = false
 
--- Each order. Those that no script gives yet are refused; each gets its row when a script can give it.
+-- A handle that is needed; where null may stand for it, null is none.
+abbrev pub handle_or_null : Bool → Option ℕ → List (Option ℕ)
+handle_or_null free None = if free then [] else None ∷ []
+handle_or_null free (Some h) = Some h ∷ []
+
+-- A handle that is read on a condition.
+abbrev pub handle_if : Bool → Option ℕ → List (Option ℕ)
+handle_if true h = h ∷ []
+handle_if false h = []
+
+-- The handles that an order reads, a row for each; null among them is a handle that names nothing. A
+-- registration for a reason without an object reads none.
+abbrev pub handles_read : Order → List (Option ℕ)
+handles_read (order.ByName text scope) = handle_or_null true scope
+handles_read (order.ByIndex h n) = h ∷ []
+handles_read (order.Handle r h) = handle_or_null (is_running_call r) h
+handles_read (order.Iterate r h) = handle_or_null (is_module r) h
+handles_read (order.Scan h) = h ∷ []
+handles_read (order.Free h) = h ∷ []
+handles_read (order.Compare a b) = a ∷ b ∷ []
+handles_read (order.Get property h) = h ∷ []
+handles_read (order.GetStr property h) = h ∷ []
+handles_read (order.GetValue h format) = h ∷ []
+handles_read (order.PutValue h format text mode time event) = h ∷ []
+handles_read (order.Cancel h) = h ∷ []
+handles_read order.GetTime = []
+handles_read (order.Register r h time body n) = handle_if (needs_object r) h
+handles_read (order.Remove h) = h ∷ []
+handles_read (order.CbInfo h) = h ∷ []
+handles_read (order.RegisterSystf kind text n calltf compiletf) = []
+handles_read order.ChkError = []
+handles_read (order.Control stop) = []
+handles_read (order.Print text) = []
+handles_read (order.SetData n) = []
+handles_read order.Pass = []
+handles_read order.Return = []
+
+-- Does a handle name something?
+abbrev pub is_named : State → Option ℕ → Bool
+is_named s None = false
+is_named s (Some h) = is_some (thing_at h s.handles)
+
+abbrev pub all_named : State → List (Option ℕ) → Bool
+all_named s [] = true
+all_named s (h ∷ hs) = all_named s hs && is_named s h
+
+-- An order that no script gives yet is refused, after the checks that stand before all others.
+abbrev pub not_yet : Order → Who → State → Effect
+not_yet o w s =
+    unless (is_startup w) code.E9
+    (unless (not (all_named s (handles_read o))) code.E1
+    (Err code.E9))
+
+-- Each order.
 abbrev pub effect_of : Order → Who → State → Effect
-effect_of (order.ByName text scope) w s = named (is_startup w) scope text s
-effect_of (order.ByIndex h n) w s = refuses code.E9
-effect_of (order.Handle relation h) w s = refuses code.E9
-effect_of (order.Iterate relation h) w s = refuses code.E9
-effect_of (order.Scan h) w s = refuses code.E9
-effect_of (order.Free h) w s = refuses code.E9
-effect_of (order.Compare a b) w s = refuses code.E9
-effect_of (order.Get property h) w s = refuses code.E9
-effect_of (order.GetStr property h) w s = refuses code.E9
-effect_of (order.GetValue h format) w s = refuses code.E9
-effect_of (order.PutValue h format text mode time event) w s = refuses code.E9
-effect_of (order.Cancel h) w s = refuses code.E9
-effect_of order.GetTime w s = refuses code.E9
-effect_of (order.Register r h time body n) w s = registers (is_early w r) r h time body n s
-effect_of (order.Remove h) w s = removes (is_startup w) h s
-effect_of (order.CbInfo h) w s = refuses code.E9
-effect_of (order.RegisterSystf kind text n calltf compiletf) w s = refuses code.E9
-effect_of order.ChkError w s = refuses code.E9
-effect_of (order.Control stop) w s = refuses code.E9
-effect_of (order.Print text) w s = answers answer.Done s
-effect_of (order.SetData n) w s = refuses code.E9
-effect_of order.Pass w s = refuses code.E9
-effect_of order.Return w s = refuses code.E9
-
--- The answer of an order and the state after it, where a new handle would get this number.
-abbrev pub perform_of : Order → Who → State → ℕ → Answer × State
-perform_of o w s h = with_handle h s (effect_of o w s)
+-- by_name
+effect_of (order.ByName text scope) w s =
+    unless (is_startup w) code.E9
+    (with_ok (name_meant scope text s) (λ name. new_handle (object_named name s.names) s))
+effect_of (order.ByIndex h n) w s = not_yet (order.ByIndex h n) w s
+effect_of (order.Handle r h) w s = not_yet (order.Handle r h) w s
+effect_of (order.Iterate r h) w s = not_yet (order.Iterate r h) w s
+effect_of (order.Scan h) w s = not_yet (order.Scan h) w s
+effect_of (order.Free h) w s = not_yet (order.Free h) w s
+effect_of (order.Compare a b) w s = not_yet (order.Compare a b) w s
+effect_of (order.Get property h) w s = not_yet (order.Get property h) w s
+effect_of (order.GetStr property h) w s = not_yet (order.GetStr property h) w s
+effect_of (order.GetValue h format) w s = not_yet (order.GetValue h format) w s
+effect_of (order.PutValue h format text mode time event) w s = not_yet (order.PutValue h format text mode time event) w s
+effect_of (order.Cancel h) w s = not_yet (order.Cancel h) w s
+effect_of order.GetTime w s = not_yet order.GetTime w s
+-- register (27.33)
+effect_of (order.Register r h time body n) w s =
+    unless (is_startup w && needs_object r) code.E9
+    (unless (needs_entry r) code.E9
+    (with_ok (object_watched (needs_object r) h s) (λ o.
+    with_ok (body_named body s.scripts) (λ b.
+    new_callback (registration_of r o h time n) b s))))
+-- remove
+effect_of (order.Remove h) w s =
+    unless (is_startup w) code.E9
+    (with_some h code.E1 (λ n.
+    with_ok (callback_in (thing_at n s.handles)) (λ c.
+    Ok (answers (answer.Number 1) (silently (without_callback c n s))))))
+effect_of (order.CbInfo h) w s = not_yet (order.CbInfo h) w s
+effect_of (order.RegisterSystf kind text n calltf compiletf) w s = not_yet (order.RegisterSystf kind text n calltf compiletf) w s
+effect_of order.ChkError w s = not_yet order.ChkError w s
+effect_of (order.Control stop) w s = not_yet (order.Control stop) w s
+effect_of (order.Print text) w s = Ok (answers answer.Done (silently s))
+effect_of (order.SetData n) w s = not_yet (order.SetData n) w s
+effect_of order.Pass w s = not_yet order.Pass w s
+effect_of order.Return w s = not_yet order.Return w s
 
 -- Does an activation return?
 abbrev pub is_return : Order → Bool
 is_return (order.ByName text scope) = false
 is_return (order.ByIndex h n) = false
-is_return (order.Handle relation h) = false
-is_return (order.Iterate relation h) = false
+is_return (order.Handle r h) = false
+is_return (order.Iterate r h) = false
 is_return (order.Scan h) = false
 is_return (order.Free h) = false
 is_return (order.Compare a b) = false

@@ -1,14 +1,15 @@
 -- Runs of the machine under a chosen order, and their text.
-use Rattle.std.specs.Prelude.{◌≡◌, ℕ, zero, suc, List, [], ◌∷◌, map, true, cond, unwrap_or}
+use Rattle.std.specs.Prelude.{◌≡◌, ℕ, zero, suc, List, [], ◌∷◌, map, true, if◌then◌else◌, unwrap_or}
 use Rattle.std.specs.List.{flat_map}
 use Rattle.vh_kernel.specs.declared.label.Label.{Label}
 use Rattle.vh_kernel.specs.declared.label.Label.TheVariants as label
 use Rattle.vh_base.specs.declared.orders.Answer.{Answer}
 use Rattle.vh_base.specs.declared.orders.Answer.TheVariants as answer
-use Rattle.vh_kernel.specs.Handles.{fresh_of}
 use Rattle.vh_kernel.specs.Line.{line_at}
 use Rattle.vh_kernel.specs.State.{State}
-use Rattle.vh_kernel.specs.Step.{Move, IsStep, step_of, choices_of, is_end}
+use Rattle.vh_kernel.specs.Orders.{Given}
+use Rattle.vh_kernel.specs.Outcome.{Move}
+use Rattle.vh_kernel.specs.Step.{IsStep, step_of, choices_of, is_end}
 
 -- An order of choice: fifo takes the first of the choices at each label, which stand in rising order.
 -- (own: IEEE 1364-2005, 11.4.2 leaves the choice open)
@@ -34,27 +35,26 @@ IsRun order s [] = Unit {0}
 IsRun order s (m ∷ moves) =
     IsMove order s m × (is_end m.0 ≡ true → moves ≡ []) × IsRun (chooser_after order (choices_of s)) m.1 moves
 
--- The step that the order of choice takes, where a new handle gets this number.
-abbrev pub move_from : Chooser → State → ℕ → Move
-move_from order s h = step_of s (chosen order (choices_of s)) h
+-- The step that the order of choice takes, with what is given.
+abbrev pub move_from : Chooser → State → Given → Move
+move_from order s g = step_of s (chosen order (choices_of s)) g
 
--- The labels that the machine makes from the state up to its end, where a new handle of each label would
--- get the number that stands in the list for it.
-abbrev pub moves_with : Chooser → List ℕ → State → List Move
+-- The labels that the machine makes from the state up to its end, with what is given to each in the list.
+abbrev pub moves_with : Chooser → List Given → State → List Move
 moves_with order [] s = []
-moves_with order (h ∷ handles) s =
-    move_from order s h
-    ∷ cond (is_end (move_from order s h).0) [] (moves_with (chooser_after order (choices_of s)) handles (move_from order s h).1)
+moves_with order (g ∷ gs) s = move_from order s g
+    ∷ (if is_end (move_from order s g).0 then [] else moves_with (chooser_after order (choices_of s)) gs (move_from order s g).1)
 
--- The labels that the machine makes from the state, so many at most, up to its end, where handles get the
--- numbers from 0 on.
-abbrev pub next_move : Chooser → State → Move
-next_move order s = move_from order s (fresh_of s.handles)
+-- The labels that the machine makes from the state, so many at most, up to its end, where each new handle
+-- gets the count of those given before it.
+abbrev pub next_given : State → Given
+next_given s = record { handle = s.handles.count }
 
 abbrev pub moves_of : Chooser → ℕ → State → List Move
 moves_of order zero s = []
-moves_of order (suc n) s =
-    next_move order s ∷ cond (is_end (next_move order s).0) [] (moves_of (chooser_after order (choices_of s)) n (next_move order s).1)
+moves_of order (suc n) s = move_from order s (next_given s)
+    ∷ (if is_end (move_from order s (next_given s)).0 then []
+    else moves_of (chooser_after order (choices_of s)) n (move_from order s (next_given s)).1)
 
 -- The line of a label, at the time after it, or nothing for a silent one.
 abbrev pub line_of_move : Move → List ℕ
@@ -64,7 +64,7 @@ line_of_move m = unwrap_or (line_at m.1 m.0) []
 abbrev pub text_of : List Move → List ℕ
 text_of moves = flat_map line_of_move moves
 
--- The number of the handle that a label gives, if it gives one, else 0.
+-- What was given to a label: the number of the handle that it gives, if it gives one, else 0.
 abbrev pub handle_in : Answer → ℕ
 handle_in answer.Done = 0
 handle_in answer.Null = 0
@@ -73,24 +73,26 @@ handle_in (answer.Number n) = 0
 handle_in (answer.Text text) = 0
 handle_in (answer.Refused code) = 0
 
-abbrev pub given_in : Label → ℕ
-given_in (label.Startup k) = 0
-given_in (label.Do who order answer) = handle_in answer
-given_in (label.Ret who) = 0
-given_in (label.Occ n reason object) = 0
-given_in (label.Fire n c) = 0
-given_in (label.Done n) = 0
-given_in (label.Activate region) = 0
-given_in (label.Advance time) = 0
-given_in (label.Pick serial shown) = 0
-given_in (label.Stmt process shown) = 0
-given_in (label.Finish cause) = 0
-given_in (label.End ending) = 0
+abbrev pub given_in : Label → Given
+given_in (label.Startup k) = record { handle = 0 }
+given_in (label.Do who order answer) = record { handle = handle_in answer }
+given_in (label.Ret who) = record { handle = 0 }
+given_in (label.Occ n reason object) = record { handle = 0 }
+given_in (label.Fire n c) = record { handle = 0 }
+given_in (label.Done n) = record { handle = 0 }
+given_in (label.Activate region) = record { handle = 0 }
+given_in (label.Advance time) = record { handle = 0 }
+given_in (label.Pick serial shown) = record { handle = 0 }
+given_in (label.Stmt process shown) = record { handle = 0 }
+given_in (label.Finish cause) = record { handle = 0 }
+given_in (label.End ending) = record { handle = 0 }
 
-abbrev pub handles_in : List Move → List ℕ
-handles_in moves = map (λ m. given_in m.0) moves
+abbrev pub all_given : List Move → List Given
+all_given moves = map (λ m. given_in m.0) moves
 
 -- No run can be picked afterwards to fit other bytes: but for the numbers of handles, which are printed
 -- where they are given, a run is the one list of labels.
 abbrev pub OneRun : Type 0
-OneRun = (order : Chooser) (s : State) (moves : List Move) → IsRun order s moves → moves ≡ moves_with order (handles_in moves) s
+OneRun =
+    (order : Chooser) (s : State) (moves : List Move)
+    → IsRun order s moves → moves ≡ moves_with order (all_given moves) s

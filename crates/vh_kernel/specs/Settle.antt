@@ -1,26 +1,21 @@
--- What is left of control and the agenda before the next label: an occurrence that no callback watches
--- is dropped without one. (IEEE 1364-2005, 27.33; that it takes no label is own)
-use Rattle.std.specs.Prelude.{List, [], ◌∷◌, drop, Bool, false, not, cond, Option, Some, None, slice_get}
+-- What is dropped before the next label: an occurrence that no callback watches takes none.
+-- (IEEE 1364-2005, 27.33; that it takes no label is own)
+use Rattle.std.specs.Prelude.{List, [], ◌∷◌, Bool, true, false, if◌then◌else◌, is_some, slice_get}
 use Rattle.vh_base.specs.declared.first.First.{First}
-use Rattle.vh_base.specs.declared.words.Reason.{Reason}
 use Rattle.vh_app.specs.Script.{ScriptData}
-use Rattle.vh_callbacks.specs.Callbacks.{Callbacks, matches}
+use Rattle.vh_callbacks.specs.Callbacks.{Callbacks}
 use Rattle.vh_kernel.specs.declared.activation.Body.{Body}
-use Rattle.vh_kernel.specs.declared.control.Control.{Control}
-use Rattle.vh_kernel.specs.declared.control.Control.TheVariants as top
 use Rattle.vh_kernel.specs.declared.occurrence.Agendum.{Agendum}
 use Rattle.vh_kernel.specs.declared.occurrence.Agendum.TheVariants as agendum
-use Rattle.vh_kernel.specs.declared.occurrence.Occurrence.{Occurrence}
+use Rattle.vh_kernel.specs.declared.control.Control.{Control}
+use Rattle.vh_kernel.specs.declared.control.Control.TheVariants as top
+use Rattle.vh_kernel.specs.Occurrences.{occurrence_of, set_of, is_empty}
 use Rattle.vh_kernel.specs.State.{State, before_all}
-
--- An occurrence without an object.
-abbrev pub occurrence_of : Reason → Occurrence
-occurrence_of r = record { reason = r; object = None; value = None }
 
 -- Does no callback watch what is on control? Only a pending occurrence can be void.
 abbrev pub is_void : Callbacks Body → Control → Bool
 is_void c (top.Process p) = false
-is_void c (top.Pending o) = not (matches o.reason o.object c)
+is_void c (top.Pending o) = is_empty (set_of o c)
 is_void c (top.Frame f) = false
 is_void c (top.Activation a) = false
 is_void c (top.Leave cause) = false
@@ -28,43 +23,28 @@ is_void c (top.Leave cause) = false
 -- The same of the agenda.
 abbrev pub is_void_item : Callbacks Body → Agendum → Bool
 is_void_item c (agendum.Startup k) = false
-is_void_item c (agendum.Occurrence r) = not (matches r None c)
+is_void_item c (agendum.Occurrence r) = is_empty (set_of (occurrence_of r) c)
 
 -- Is the first of a list so?
 abbrev pub first_is : {X : Type 0} → (X → Bool) → List X → Bool
-first_is is [] = false
-first_is is (x ∷ xs) = is x
+first_is so [] = false
+first_is so (x ∷ xs) = so x
 
--- Control without void occurrences on top.
-abbrev pub settled_control : Callbacks Body → List Control → List Control
-settled_control c [] = []
-settled_control c (x ∷ xs) = cond (is_void c x) (settled_control c xs) (x ∷ xs)
+-- A list without those at its front that are so.
+abbrev pub without_front : {X : Type 0} → (X → Bool) → List X → List X
+without_front so [] = []
+without_front so (x ∷ xs) = if so x then without_front so xs else x ∷ xs
 
--- The agenda without void occurrences at its front.
-abbrev pub settled_agenda : Callbacks Body → List Agendum → List Agendum
-settled_agenda c [] = []
-settled_agenda c (x ∷ xs) = cond (is_void_item c x) (settled_agenda c xs) (x ∷ xs)
+-- The state before the next label: control without void occurrences on top, and where nothing is left
+-- on it, the agenda without those at its front.
+abbrev pub settled_control : State → List Control
+settled_control s = without_front (is_void s.callbacks) s.control
 
--- An occurrence at the front of the agenda is pending from now on.
-abbrev pub raised : Option Agendum → State → State
-raised None s = s
-raised (Some (agendum.Startup k)) s = s
-raised (Some (agendum.Occurrence r)) s = record s { control = top.Pending (occurrence_of r) ∷ s.control; agenda = drop 1 s.agenda }
-
--- Where nothing is on control, the agenda goes on.
-abbrev pub agenda_settled : State → State
-agenda_settled s = raised (slice_get s.agenda 0) s
-
-abbrev pub by_settled : Option Control → State → State
-by_settled None s = agenda_settled (record s { agenda = settled_agenda s.callbacks s.agenda })
-by_settled (Some c) s = s
-
-abbrev pub control_settled : State → State
-control_settled s = by_settled (slice_get s.control 0) s
-
--- The state before the next label.
 abbrev pub settled : State → State
-settled s = control_settled (record s { control = settled_control s.callbacks s.control })
+settled s = record s {
+  control = settled_control s;
+  agenda = if is_some (slice_get (settled_control s) 0) then s.agenda else without_front (is_void_item s.callbacks) s.agenda;
+}
 
 -- The state at the opening of a design with its scripts.
 abbrev pub opening : First → List ScriptData → State

@@ -1,258 +1,88 @@
--- The machine's step: a state, a choice and the number that a new handle would get give the label and the
--- state after it. (IEEE 1364-2005, 11.4 and 27.33; the numbers that end a run are own.)
-use Rattle.std.specs.Prelude.{◌≡◌, ℕ, ◌+◌, ◌-◌, ◌++◌, List, [], ◌∷◌, length, drop, max, min, Bool, true, false, cond, nat_le, nat_lt, nat_eq, Option, Some, None, slice_get, slice_set, unwrap_or}
-use Rattle.std.specs.Option.{option_map}
+-- The machine's step: a state, a choice and what is given besides it make the label and the state after
+-- it. (IEEE 1364-2005, 11.4 and 27.33; the numbers that end a run are own.)
+use Rattle.std.specs.Prelude.{◌≡◌, ⊤, ℕ, ◌+◌, ◌-◌, List, [], ◌∷◌, length, max, min, Bool, true, false, if◌then◌else◌, nat_le, nat_lt, Option, Some, None, Result, Ok, Err, slice_get, slice_set}
 use Rattle.vh_base.specs.declared.faults.Cause.{Cause}
 use Rattle.vh_base.specs.declared.faults.Cause.TheVariants as cause
-use Rattle.vh_base.specs.declared.faults.Fault.{Fault}
 use Rattle.vh_base.specs.declared.faults.Fault.TheVariants as fault
-use Rattle.vh_base.specs.declared.first.FirstBit.{FirstBit}
-use Rattle.vh_base.specs.declared.first.FirstBit.TheVariants as bit
-use Rattle.vh_base.specs.declared.first.FirstCode.{FirstCode}
-use Rattle.vh_base.specs.declared.first.FirstCode.TheVariants as code
 use Rattle.vh_base.specs.declared.orders.Answer.{Answer}
 use Rattle.vh_base.specs.declared.orders.Answer.TheVariants as answer
 use Rattle.vh_base.specs.declared.orders.Order.{Order}
 use Rattle.vh_base.specs.declared.orders.Seen.{Seen}
 use Rattle.vh_base.specs.declared.words.Reason.TheVariants as reason
+use Rattle.vh_base.specs.Checks.{unless}
 use Rattle.vh_app.specs.declared.point.Body.TheVariants as part
 use Rattle.vh_app.specs.declared.point.Point.{Point}
 use Rattle.vh_app.specs.Next.{opening as start_of, next_of as next_order}
 use Rattle.vh_app.specs.Script.{ScriptData}
 use Rattle.vh_callbacks.specs.declared.registration.Registration.{Registration}
-use Rattle.vh_callbacks.specs.Callbacks.{matching, info_of, body_of}
-use Rattle.vh_kernel.specs.declared.activation.Activation.{Activation}
+use Rattle.vh_callbacks.specs.Callbacks.{info_of, body_of}
 use Rattle.vh_kernel.specs.declared.activation.Body.{Body}
 use Rattle.vh_kernel.specs.declared.activation.Who.TheVariants as who_is
-use Rattle.vh_kernel.specs.declared.control.Control.{Control}
-use Rattle.vh_kernel.specs.declared.control.Control.TheVariants as top
 use Rattle.vh_kernel.specs.declared.events.Entry.{Entry}
+use Rattle.vh_kernel.specs.declared.events.TheConstants.{MOST_ENTRIES}
 use Rattle.vh_kernel.specs.declared.events.Work.{Work}
 use Rattle.vh_kernel.specs.declared.events.Work.TheVariants as work
-use Rattle.vh_kernel.specs.declared.label.Ending.{Ending}
+use Rattle.vh_kernel.specs.declared.control.TheConstants.{MOST_FRAMES, MOST_OCCURRENCES}
 use Rattle.vh_kernel.specs.declared.label.Ending.TheVariants as ending
 use Rattle.vh_kernel.specs.declared.label.Label.{Label}
 use Rattle.vh_kernel.specs.declared.label.Label.TheVariants as label
 use Rattle.vh_kernel.specs.declared.label.Region.{Region}
-use Rattle.vh_kernel.specs.declared.label.Region.TheVariants as region
 use Rattle.vh_kernel.specs.declared.occurrence.Agendum.{Agendum}
 use Rattle.vh_kernel.specs.declared.occurrence.Agendum.TheVariants as agendum
-use Rattle.vh_kernel.specs.declared.occurrence.Frame.{Frame}
-use Rattle.vh_kernel.specs.declared.occurrence.Occurrence.{Occurrence}
 use Rattle.vh_kernel.specs.declared.phase.Phase.{Phase}
 use Rattle.vh_kernel.specs.declared.phase.Phase.TheVariants as phase
+use Rattle.vh_kernel.specs.declared.activation.Activation.{Activation}
+use Rattle.vh_kernel.specs.declared.control.Control.{Control}
+use Rattle.vh_kernel.specs.declared.control.Control.TheVariants as top
+use Rattle.vh_kernel.specs.declared.occurrence.Frame.{Frame}
 use Rattle.vh_kernel.specs.Control.{frames}
-use Rattle.vh_kernel.specs.Events.{eligible, without, added, is_full, next_region, activated, least_time, advanced, emptied}
-use Rattle.vh_kernel.specs.Handles.{is_given}
-use Rattle.vh_kernel.specs.Names.{register_object}
+use Rattle.vh_kernel.specs.Occurrences.{Occurrence, occurrence_of, set_of}
+use Rattle.vh_kernel.specs.Events.{eligible, without_serial, next_region, activated_of, least_time, advanced}
 use Rattle.vh_kernel.specs.Numbers.{without_number}
-use Rattle.vh_kernel.specs.Orders.{perform_of, is_return, error_in}
-use Rattle.vh_kernel.specs.Settle.{occurrence_of, settled}
-use Rattle.vh_kernel.specs.State.{State}
-
--- A label and the state after it.
-abbrev pub Move : Type 0
-Move = Label × State
-
--- The run is over; nothing else changes.
-abbrev pub ended : Ending → State → Move
-ended e s = (label.End e, record s { phase = phase.Ended e })
-
--- The end with a fault, in place of a label that would exceed a number of the machine.
-abbrev pub failed : Fault → State → Move
-failed f s = ended (ending.Fault f) s
-
--- Something is put on top of control, and the top is taken off.
-abbrev pub pushed : Control → State → State
-pushed c s = record s { control = c ∷ s.control }
-
-abbrev pub popped : State → State
-popped s = record s { control = drop 1 s.control }
+use Rattle.vh_kernel.specs.Orders.{Given, answered, effect_of, is_return, error_in}
+use Rattle.vh_kernel.specs.Outcome.{Outcome, Move, silently, end_move, move_of}
+use Rattle.vh_kernel.specs.Settle.{settled}
+use Rattle.vh_kernel.specs.State.{State, with_top, without_top, without_item}
+use Rattle.vh_kernel.specs.Statements.{next_statement, statement_outcome}
 
 -- A finish empties control, the agenda and the queue, and the end of simulation is pending.
-abbrev pub finished : Cause → State → Move
-finished c s = (
+abbrev pub finish_move : Cause → State → Move
+finish_move c s = (
   label.Finish c,
   record s {
-    queue = emptied s.queue;
+    queue = record s.queue { entries = [] };
     control = top.Pending (occurrence_of reason.CbEndOfSimulation) ∷ [];
     agenda = [];
     phase = phase.Finished c;
   },
 )
 
--- The statements that a process has still to perform, and the next of them.
-abbrev pub rest_of : ℕ → State → List FirstCode
-rest_of p s = unwrap_or (slice_get s.threads p) []
+-- An occurrence is told: it gets the next number, and a frame with its whole set. 64 frames may stand,
+-- and numbers go up to 2^63. The first state is that before, the second has it taken off.
+abbrev pub telling_outcome : Occurrence → State → Outcome
+telling_outcome o s =
+    unless (nat_le MOST_FRAMES (frames s.control)) fault.F1
+    (unless (nat_lt MOST_OCCURRENCES s.occurrence) fault.F3
+    (silently (with_top (top.Frame (record { number = s.occurrence; what = o; left = set_of o s.callbacks }))
+        (record s { occurrence = s.occurrence + 1 }))))
 
-abbrev pub next_of : ℕ → State → Option FirstCode
-next_of p s = slice_get (rest_of p s) 0
+abbrev pub occurrence_move : Occurrence → State → State → Move
+occurrence_move o before s = move_of (λ shown. label.Occ s.occurrence o.reason o.object) before (telling_outcome o s)
 
--- The process has its next statement behind it.
-abbrev pub went_on : ℕ → State → State
-went_on p s = record s { threads = slice_set s.threads p (drop 1 (rest_of p s)) }
-
--- A delay up to a time: an inactive entry of that time evaluates the process, which leaves control.
--- It may not lead above 2^63-1, and the entry must have room.
-abbrev pub waited : Bool → ℕ → ℕ → State → Move
-waited true p time s = failed fault.F3 (pushed (top.Process p) s)
-waited false p time s = (label.Stmt p None, went_on p (record s { queue = added (Some time) region.Inactive (work.Evaluation p) s.queue }))
-
-abbrev pub delayed : Bool → ℕ → ℕ → State → Move
-delayed true p time s = failed fault.F2 (pushed (top.Process p) s)
-delayed false p time s = waited (is_full s.queue) p time s
-
--- A process shows a text.
-abbrev pub showed : ℕ → List ℕ → State → Move
-showed p text s = (label.Stmt p (Some text), pushed (top.Process p) (went_on p s))
-
--- Are two values of a register one?
-abbrev pub bit_number : FirstBit → ℕ
-bit_number bit.Zero = 0
-bit_number bit.One = 1
-bit_number bit.X = 2
-bit_number bit.Z = 3
-
-abbrev pub same_bit : FirstBit → FirstBit → Bool
-same_bit a b = nat_eq (bit_number a) (bit_number b)
-
--- The occurrence that a register has this value from now on.
-abbrev pub value_change : ℕ → FirstBit → Occurrence
-value_change reg value = record { reason = reason.CbValueChange; object = Some (register_object reg); value = Some value }
-
--- A register gets a value; where it had another, that is an occurrence.
-abbrev pub changed : Bool → ℕ → FirstBit → State → State
-changed true reg value s = s
-changed false reg value s = pushed (top.Pending (value_change reg value)) (record s { store = slice_set s.store reg value })
-
-abbrev pub stored : Option FirstBit → ℕ → FirstBit → State → State
-stored None reg value s = s
-stored (Some old) reg value s = changed (same_bit old value) reg value s
-
-abbrev pub assigned : ℕ → FirstBit → State → State
-assigned reg value s = stored (slice_get s.store reg) reg value s
-
--- A process that was on top of control performs its next statement, a row for each statement, and goes
--- on; where none is left, it ends. (9.2.1 assignments, 9.7.1 delays, 17.1 display, 17.4.1 finish)
-abbrev pub performed : ℕ → Option FirstCode → State → Move
-performed p None s = (label.Stmt p None, s)
-performed p (Some (code.Wait d)) s =
-    delayed (nat_lt 9223372036854775807 (s.queue.time + d)) p (s.queue.time + d) s
-performed p (Some (code.Assign reg value)) s = (label.Stmt p None, assigned reg value (pushed (top.Process p) (went_on p s)))
-performed p (Some (code.Show text)) s = showed p (text ++ 10 ∷ []) s
-performed p (Some code.Finish) s =
-    (label.Stmt p None, pushed (top.Leave cause.Finish) (pushed (top.Process p) (went_on p s)))
-
--- An occurrence that was on top of control is told: it gets the next number, and a frame with the set of
--- all callbacks that are live now and watch it. 64 frames may stand, and numbers go up to 2^63.
-abbrev pub told : Occurrence → State → Move
-told o s = (
-  label.Occ s.occurrence o.reason o.object,
-  pushed (top.Frame (record { number = s.occurrence; what = o; left = matching o.reason o.object s.callbacks }))
-      (record s { occurrence = s.occurrence + 1 }),
-)
-
-abbrev pub counted : Bool → Occurrence → State → Move
-counted true o s = failed fault.F3 (pushed (top.Pending o) s)
-counted false o s = told o s
-
-abbrev pub framed : Bool → Occurrence → State → Move
-framed true o s = failed fault.F1 (pushed (top.Pending o) s)
-framed false o s = counted (nat_lt 9223372036854775808 s.occurrence) o s
-
-abbrev pub occurs : Occurrence → State → Move
-occurs o s = framed (nat_le 64 (frames s.control)) o s
-
--- A register's value as text.
-abbrev pub bit_text : FirstBit → List ℕ
-bit_text bit.Zero = 48 ∷ []
-bit_text bit.One = 49 ∷ []
-bit_text bit.X = 120 ∷ []
-bit_text bit.Z = 122 ∷ []
-
--- What a callback's activation sees at first.
+-- What a callback's activation sees at first, and what a startup sees: it has no callback.
 abbrev pub first_seen : Registration → Occurrence → ℕ → Seen
 first_seen r o time = record {
   reason = r.reason;
   time = time;
   object = r.object_handle;
   me = Some r.me;
-  value = option_map bit_text o.value;
-  index = None;
+  value = o.value;
+  index = o.index;
   user_data = r.user_data;
   step = 0;
   last = answer.Null;
 }
 
--- A callback's body begins.
-abbrev pub begun : Option Body → Registration → ℕ → Occurrence → State → State
-begun None r c o s = s
-begun (Some b) r c o s = pushed
-    (top.Activation (record { who = who_is.Callback c; script = b.script; at = b.start; seen = first_seen r o s.queue.time })) s
-
-abbrev pub called : Option Registration → ℕ → Occurrence → State → State
-called None c o s = s
-called (Some r) c o s = begun (body_of c s.callbacks) r c o s
-
--- A frame that was on top of control fires the callback of its set that was chosen; where its set is
--- empty, it is done.
-abbrev pub fired : Option ℕ → Frame → State → Move
-fired None f s = (label.Done f.number, s)
-fired (Some c) f s = (
-  label.Fire f.number c,
-  called (info_of c s.callbacks) c f.what (pushed (top.Frame (record f { left = without_number c f.left })) s),
-)
-
--- What an activation sees after an order: one step more, and its answer. The count of steps stays at 2^32-1.
-abbrev pub seen_after : Answer → Seen → Seen
-seen_after a seen = record seen { step = min (seen.step + 1) 4294967295; last = a }
-
--- An activation that was on top of control goes on after an order.
-abbrev pub ordered : Order → Activation → Answer × State → Move
-ordered o a given = (
-  label.Do a.who o given.0,
-  pushed (top.Activation (record a { seen = seen_after given.0 a.seen })) (record given.1 { error = error_in given.0 }),
-)
-
--- It gives an order, or returns.
-abbrev pub acted : Bool → Order → Activation → State → ℕ → Move
-acted true o a s h = (label.Ret a.who, s)
-acted false o a s h = ordered o a (perform_of o a.who s h)
-
--- The script has said what it orders next.
-abbrev pub asked : Order × Point × List Answer → Activation → State → ℕ → Move
-asked given a s h =
-    acted (is_return given.0) given.0 (record a { at = given.1 }) (record s { variables = slice_set s.variables a.script given.2 }) h
-
-abbrev pub asks_with : Option (List Answer) → ScriptData → Activation → State → ℕ → Move
-asks_with None script a s h = (label.Ret a.who, s)
-asks_with (Some vars) script a s h = asked (next_order script a.at vars a.seen) a s h
-
-abbrev pub asks : Option ScriptData → Activation → State → ℕ → Move
-asks None a s h = (label.Ret a.who, s)
-asks (Some script) a s h = asks_with (slice_get s.variables a.script) script a s h
-
--- Time goes on, or where no entry is left the run finishes.
-abbrev pub later : Option ℕ → State → Move
-later None s = finished cause.Nothing s
-later (Some time) s = (label.Advance time, record s { queue = advanced time s.queue })
-
--- A region becomes active, or where none has an entry of the present time, time goes on.
-abbrev pub quiet : Option Region → State → Move
-quiet None s = later (least_time s.queue.entries) s
-quiet (Some r) s = (label.Activate r, record s { queue = activated r s.queue })
-
--- An entry is performed, a row for each kind of work: an evaluation puts its process on control.
-abbrev pub worked : Work → State → State
-worked (work.Evaluation p) s = pushed (top.Process p) s
-
--- With nothing on control and the agenda done: an entry is picked, or else a region becomes active, or
--- else time goes on.
-abbrev pub picked : Option Entry → State → Move
-picked None s = quiet (next_region s.queue) s
-picked (Some e) s = (label.Pick e.serial None, worked e.work (record s { queue = without e.serial s.queue }))
-
--- What a startup sees. It has no callback, so it sees neither object nor handle.
 abbrev pub startup_seen : ℕ → Seen
 startup_seen time = record {
   reason = reason.CbEndOfCompile;
@@ -266,51 +96,120 @@ startup_seen time = record {
   last = answer.Null;
 }
 
--- The startup of a script begins.
+-- What a callback calls begins.
+abbrev pub called : Option Registration → Option Body → ℕ → Occurrence → State → State
+called None b c o s = s
+called (Some r) None c o s = s
+called (Some r) (Some b) c o s = with_top (top.Activation (record {
+  who = who_is.Callback c;
+  script = b.script;
+  at = b.start;
+  seen = first_seen r o s.queue.time;
+})) s
+
+-- A frame fires the callback of its set that was chosen; where its set is empty, it is done.
+abbrev pub fire_move : Option ℕ → Frame → State → Move
+fire_move None f s = (label.Done f.number, s)
+fire_move (Some c) f s = (
+  label.Fire f.number c,
+  called (info_of c s.callbacks) (body_of c s.callbacks) c f.what
+      (with_top (top.Frame (record f { left = without_number c f.left })) s),
+)
+
+-- An activation after an order: it has seen one step more, and its answer. The count of steps stays at
+-- 2^32-1.
+abbrev pub seen_after : Answer → Seen → Seen
+seen_after a seen = record seen { step = min (seen.step + 1) 4294967295; last = a }
+
+-- It stands on control again, below the occurrences that the order made.
+abbrev pub resumed : Activation → Answer → Outcome → Outcome
+resumed a x (Err f) = Err f
+resumed a x (Ok m) = Ok (record m {
+  state = with_top (top.Activation (record a { seen = seen_after x a.seen })) (record m.state { error = error_in x });
+})
+
+-- It gives an order and is answered, or returns. The first state is that before.
+abbrev pub answer_move : Order → Activation → Answer × Outcome → State → Move
+answer_move o a given before = move_of (λ shown. label.Do a.who o given.0) before (resumed a given.0 given.1)
+
+abbrev pub order_move : Bool → Order → Activation → State → State → Given → Move
+order_move true o a before s g = (label.Ret a.who, s)
+order_move false o a before s g = answer_move o a (answered (effect_of o a.who s) s g) before
+
+-- The script has said what it orders next.
+abbrev pub next_move_of : Order × Point × List Answer → Activation → State → State → Given → Move
+next_move_of next a before s g =
+    order_move (is_return next.0) next.0 (record a { at = next.1 }) before
+    (record s { variables = slice_set s.variables a.script next.2 }) g
+
+abbrev pub activation_move : Option ScriptData → Option (List Answer) → Activation → State → Given → Move
+activation_move None vars a s g = (label.Ret a.who, s)
+activation_move (Some script) None a s g = (label.Ret a.who, s)
+activation_move (Some script) (Some vars) a s g =
+    next_move_of (next_order script a.at vars a.seen) a (with_top (top.Activation a) s) s g
+
+-- An entry is performed, a row for each kind of work: an evaluation puts its process on control.
+abbrev pub work_outcome : Work → State → Outcome
+work_outcome (work.Evaluation p) s = silently (with_top (top.Process p) s)
+
+-- Time goes on to the least time of an entry, or where none is left the run finishes.
+abbrev pub time_move : Option ℕ → State → Move
+time_move None s = finish_move cause.Nothing s
+time_move (Some time) s = (label.Advance time, record s { queue = advanced time s.queue })
+
+-- A region becomes active, or where none has an entry of the present time, time goes on.
+abbrev pub region_move : Option Region → State → Move
+region_move None s = time_move (least_time s.queue.entries) s
+region_move (Some r) s =
+    (label.Activate r, record s { queue = record s.queue { entries = activated_of r s.queue.time s.queue.entries } })
+
+-- An entry is picked and performed, or where none may be a region becomes active.
+abbrev pub pick_move : Option Entry → State → Move
+pick_move None s = region_move (next_region s.queue) s
+pick_move (Some e) s = move_of (λ shown. label.Pick e.serial shown) s
+    (work_outcome e.work (record s { queue = record s.queue { entries = without_serial e.serial s.queue.entries } }))
+
+-- The agenda goes on: a startup begins, or an occurrence is told.
 abbrev pub started : Option ScriptData → ℕ → State → State
 started None k s = s
-started (Some script) k s = pushed
-    (top.Activation (record { who = who_is.Startup k; script = k - 1; at = start_of part.Startup; seen = startup_seen s.queue.time })) s
+started (Some script) k s = with_top (top.Activation (record {
+  who = who_is.Startup k;
+  script = k - 1;
+  at = start_of part.Startup;
+  seen = startup_seen s.queue.time;
+})) s
 
--- The agenda goes on.
-abbrev pub taken_up : State → State
-taken_up s = record s { agenda = drop 1 s.agenda }
-
-abbrev pub by_agenda : Option Agendum → State → ℕ → Move
-by_agenda None s k = picked (slice_get (eligible s.queue) k) s
-by_agenda (Some (agendum.Startup number)) s k = (label.Startup number, started (slice_get s.scripts (number - 1)) number (taken_up s))
-by_agenda (Some (agendum.Occurrence r)) s k = occurs (occurrence_of r) (taken_up s)
+abbrev pub agenda_move : Option Agendum → State → ℕ → Move
+agenda_move None s k = pick_move (slice_get (eligible s.queue) k) s
+agenda_move (Some (agendum.Startup n)) s k = (label.Startup n, started (slice_get s.scripts (n - 1)) n (without_item s))
+agenda_move (Some (agendum.Occurrence r)) s k = occurrence_move (occurrence_of r) s (without_item s)
 
 -- With nothing on control: the agenda goes on, or after the finish the run is over.
-abbrev pub idle : Phase → State → ℕ → Move
-idle phase.Running s k = by_agenda (slice_get s.agenda 0) s k
-idle (phase.Finished c) s k = ended (ending.Cause c) s
-idle (phase.Ended e) s k = (label.End e, s)
+abbrev pub idle_move : Phase → State → ℕ → Move
+idle_move phase.Running s k = agenda_move (slice_get s.agenda 0) s k
+idle_move (phase.Finished c) s k = end_move (ending.Cause c) s
+idle_move (phase.Ended e) s k = end_move e s
 
--- By the top of control, which is taken off.
-abbrev pub by_top : Option Control → State → ℕ → ℕ → Move
-by_top None s k h = idle s.phase s k
-by_top (Some (top.Process p)) s k h = performed p (next_of p s) (popped s)
-by_top (Some (top.Pending o)) s k h = occurs o (popped s)
-by_top (Some (top.Frame f)) s k h = fired (slice_get f.left k) f (popped s)
-by_top (Some (top.Activation a)) s k h = asks (slice_get s.scripts a.script) a (popped s) h
-by_top (Some (top.Leave c)) s k h = finished c s
+-- What is on top of control goes on; it is taken off first.
+abbrev pub item_move : Control → State → ℕ → Given → Move
+item_move (top.Process p) s k g =
+    move_of (λ shown. label.Stmt p shown) (with_top (top.Process p) s) (statement_outcome p (next_statement p s) s)
+item_move (top.Pending o) s k g = occurrence_move o (with_top (top.Pending o) s) s
+item_move (top.Frame f) s k g = fire_move (slice_get f.left k) f s
+item_move (top.Activation a) s k g = activation_move (slice_get s.scripts a.script) (slice_get s.variables a.script) a s g
+item_move (top.Leave c) s k g = finish_move c s
 
-abbrev pub by_control : State → ℕ → ℕ → Move
-by_control s k h = by_top (slice_get s.control 0) s k h
+abbrev pub top_move : Option Control → State → ℕ → Given → Move
+top_move None s k g = idle_move s.phase s k
+top_move (Some c) s k g = item_move c (without_top s) k g
 
 -- More entries than the queue has room for stand only where a design opens with them.
 abbrev pub is_crowded : State → Bool
-is_crowded s = nat_lt 1048576 (length s.queue.entries)
+is_crowded s = nat_lt MOST_ENTRIES (length s.queue.entries)
 
-abbrev pub by_room : Bool → State → ℕ → ℕ → Move
-by_room true s k h = failed fault.F3 s
-by_room false s k h = by_control s k h
-
-abbrev pub by_phase : Phase → State → ℕ → ℕ → Move
-by_phase phase.Running s k h = by_room (is_crowded s) s k h
-by_phase (phase.Finished c) s k h = by_control s k h
-by_phase (phase.Ended e) s k h = (label.End e, s)
+abbrev pub crowded_move : Bool → State → ℕ → Given → Move
+crowded_move true s k g = end_move (ending.Fault fault.F3) s
+crowded_move false s k g = top_move (slice_get s.control 0) s k g
 
 -- Is the run over after the label?
 abbrev pub is_end : Label → Bool
@@ -328,16 +227,41 @@ is_end (label.Finish cause) = false
 is_end (label.End ending) = true
 
 -- After a label that isn't the last the state settles.
-abbrev pub after : Move → Move
-after m = (m.0, cond (is_end m.0) m.1 (settled m.1))
+abbrev pub settled_move : Move → Move
+settled_move m = (m.0, if is_end m.0 then m.1 else settled m.1)
 
--- The step from a state by the k-th choice, from 0; a new handle would get the number h.
-abbrev pub step_of : State → ℕ → ℕ → Move
-step_of s k h = after (by_phase s.phase s k h)
+-- The step from a state by the k-th choice, from 0, with what is given.
+abbrev pub step_of : State → ℕ → Given → Move
+step_of s k g = settled_move (crowded_move (is_crowded s) s k g)
+
+-- A handle that is given has a number that was never given before.
+abbrev pub FitsAnswer : State → Answer → Type 0
+FitsAnswer s answer.Done = ⊤
+FitsAnswer s answer.Null = ⊤
+FitsAnswer s (answer.Handle h) = s.handles.is_given h ≡ false
+FitsAnswer s (answer.Number n) = ⊤
+FitsAnswer s (answer.Text text) = ⊤
+FitsAnswer s (answer.Refused c) = ⊤
+
+abbrev pub Fits : State → Label → Type 0
+Fits s (label.Startup k) = ⊤
+Fits s (label.Do who order a) = FitsAnswer s a
+Fits s (label.Ret who) = ⊤
+Fits s (label.Occ n reason object) = ⊤
+Fits s (label.Fire n c) = ⊤
+Fits s (label.Done n) = ⊤
+Fits s (label.Activate region) = ⊤
+Fits s (label.Advance time) = ⊤
+Fits s (label.Pick serial shown) = ⊤
+Fits s (label.Stmt process shown) = ⊤
+Fits s (label.Finish cause) = ⊤
+Fits s (label.End ending) = ⊤
 
 -- A step by the k-th choice: a new handle gets any number that was never given.
-abbrev pub IsStep : State → ℕ → Move → Type 0
-IsStep s k m = (h : ℕ) × (is_given h s.handles ≡ false) × (step_of s k h ≡ m)
+pub record IsStep (s : State) (k : ℕ) (m : Move) : Type 0 where
+  pub given : Given
+  pub fits : Fits s m.0
+  pub makes : step_of s k given ≡ m
 
 -- How many choices there are: the entries that may be picked where one is, the callbacks of a frame's set
 -- where one is, else one; and none after the end.
@@ -352,22 +276,21 @@ abbrev pub agenda_choices : Option Agendum → State → ℕ
 agenda_choices None s = max (length (eligible s.queue)) 1
 agenda_choices (Some item) s = 1
 
-abbrev pub running_choices : Option Control → State → ℕ
-running_choices None s = agenda_choices (slice_get s.agenda 0) s
-running_choices (Some c) s = item_choices c
+abbrev pub idle_choices : Phase → State → ℕ
+idle_choices phase.Running s = agenda_choices (slice_get s.agenda 0) s
+idle_choices (phase.Finished c) s = 1
+idle_choices (phase.Ended e) s = 0
 
-abbrev pub finished_choices : Option Control → ℕ
-finished_choices None = 1
-finished_choices (Some c) = item_choices c
+abbrev pub top_choices : Option Control → State → ℕ
+top_choices None s = idle_choices s.phase s
+top_choices (Some c) s = item_choices c
 
-abbrev pub room_choices : Bool → State → ℕ
-room_choices true s = 1
-room_choices false s = running_choices (slice_get s.control 0) s
-
-abbrev pub phase_choices : Phase → State → ℕ
-phase_choices phase.Running s = room_choices (is_crowded s) s
-phase_choices (phase.Finished c) s = finished_choices (slice_get s.control 0)
-phase_choices (phase.Ended e) s = 0
+abbrev pub is_over : Phase → Bool
+is_over phase.Running = false
+is_over (phase.Finished c) = false
+is_over (phase.Ended e) = true
 
 abbrev pub choices_of : State → ℕ
-choices_of s = phase_choices s.phase s
+choices_of s =
+    if is_over s.phase then 0
+    else (if is_crowded s then 1 else top_choices (slice_get s.control 0) s)

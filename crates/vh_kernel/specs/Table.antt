@@ -1,14 +1,15 @@
 -- The machine's step as a table: from which state a label leads to which, a row for each label.
 -- (IEEE 1364-2005, 11.4 and 27.33)
-use Rattle.std.specs.Prelude.{◌≡◌, ℕ, ◌+◌, ◌-◌, ◌<◌, ◌≤◌, List, [], ◌∷◌, true, false, cond, Option, Some, None, slice_get, ◌⊎◌}
+use Rattle.std.specs.Prelude.{◌≡◌, ℕ, ◌+◌, ◌-◌, ◌<◌, ◌≤◌, List, [], ◌∷◌, true, false, if◌then◌else◌, Option, Some, None, Ok, Err, slice_get, ◌⊎◌}
 use Rattle.vh_base.specs.declared.faults.Cause.{Cause}
 use Rattle.vh_base.specs.declared.faults.Cause.TheVariants as cause
 use Rattle.vh_base.specs.declared.faults.Fault.{Fault}
 use Rattle.vh_base.specs.declared.faults.Fault.TheVariants as fault
 use Rattle.vh_base.specs.declared.first.First.{First}
-use Rattle.vh_base.specs.declared.first.FirstCode.TheVariants as code
+use Rattle.vh_base.specs.declared.orders.Object.{Object}
+use Rattle.vh_base.specs.declared.words.Reason.{Reason}
 use Rattle.vh_app.specs.Script.{ScriptData}
-use Rattle.vh_callbacks.specs.Callbacks.{info_of}
+use Rattle.vh_callbacks.specs.Callbacks.{info_of, body_of}
 use Rattle.vh_kernel.specs.declared.activation.Activation.{Activation}
 use Rattle.vh_kernel.specs.declared.control.Control.{Control}
 use Rattle.vh_kernel.specs.declared.control.Control.TheVariants as top
@@ -16,114 +17,158 @@ use Rattle.vh_kernel.specs.declared.events.Entry.{Entry}
 use Rattle.vh_kernel.specs.declared.label.Ending.TheVariants as ending
 use Rattle.vh_kernel.specs.declared.label.Label.{Label}
 use Rattle.vh_kernel.specs.declared.label.Label.TheVariants as label
+use Rattle.vh_kernel.specs.declared.label.Region.{Region}
 use Rattle.vh_kernel.specs.declared.occurrence.Agendum.{Agendum}
 use Rattle.vh_kernel.specs.declared.occurrence.Agendum.TheVariants as agendum
 use Rattle.vh_kernel.specs.declared.occurrence.Frame.{Frame}
-use Rattle.vh_kernel.specs.declared.occurrence.Occurrence.{Occurrence}
 use Rattle.vh_kernel.specs.declared.phase.Phase.TheVariants as phase
-use Rattle.vh_kernel.specs.Control.{frames}
-use Rattle.vh_kernel.specs.Events.{eligible, without, is_full, next_region, activated, least_time, advanced}
-use Rattle.vh_kernel.specs.Handles.{is_given}
+use Rattle.vh_kernel.specs.Events.{eligible, without_serial, next_region, activated_of, least_time, advanced}
 use Rattle.vh_kernel.specs.Numbers.{without_number}
-use Rattle.vh_kernel.specs.Settle.{occurrence_of, settled, opening}
-use Rattle.vh_kernel.specs.State.{State}
-use Rattle.vh_kernel.specs.Step.{is_crowded, next_of, performed, worked, pushed, popped, told, called, asks, started, taken_up, finished, is_end, IsStep, choices_of}
+use Rattle.vh_kernel.specs.Occurrences.{Occurrence, occurrence_of}
+use Rattle.vh_kernel.specs.Orders.{Given}
+use Rattle.vh_kernel.specs.Outcome.{Made, Move, after_made}
+use Rattle.vh_kernel.specs.Settle.{settled, opening}
+use Rattle.vh_kernel.specs.State.{State, with_top, without_top, without_item}
+use Rattle.vh_kernel.specs.Statements.{next_statement, statement_outcome}
+use Rattle.vh_kernel.specs.Step.{Fits, IsStep, is_crowded, is_over, work_outcome, telling_outcome, called, activation_move, started, finish_move, is_end, choices_of}
 
 -- The run isn't over, and no more entries stand than the queue has room for.
-abbrev pub IsGoing : State → Type 0
-IsGoing s = ((s.phase ≡ phase.Running) × (is_crowded s ≡ false)) ⊎ ((c : Cause) × (s.phase ≡ phase.Finished c))
+pub record IsGoing (s : State) : Type 0 where
+  pub goes : is_over s.phase ≡ false
+  pub fits : is_crowded s ≡ false
 
 -- This is on top of control.
-abbrev pub HasTop : State → Control → Type 0
-HasTop s c = IsGoing s × (slice_get s.control 0 ≡ Some c)
+pub record HasTop (s : State) (c : Control) : Type 0 where
+  pub going : IsGoing s
+  pub on : slice_get s.control 0 ≡ Some c
 
 -- Before the finish, with nothing on control, this is next on the agenda.
-abbrev pub HasNext : State → Option Agendum → Type 0
-HasNext s o = (s.phase ≡ phase.Running) × (is_crowded s ≡ false) × (slice_get s.control 0 ≡ None) × (slice_get s.agenda 0 ≡ o)
+pub record HasNext (s : State) (o : Option Agendum) : Type 0 where
+  pub going : IsGoing s
+  pub running : s.phase ≡ phase.Running
+  pub idle : slice_get s.control 0 ≡ None
+  pub next : slice_get s.agenda 0 ≡ o
 
--- Nothing is on control or on the agenda, and no entry may be picked.
-abbrev pub IsIdle : State → Type 0
-IsIdle s = HasNext s None × (eligible s.queue ≡ [])
+-- Nothing is on control or on the agenda, no entry may be picked, and this region is next.
+pub record IsCalm (s : State) (r : Option Region) : Type 0 where
+  pub next : HasNext s None
+  pub none : eligible s.queue ≡ []
+  pub region : next_region s.queue ≡ r
 
 -- The occurrence is told next: it is on top of control, or first on the agenda with nothing on control.
--- The second is the state that it leaves behind.
+-- The second is the state without it.
 abbrev pub TellsNext : State → Occurrence → State → Type 0
 TellsNext s o r =
-    (HasTop s (top.Pending o) × (r ≡ popped s))
-    ⊎ ((reason : _) × HasNext s (Some (agendum.Occurrence reason)) × (o ≡ occurrence_of reason) × (r ≡ taken_up s))
+    (HasTop s (top.Pending o) × (r ≡ without_top s))
+    ⊎ ((reason : Reason) × HasNext s (Some (agendum.Occurrence reason)) × (o ≡ occurrence_of reason) × (r ≡ without_item s))
 
--- The process on top waits next, up to this time.
-abbrev pub WaitsNext : State → ℕ → ℕ → Type 0
-WaitsNext s p time = (d : ℕ) × HasTop s (top.Process p) × (next_of p s ≡ Some (code.Wait d)) × (time ≡ s.queue.time + d)
-
--- The next label would exceed the number of this fault: a row for each. The second is the state that is left.
-abbrev pub Exceeds : State → Fault → State → Type 0
--- a 65th frame
-Exceeds s fault.F1 u = (o : Occurrence) × (r : State) × TellsNext s o r × (64 ≤ frames r.control) × (u ≡ pushed (top.Pending o) r)
-Exceeds s fault.F2 u = (p : ℕ) × (time : ℕ) × WaitsNext s p time × (9223372036854775807 < time) × (u ≡ pushed (top.Process p) (popped s))
-Exceeds s fault.F3 u =
-    ((s.phase ≡ phase.Running) × (is_crowded s ≡ true) × (u ≡ s))
-    ⊎ ((p : ℕ) × (time : ℕ) × WaitsNext s p time × (time ≤ 9223372036854775807) × (is_full s.queue ≡ true) × (u ≡ pushed (top.Process p) (popped s)))
-    ⊎ ((o : Occurrence) × (r : State) × TellsNext s o r × (frames r.control < 64) × (9223372036854775808 < s.occurrence) × (u ≡ pushed (top.Pending o) r))
--- nested calls come later
-Exceeds s fault.F4 u = ⊥
+-- The next label would exceed the number of this fault: more entries stand than there is room for, or
+-- that is what comes of the statement or the occurrence that is next.
+pub data Exceeds (s : State) (f : Fault) : Type 0 where
+  by_entries : is_over s.phase ≡ false → is_crowded s ≡ true → f ≡ fault.F3 → Exceeds s f
+  by_statement : (p : ℕ) → HasTop s (top.Process p) → statement_outcome p (next_statement p s) (without_top s) ≡ Err f → Exceeds s f
+  by_occurrence : (o : Occurrence) (r : State) → TellsNext s o r → telling_outcome o r ≡ Err f → Exceeds s f
 
 -- Why the run finishes: it was asked to, or no entry is left.
 abbrev pub FinishIsDue : State → Cause → Type 0
 FinishIsDue s c =
     HasTop s (top.Leave c)
-    ⊎ (IsIdle s × (next_region s.queue ≡ None) × (least_time s.queue.entries ≡ None) × (c ≡ cause.Nothing))
+    ⊎ (IsCalm s None × (least_time s.queue.entries ≡ None) × (c ≡ cause.Nothing))
+
+-- What was made is what is shown and what is left, by the label that it is told as.
+abbrev pub Leaves : Made → Option (List ℕ) → State → Type 0
+Leaves m shown u = (shown ≡ m.shown) × (u ≡ after_made m)
+
+-- The activation on top gives an order and is answered, or returns; a new handle gets any number that was
+-- never given.
+pub record Acts (s : State) (l : Label) (u : State) : Type 0 where
+  pub who : Activation
+  pub given : Given
+  pub on : HasTop s (top.Activation who)
+  pub fits : Fits s l
+  pub makes : activation_move (slice_get s.scripts who.script) (slice_get s.variables who.script) who (without_top s) given ≡ (l, u)
+
+-- An occurrence gets the next number, and a frame with its whole set.
+pub record Tells (s : State) (n : ℕ) (reason : Reason) (object : Option Object) (u : State) : Type 0 where
+  pub what : Occurrence
+  pub rest : State
+  pub made : Made
+  pub next : TellsNext s what rest
+  pub number : n ≡ s.occurrence
+  pub why : reason ≡ what.reason
+  pub whom : object ≡ what.object
+  pub makes : telling_outcome what rest ≡ Ok made
+  pub leaves : u ≡ after_made made
+
+-- Any callback of the set on top leaves it and is called.
+pub record Fires (s : State) (n c : ℕ) (u : State) : Type 0 where
+  pub frame : Frame
+  pub choice : ℕ
+  pub on : HasTop s (top.Frame frame)
+  pub number : n ≡ frame.number
+  pub chosen : slice_get frame.left choice ≡ Some c
+  pub leaves : u ≡ called (info_of c s.callbacks) (body_of c s.callbacks) c frame.what
+      (with_top (top.Frame (record frame { left = without_number c frame.left })) (without_top s))
+
+-- A frame whose set is empty is done.
+pub record Closes (s : State) (n : ℕ) (u : State) : Type 0 where
+  pub frame : Frame
+  pub on : HasTop s (top.Frame frame)
+  pub number : n ≡ frame.number
+  pub none : frame.left ≡ []
+  pub leaves : u ≡ without_top s
+
+-- Any entry that may be picked leaves the queue and is performed.
+pub record Picks (s : State) (n : ℕ) (shown : Option (List ℕ)) (u : State) : Type 0 where
+  pub choice : ℕ
+  pub entry : Entry
+  pub made : Made
+  pub next : HasNext s None
+  pub chosen : slice_get (eligible s.queue) choice ≡ Some entry
+  pub serial : entry.serial ≡ n
+  pub makes : work_outcome entry.work (record s { queue = record s.queue { entries = without_serial n s.queue.entries } }) ≡ Ok made
+  pub leaves : Leaves made shown u
+
+-- The process on top performs its next statement, or ends.
+pub record Performs (s : State) (p : ℕ) (shown : Option (List ℕ)) (u : State) : Type 0 where
+  pub made : Made
+  pub on : HasTop s (top.Process p)
+  pub makes : statement_outcome p (next_statement p s) (without_top s) ≡ Ok made
+  pub leaves : Leaves made shown u
 
 -- From a state a label leads to another, before that settles: a row for each label.
 abbrev pub Row : State → Label → State → Type 0
 -- the startup that is next on the agenda begins
 Row s (label.Startup k) u =
-    HasNext s (Some (agendum.Startup k)) × (u ≡ started (slice_get s.scripts (k - 1)) k (taken_up s))
--- the activation on top gives an order and is answered; a new handle gets any number that was never given
-Row s (label.Do who order answer) u =
-    (a : Activation) × (h : ℕ) × HasTop s (top.Activation a) × (is_given h s.handles ≡ false)
-    × (asks (slice_get s.scripts a.script) a (popped s) h ≡ (label.Do who order answer, u))
--- or it returns
-Row s (label.Ret who) u =
-    (a : Activation) × (h : ℕ) × HasTop s (top.Activation a) × (is_given h s.handles ≡ false)
-    × (asks (slice_get s.scripts a.script) a (popped s) h ≡ (label.Ret who, u))
--- an occurrence gets the next number, and a frame with the whole set
-Row s (label.Occ n reason object) u =
-    (o : Occurrence) × (r : State) × TellsNext s o r × (frames r.control < 64) × (s.occurrence ≤ 9223372036854775808)
-    × (told o r ≡ (label.Occ n reason object, u))
--- any callback of the set on top leaves it and is called
-Row s (label.Fire n c) u =
-    (f : Frame) × (k : ℕ) × HasTop s (top.Frame f) × (n ≡ f.number) × (slice_get f.left k ≡ Some c)
-    × (u ≡ called (info_of c s.callbacks) c f.what (pushed (top.Frame (record f { left = without_number c f.left })) (popped s)))
--- a frame whose set is empty is done
-Row s (label.Done n) u = (f : Frame) × HasTop s (top.Frame f) × (n ≡ f.number) × (f.left ≡ []) × (u ≡ popped s)
+    HasNext s (Some (agendum.Startup k)) × (u ≡ started (slice_get s.scripts (k - 1)) k (without_item s))
+Row s (label.Do who order answer) u = Acts s (label.Do who order answer) u
+Row s (label.Ret who) u = Acts s (label.Ret who) u
+Row s (label.Occ n reason object) u = Tells s n reason object u
+Row s (label.Fire n c) u = Fires s n c u
+Row s (label.Done n) u = Closes s n u
 -- all inactive entries of the present time become active, else all nonblocking ones, else those of the
 -- monitor region
 Row s (label.Activate r) u =
-    IsIdle s × (next_region s.queue ≡ Some r) × (u ≡ record s { queue = activated r s.queue })
+    IsCalm s (Some r) × (u ≡ record s { queue = record s.queue { entries = activated_of r s.queue.time s.queue.entries } })
 -- time advances to the least time of an entry
 Row s (label.Advance time) u =
-    IsIdle s × (next_region s.queue ≡ None) × (least_time s.queue.entries ≡ Some time)
-    × (u ≡ record s { queue = advanced time s.queue })
--- any entry that may be picked leaves the queue and is performed
-Row s (label.Pick n shown) u =
-    HasNext s None × (shown ≡ None)
-    × ((k : ℕ) × (e : Entry) × (slice_get (eligible s.queue) k ≡ Some e) × (e.serial ≡ n)
-    × (u ≡ worked e.work (record s { queue = without n s.queue })))
--- the process on top performs its next statement
-Row s (label.Stmt p shown) u =
-    HasTop s (top.Process p) × (performed p (next_of p s) (popped s) ≡ (label.Stmt p shown, u))
+    IsCalm s None × (least_time s.queue.entries ≡ Some time) × (u ≡ record s { queue = advanced time s.queue })
+Row s (label.Pick n shown) u = Picks s n shown u
+Row s (label.Stmt p shown) u = Performs s p shown u
 -- control, the agenda and the queue are emptied, and the end of simulation is pending
-Row s (label.Finish c) u = FinishIsDue s c × (u ≡ (finished c s).1)
+Row s (label.Finish c) u = FinishIsDue s c × (u ≡ (finish_move c s).1)
 -- the run is over, with the cause of its finish, once nothing is on control
 Row s (label.End (ending.Cause c)) u =
-    (s.phase ≡ phase.Finished c) × (slice_get s.control 0 ≡ None) × (u ≡ record s { phase = phase.Ended (ending.Cause c) })
--- or in place of a label that would exceed a number
-Row s (label.End (ending.Fault f)) u = (r : State) × Exceeds s f r × (u ≡ record r { phase = phase.Ended (ending.Fault f) })
+    IsGoing s × (s.phase ≡ phase.Finished c) × (slice_get s.control 0 ≡ None)
+    × (u ≡ record s { phase = phase.Ended (ending.Cause c) })
+-- or in place of a label that would exceed a number, and nothing else changes
+Row s (label.End (ending.Fault f)) u = Exceeds s f × (u ≡ record s { phase = phase.Ended (ending.Fault f) })
 
 -- From a state a label leads to another; after a label that isn't the last the state settles.
-abbrev pub Step : State → Label → State → Type 0
-Step s l t = (u : State) × Row s l u × (t ≡ cond (is_end l) u (settled u))
+pub record Step (s : State) (l : Label) (t : State) : Type 0 where
+  pub before : State
+  pub row : Row s l before
+  pub settles : t ≡ (if is_end l then before else settled before)
 
 -- The entries' serials rise, from low on and below high.
 abbrev pub Rises : ℕ → ℕ → List Entry → Type 0
@@ -143,7 +188,8 @@ StepsByTable = (s t : State) (k : ℕ) (l : Label) → k < choices_of s → IsSt
 abbrev pub TableBySteps : Type 0
 TableBySteps = (s t : State) (l : Label) → Step s l t → (k : ℕ) × (k < choices_of s) × IsStep s k (l, t)
 
--- a design opens soundly, a sound state stays sound, and in one the state after is a function of the state before and the label.
+-- a design opens soundly, a sound state stays sound, and in one the state after is a function of the
+-- state before and the label.
 abbrev pub StaysSound : Type 0
 StaysSound = (s t : State) (l : Label) → IsSound s → Step s l t → IsSound t
 

@@ -9,6 +9,12 @@ use std::alloc::Global;
 use std::marker::Model;
 use vh_base::{Cause, CbNumber, NoMemory};
 
+/// So many frames may stand at most.
+pub const MOST_FRAMES: usize = 64;
+
+/// So many occurrences are told at most.
+pub const MOST_OCCURRENCES: u64 = 9_223_372_036_854_775_808;
+
 /// What may stand on control.
 #[derive(Drop)]
 pub enum Control {

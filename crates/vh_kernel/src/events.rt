@@ -1,12 +1,20 @@
-ghost use Rattle.std.specs.Prelude.{◌≡◌, ◌<◌, ◌≤◌, ◌+◌, ◌^◌, ℕ, Bool, List, [], map, filter, length, Some, None, Option, slice_get, OnOk, IfOk, true, false};
+ghost use Rattle.std.specs.Prelude.{◌≡◌, ◌==◌, ◌<◌, ◌≤◌, ◌+◌, ◌^◌, ℕ, Bool, List, [], map, filter, length, Some, None, Option, slice_get, OnOk, IfOk, true, false};
 ghost use Rattle.std.specs.List.{list_any};
-ghost use Rattle.vh_kernel.specs.Entry.{is_due, is_active, is_ripe};
-ghost use Rattle.vh_kernel.specs.Events.{Events, any_due, eligible, without, without_serial, added, is_full, next_region, activated, activated_entry, activated_of, least_time, earlier_of, advanced, emptied, opening_events};
+ghost use Rattle.vh_kernel.specs.Events.{Events, rank, is_due, is_ripe, any_due, eligible, without_serial, added, is_full, next_region, activated_entry, activated_of, least_time, earlier_of, advanced, opening_events};
 
 use crate::label::Region;
 use std::alloc::Global;
 use std::marker::Model;
 use vh_base::NoMemory;
+
+/// So many entries may stand at most.
+pub const MOST_ENTRIES: usize = 1_048_576;
+
+/// So many serials are given at most.
+pub const MOST_SERIALS: u64 = 9_223_372_036_854_775_808;
+
+/// The last time, in units of the simulation's precision.
+pub const MOST_TIME: u64 = 9_223_372_036_854_775_807;
 
 /// What an entry of the queue does when it is performed.
 #[derive(Clone, Copy)]
@@ -39,7 +47,7 @@ impl Entry {
 
     /// Is it active?
     fn is_active(&self) -> bool
-        ensures { result ≡ is_active self.now }
+        ensures { result ≡ (rank self.now.region == rank Region.Active) }
     {
         self.region as u8 == Region::Active as u8
     }
@@ -207,7 +215,7 @@ impl Queue {
 
     /// Takes the entry of a serial out.
     pub fn remove(&mut self, serial: u64)
-        ensures { self.new ≡ without serial self.old }
+        ensures { self.new ≡ record self.old { entries = without_serial serial (self.old).entries } }
     {
         take_out(&mut self.entries, serial);
     }
@@ -216,7 +224,7 @@ impl Queue {
     pub fn is_full(&self) -> bool
         ensures { result ≡ is_full self.now }
     {
-        self.entries.len() >= 1_048_576 || self.next > 9_223_372_036_854_775_808
+        self.entries.len() >= MOST_ENTRIES || self.next > MOST_SERIALS
     }
 
     /// Adds an entry, by the next serial.
@@ -254,7 +262,7 @@ impl Queue {
 
     /// The entries of the region at the present time become active.
     pub fn activate(&mut self, region: Region)
-        ensures { self.new ≡ activated region self.old }
+        ensures { self.new ≡ record self.old { entries = activated_of region (self.old).time (self.old).entries } }
     {
         activate_due(&mut self.entries, region, self.time);
     }
@@ -276,7 +284,7 @@ impl Queue {
 
     /// Drops every entry.
     pub fn clear(&mut self)
-        ensures { self.new ≡ emptied self.old }
+        ensures { self.new ≡ record self.old { entries = [] } }
     {
         self.entries.clear();
     }

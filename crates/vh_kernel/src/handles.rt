@@ -1,10 +1,16 @@
 ghost use Rattle.std.specs.Prelude.{◌≡◌, false, length, option_copied, IfOk, OnErr};
-ghost use Rattle.vh_kernel.specs.Handles.{Handles as Held, empty, thing_at, opened, freed, is_full, is_given, fresh_of};
+ghost use Rattle.vh_kernel.specs.Handles.{Numbered, no_handles, handles_of, thing_at, opened, freed, is_full};
 
 use std::alloc::Global;
 use std::collections::BTreeMap;
 use std::marker::Model;
 use vh_base::{CbNumber, HandleNo, NoMemory, Object};
+
+/// So many handles may be live at most.
+pub const MOST_HANDLES: usize = 65_536;
+
+/// So many numbers are given at most.
+pub const MOST_GIVEN: u64 = 9_223_372_036_854_775_808;
 
 /// What a handle names.
 #[derive(Clone, Copy)]
@@ -22,17 +28,17 @@ pub struct Handles {
 }
 
 impl Model for Handles {
-    ghost use Rattle.vh_kernel.specs.Handles.{Handles as Held, up_from};
+    ghost use Rattle.vh_kernel.specs.Handles.{Numbered};
 
-    ghost Value = { Held };
+    ghost Value = { Numbered };
 
-    ghost view = { λ h. record { live = h.live.entries; given = up_from 0 h.next } };
+    ghost view = { λ h. record { live = h.live.entries; next = h.next } };
 }
 
 impl Handles {
     /// No handle was given.
     pub fn new(alloc: Global) -> Handles
-        ensures { result ≡ empty }
+        ensures { handles_of result ≡ no_handles }
     {
         Handles {
             live: BTreeMap::new(alloc),
@@ -42,30 +48,31 @@ impl Handles {
 
     /// The number that the next handle gets.
     pub fn next_number(&self) -> HandleNo
-        ensures fresh { result ≡ fresh_of self.now }
-        ensures new { is_given result self.now ≡ false }
+        ensures next { result ≡ self.now.next }
+        ensures new { (handles_of self.now).is_given result ≡ false }
     {
         HandleNo::new(self.next)
     }
 
     /// What a live handle names.
     pub fn thing(&self, h: HandleNo) -> Option<Thing>
-        ensures { result ≡ thing_at h self.now }
+        ensures { result ≡ thing_at h (handles_of self.now) }
     {
         self.live.get(&h.number()).copied()
     }
 
     /// May no handle be given? So many are live, or the numbers are used up.
     pub fn is_full(&self) -> bool
-        ensures { result ≡ is_full self.now }
+        ensures { result ≡ is_full (handles_of self.now) }
     {
-        self.live.len() >= 65_536 || self.next >= 9_223_372_036_854_775_808
+        self.live.len() >= MOST_HANDLES || self.next >= MOST_GIVEN
     }
 
     /// Gives the next number to a thing.
     pub fn open(&mut self, thing: Thing) -> Result<HandleNo, NoMemory>
-        requires { is_full self.old ≡ false }
-        ensures { IfOk result (λ h. (h ≡ fresh_of self.old) × (self.new ≡ opened h thing self.old)) }
+        requires { is_full (handles_of self.old) ≡ false }
+        ensures number { IfOk result (λ h. h ≡ (self.old).next) }
+        ensures opens { IfOk result (λ h. handles_of self.new ≡ opened h thing (handles_of self.old)) }
     {
         let number = self.next;
         self.live.insert(number, thing)?;
@@ -75,7 +82,7 @@ impl Handles {
 
     /// The number names nothing any more.
     pub fn free(&mut self, h: HandleNo)
-        ensures { self.new ≡ freed h self.old }
+        ensures { handles_of self.new ≡ freed h (handles_of self.old) }
     {
         let _ = self.live.remove(&h.number());
     }

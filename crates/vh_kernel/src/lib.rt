@@ -11,6 +11,7 @@ mod activation;
 mod boxed;
 mod control;
 mod events;
+mod halt;
 mod handles;
 mod kernel;
 mod label;

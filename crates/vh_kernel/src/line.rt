@@ -4,7 +4,7 @@ ghost use Rattle.std.specs.Fmt.{decimal};
 ghost use Rattle.vh_kernel.specs.Line.{ending_name, stamped, who_text, object_text, script_name, line_at, shown_text};
 ghost use Rattle.vh_kernel.specs.OrderText.{order_text, answer_text, reason_text};
 ghost use Rattle.vh_kernel.specs.Quoted.{plain_text};
-ghost use Rattle.vh_kernel.specs.Shown.{state_of};
+ghost use Rattle.vh_kernel.specs.Views.{state_of};
 
 use crate::activation::Who;
 use crate::kernel::Kernel;

@@ -1,44 +1,31 @@
-ghost use Rattle.std.specs.Prelude.{◌≡◌, ◌≤◌, false, slice_get, IfOk, OnOk};
-ghost use Rattle.vh_callbacks.specs.Callbacks.{info_of};
-ghost use Rattle.std.specs.Option.{option_map};
+ghost use Rattle.std.specs.Prelude.{◌≡◌, ◌≤◌, ◌<◌, false, slice_get, OnOk};
+ghost use Rattle.vh_callbacks.specs.Callbacks.{info_of, body_of};
 ghost use Rattle.vh_kernel.specs.Control.{frames};
-ghost use Rattle.vh_kernel.specs.Step.{bit_text, first_seen, seen_after};
+ghost use Rattle.vh_kernel.specs.Step.{first_seen, seen_after};
 
 use crate::activation::{Activation, Who};
 use crate::boxed::Boxed;
-use crate::control::Control;
+use crate::control::{Control, MOST_FRAMES, MOST_OCCURRENCES};
 use crate::kernel::Kernel;
 use crate::kernel::orders::error_in;
 use crate::label::Label;
 use crate::numbers::Numbers;
 use crate::occurrence::{Frame, Occurrence};
 use std::alloc::Global;
-use vh_base::{Answer, CbNumber, Fault, FirstBit, NoMemory, Order, Seen, Short};
+use vh_base::{Answer, CbNumber, Fault, NoMemory, Order, Seen};
 use vh_callbacks::Registration;
 
-// A register's value as text.
-fn bit_text(value: FirstBit) -> &'static [u8]
-    ensures { result.now ≡ bit_text value }
-{
-    match value {
-        FirstBit::Zero => b"0",
-        FirstBit::One => b"1",
-        FirstBit::X => b"x",
-        FirstBit::Z => b"z",
-    }
-}
-
 // What a callback's activation sees at first.
-fn first_seen(registration: &Registration, what: Occurrence, time: u64) -> Seen
-    ensures { result ≡ first_seen registration.now what time }
+fn first_seen(registration: &Registration, what: &Occurrence, time: u64) -> Seen
+    ensures { result ≡ first_seen registration.now what.now time }
 {
     Seen {
         reason: registration.reason,
         time,
         object: registration.object_handle,
         me: Some(registration.me),
-        value: value_text(what.value),
-        index: None,
+        value: what.value(),
+        index: what.index(),
         user_data: registration.user_data,
         step: 0,
         last: Answer::Null,
@@ -55,41 +42,55 @@ fn noted(activation: Activation, answer: &Answer) -> Activation
     further
 }
 
-// A value as text, if there is one.
-fn value_text(value: Option<FirstBit>) -> Option<Short>
-    ensures { result ≡ option_map bit_text value }
-{
-    Short::new(bit_text(value?))
-}
-
 impl Kernel {
-    ghost use Rattle.vh_kernel.specs.Handles.{fresh_of};
-    ghost use Rattle.vh_kernel.specs.Shown.{state_of};
-    ghost use Rattle.vh_kernel.specs.Step.{pushed, told, counted, framed, occurs, begun, called, fired, ordered, acted, asked, asks_with, asks};
+    ghost use Rattle.vh_kernel.specs.Outcome.{move_of};
+    ghost use Rattle.vh_kernel.specs.State.{State, with_top, without_item};
+    ghost use Rattle.vh_kernel.specs.Step.{telling_outcome, occurrence_move, called, fire_move, activation_move, order_move, item_move, agenda_move};
+    ghost use Rattle.vh_kernel.specs.Views.{state_of, given_by, Moves};
 
     // An occurrence that was on top of control is told.
     pub(crate) fn occur(&mut self, alloc: Global, what: Occurrence) -> Result<Label, NoMemory>
-        ensures { IfOk result (λ l. occurs what (state_of self.old) ≡ (l, state_of self.new)) }
+        ensures {
+            Moves (item_move (Control.Pending what) (state_of self.old) 0 (given_by self.old))
+                result self.new }
     {
-        if self.control.frames() >= 64 {
+        if self.control.frames() >= MOST_FRAMES {
             self.control.push(Control::Pending(what))?;
             return Ok(self.fail(Fault::F1));
         }
-        if self.occurrence > 9_223_372_036_854_775_808 {
+        if self.occurrence > MOST_OCCURRENCES {
             self.control.push(Control::Pending(what))?;
             return Ok(self.fail(Fault::F3));
         }
         self.tell(alloc, what)
     }
 
+    // An occurrence that is next on the agenda is told.
+    pub(crate) fn occur_next(&mut self, alloc: Global, what: Occurrence) -> Result<Label, NoMemory>
+        ensures {
+            Moves (occurrence_move what (state_of self.old) (without_item (state_of self.old)))
+                result self.new }
+    {
+        if self.control.frames() >= MOST_FRAMES {
+            return Ok(self.fail(Fault::F1));
+        }
+        if self.occurrence > MOST_OCCURRENCES {
+            return Ok(self.fail(Fault::F3));
+        }
+        let _ = self.agenda.pop_front();
+        self.tell(alloc, what)
+    }
+
     // It gets the next number and a frame.
     fn tell(&mut self, alloc: Global, what: Occurrence) -> Result<Label, NoMemory>
-        requires { (state_of self.old).occurrence ≤ 9223372036854775808 }
-        ensures { IfOk result (λ l. told what (state_of self.old) ≡ (l, state_of self.new)) }
+        requires few { frames (state_of self.old).control < MOST_FRAMES }
+        requires few_told { (state_of self.old).occurrence ≤ MOST_OCCURRENCES }
+        ensures {
+            Moves (occurrence_move what (state_of self.old) (state_of self.old)) result self.new }
     {
         let number = self.occurrence;
-        let watching = self.callbacks.matching(alloc, what.reason, what.object())?;
-        let label = Label::Occ(number, what.reason, what.object());
+        let watching = what.watching(alloc, &self.callbacks)?;
+        let label = Label::Occ(number, what.reason(), what.object());
         let left = Numbers::new(watching);
         self.occurrence = number + 1;
         self.control
@@ -99,22 +100,24 @@ impl Kernel {
 
     // A frame that was on top of control fires the callback that was chosen, or is done.
     pub(crate) fn fire(&mut self, alloc: Global, frame: Frame, k: u32) -> Result<Label, NoMemory>
-        ensures { IfOk result (λ l. fired (slice_get frame.left k) frame (state_of self.old) ≡ (l, state_of self.new)) }
+        ensures { Moves (fire_move (slice_get frame.left k) frame (state_of self.old)) result self.new }
     {
         let mut frame = frame;
         let number = frame.number;
-        let what = frame.what;
+        let what = frame.what.copy();
         let Some(c) = frame.left.take(k as usize) else {
             return Ok(Label::Done(number));
         };
         self.control.push(Control::Frame(frame))?;
-        self.call(alloc, c, what)?;
+        self.call(alloc, c, &what)?;
         Ok(Label::Fire(number, c))
     }
 
     // What a callback calls begins.
-    fn call(&mut self, alloc: Global, c: CbNumber, what: Occurrence) -> Result<(), NoMemory>
-        ensures { OnOk result (state_of self.new ≡ called (info_of c (state_of self.old).callbacks) c what (state_of self.old)) }
+    fn call(&mut self, alloc: Global, c: CbNumber, what: &Occurrence) -> Result<(), NoMemory>
+        ensures {
+            OnOk result (state_of self.new ≡ called (info_of c (state_of self.old).callbacks)
+                (body_of c (state_of self.old).callbacks) c what.now (state_of self.old)) }
     {
         let Some(registration) = self.callbacks.info(c) else {
             return Ok(());
@@ -134,7 +137,10 @@ impl Kernel {
 
     // An activation that was on top of control gives its next order, or returns.
     pub(crate) fn act(&mut self, alloc: Global, activation: Activation) -> Result<Label, NoMemory>
-        ensures { IfOk result (λ l. asks (slice_get (state_of self.old).scripts activation.script) activation (state_of self.old) (fresh_of (state_of self.old).handles) ≡ (l, state_of self.new)) }
+        ensures {
+            Moves (activation_move (slice_get (state_of self.old).scripts activation.script)
+                (slice_get (state_of self.old).variables activation.script) activation
+                (state_of self.old) (given_by self.old)) result self.new }
     {
         let mut activation = activation;
         let i = activation.script;
@@ -156,7 +162,9 @@ impl Kernel {
         activation: Activation,
         order: Order,
     ) -> Result<Label, NoMemory>
-        ensures { IfOk result (λ l. acted false order activation (state_of self.old) (fresh_of (state_of self.old).handles) ≡ (l, state_of self.new)) }
+        ensures {
+            (before : State) → Moves (order_move false order activation before (state_of self.old)
+                (given_by self.old)) result self.new }
     {
         let who = activation.who();
         let answer = self.perform(alloc, &who, &order)?;

@@ -1,14 +1,15 @@
-ghost use Rattle.std.specs.Prelude.{◌≡◌, List, [], ◌∷◌, ◌++◌, Some, None, option_copied, slice_get, IfOk, OnOk, IfSome};
-ghost use Rattle.vh_kernel.specs.Step.{same_bit, value_change};
+ghost use Rattle.std.specs.Prelude.{◌≡◌, ◌+◌, List, [], ◌∷◌, ◌++◌, Some, None, bytes_eq, option_copied, IfOk, IfSome};
+ghost use Rattle.vh_kernel.specs.Occurrences.{bit_text};
+ghost use Rattle.vh_kernel.specs.Statements.{value_change};
 
 use crate::control::Control;
-use crate::events::Work;
+use crate::events::{MOST_TIME, Work};
 use crate::kernel::Kernel;
 use crate::label::{Label, Region};
 use crate::occurrence::Occurrence;
 use std::alloc::Global;
 use vh_base::{
-    Bytes, Cause, Fault, FirstBit, FirstCode, NoMemory, ObjId, Object, ProcId, Reason, Sequence,
+    Bytes, Cause, Fault, FirstBit, FirstCode, NoMemory, ObjId, Object, ProcId, Sequence,
 };
 
 // A text with a newline behind it.
@@ -22,10 +23,15 @@ fn with_newline(alloc: Global, text: &[u8]) -> Result<Bytes, NoMemory>
 }
 
 // Are two values of a register one?
-fn same_bit(a: FirstBit, b: FirstBit) -> bool
-    ensures { result ≡ same_bit a b }
+fn is_same(a: FirstBit, b: FirstBit) -> bool
+    ensures { result ≡ bytes_eq (bit_text a) (bit_text b) }
 {
-    a as u8 == b as u8
+    match a {
+        FirstBit::Zero => matches!(b, FirstBit::Zero),
+        FirstBit::One => matches!(b, FirstBit::One),
+        FirstBit::X => matches!(b, FirstBit::X),
+        FirstBit::Z => matches!(b, FirstBit::Z),
+    }
 }
 
 // The occurrence that a register has this value from now on; none for a register whose object
@@ -34,30 +40,30 @@ fn value_change(reg: u32, value: FirstBit) -> Option<Occurrence>
     ensures { IfSome result (λ o. o ≡ value_change reg value) }
 {
     let id = reg.checked_add(1)?;
-    Some(Occurrence {
-        reason: Reason::CbValueChange,
-        object: Some(Object {
-            id: ObjId::new(id),
-            word: None,
-        }),
-        value: Some(value),
-    })
+    let object = Object {
+        id: ObjId::new(id),
+        word: None,
+    };
+    Some(Occurrence::value_change(object, value))
 }
 
 impl Kernel {
-    ghost use Rattle.vh_kernel.specs.Shown.{state_of};
-    ghost use Rattle.vh_kernel.specs.Step.{next_of, went_on, performed, showed, assigned, stored, pushed};
+    ghost use Rattle.vh_kernel.specs.Outcome.{move_of};
+    ghost use Rattle.vh_kernel.specs.State.{with_top};
+    ghost use Rattle.vh_kernel.specs.Statements.{next_statement, past_statement, statement_outcome};
+    ghost use Rattle.vh_kernel.specs.Step.{item_move};
+    ghost use Rattle.vh_kernel.specs.Views.{state_of, given_by, Moves};
 
     // The next statement of a process.
     fn next(&self, p: u64) -> Option<&FirstCode>
-        ensures { option_copied result ≡ next_of p (state_of self.now) }
+        ensures { option_copied result ≡ next_statement p (state_of self.now) }
     {
         self.threads.get(p as usize)?.next()
     }
 
     // The process has its next statement behind it.
     fn leave_behind(&mut self, p: u64)
-        ensures { state_of self.new ≡ went_on p (state_of self.old) }
+        ensures { state_of self.new ≡ past_statement p (state_of self.old) }
     {
         let i = p as usize;
         if i < self.threads.len() {
@@ -68,7 +74,7 @@ impl Kernel {
 
     // A process that was on top of control performs its next statement.
     pub(crate) fn perform_next(&mut self, alloc: Global, p: u64) -> Result<Label, NoMemory>
-        ensures { IfOk result (λ l. performed p (next_of p (state_of self.old)) (state_of self.old) ≡ (l, state_of self.new)) }
+        ensures { Moves (item_move (Control.Process p) (state_of self.old) 0 (given_by self.old)) result self.new }
     {
         match self.next(p) {
             None => Ok(Label::Stmt(ProcId::new(p), None)),
@@ -90,10 +96,12 @@ impl Kernel {
     }
 
     fn wait(&mut self, p: u64, delay: u32) -> Result<Label, NoMemory>
-        ensures { IfOk result (λ l. performed p (Some (FirstCode.Wait delay)) (state_of self.old) ≡ (l, state_of self.new)) }
+        ensures {
+            Moves (move_of (λ shown. Label.Stmt p shown) (with_top (Control.Process p) (state_of self.old))
+                (statement_outcome p (Some (FirstCode.Wait delay)) (state_of self.old))) result self.new }
     {
         let until = self.queue.time().saturating_add(u64::from(delay));
-        if until > 9_223_372_036_854_775_807 {
+        if until > MOST_TIME {
             self.control.push(Control::Process(p))?;
             return Ok(self.fail(Fault::F2));
         }
@@ -108,32 +116,29 @@ impl Kernel {
     }
 
     fn assign(&mut self, p: u64, reg: u32, value: FirstBit) -> Result<Label, NoMemory>
-        ensures { IfOk result (λ l. performed p (Some (FirstCode.Assign reg value)) (state_of self.old) ≡ (l, state_of self.new)) }
+        ensures {
+            Moves (move_of (λ shown. Label.Stmt p shown) (with_top (Control.Process p) (state_of self.old))
+                (statement_outcome p (Some (FirstCode.Assign reg value)) (state_of self.old))) result self.new }
     {
         self.leave_behind(p);
         self.control.push(Control::Process(p))?;
-        self.change(reg, value)?;
-        Ok(Label::Stmt(ProcId::new(p), None))
-    }
-
-    // A register gets a value; where it had another, that is an occurrence.
-    fn change(&mut self, reg: u32, value: FirstBit) -> Result<(), NoMemory>
-        ensures { OnOk result (state_of self.new ≡ assigned reg value (state_of self.old)) }
-    {
         let i = reg as usize;
         if i >= self.store.len() {
-            return Ok(());
+            return Ok(Label::Stmt(ProcId::new(p), None));
         }
-        if same_bit(self.store[i], value) {
-            return Ok(());
+        if is_same(self.store[i], value) {
+            return Ok(Label::Stmt(ProcId::new(p), None));
         }
         let what = value_change(reg, value).ok_or(NoMemory)?;
         self.store[i] = value;
-        self.control.push(Control::Pending(what))
+        self.control.push(Control::Pending(what))?;
+        Ok(Label::Stmt(ProcId::new(p), None))
     }
 
     fn show(&mut self, p: u64, shown: Bytes) -> Result<Label, NoMemory>
-        ensures { IfOk result (λ l. showed p shown (state_of self.old) ≡ (l, state_of self.new)) }
+        ensures {
+            Moves (Label.Stmt p (Some shown), with_top (Control.Process p) (past_statement p (state_of self.old)))
+                result self.new }
     {
         self.leave_behind(p);
         self.control.push(Control::Process(p))?;
@@ -141,7 +146,9 @@ impl Kernel {
     }
 
     fn ask_finish(&mut self, p: u64) -> Result<Label, NoMemory>
-        ensures { IfOk result (λ l. performed p (Some FirstCode.Finish) (state_of self.old) ≡ (l, state_of self.new)) }
+        ensures {
+            Moves (move_of (λ shown. Label.Stmt p shown) (with_top (Control.Process p) (state_of self.old))
+                (statement_outcome p (Some FirstCode.Finish) (state_of self.old))) result self.new }
     {
         self.leave_behind(p);
         self.control.push(Control::Process(p))?;

@@ -1,5 +1,5 @@
 use Rattle.std.proofs.Common.{◌≡◌, drop, filter, slice_get}
-use Rattle.vh_kernel.specs.Entry.{is_ripe}
+use Rattle.vh_kernel.specs.Events.{is_ripe}
 use Rattle.vh_kernel.proofs.events.ripe_at.Given as goal
 
 -- the one looked for is among the rest, that many further

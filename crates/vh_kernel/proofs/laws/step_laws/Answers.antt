@@ -1,23 +1,23 @@
-use Rattle.vh_kernel.proofs.Tables.{steps_by_table, table_by_steps}
-use Rattle.vh_kernel.proofs.Sound.{opens_sound, stays_sound}
-use Rattle.vh_kernel.proofs.OneAfter.{one_state_after}
-use Rattle.vh_kernel.proofs.Runs.{one_run}
+use Rattle.vh_kernel.proofs.OneAfterLemmas.{one-state-after}
+use Rattle.vh_kernel.proofs.RunLemmas.{one-run}
+use Rattle.vh_kernel.proofs.SoundLemmas.{opens-sound, stays-sound}
+use Rattle.vh_kernel.proofs.TableLemmas.{steps-by-table, table-by-steps}
 use Rattle.vh_kernel.proofs.laws.step_laws.Goals as goal
 
 pub returns-clause-by_table : goal.returns-clause-by_table
-returns-clause-by_table c = steps_by_table
+returns-clause-by_table c = steps-by-table
 
 pub returns-clause-by_choice : goal.returns-clause-by_choice
-returns-clause-by_choice c = table_by_steps
+returns-clause-by_choice c = table-by-steps
 
 pub returns-clause-opens : goal.returns-clause-opens
-returns-clause-opens c = opens_sound
+returns-clause-opens c = opens-sound
 
 pub returns-clause-stays : goal.returns-clause-stays
-returns-clause-stays c = stays_sound
+returns-clause-stays c = stays-sound
 
 pub returns-clause-one_after : goal.returns-clause-one_after
-returns-clause-one_after c = one_state_after
+returns-clause-one_after c = one-state-after
 
 pub returns-clause-one_run : goal.returns-clause-one_run
-returns-clause-one_run c = one_run
+returns-clause-one_run c = one-run

@@ -1,17 +1,15 @@
 use Rattle.std.proofs.Common.{◌≡◌, ◌<◌, length, false, subst, refl, sym, rules}
-use Rattle.vh_kernel.specs.Handles.{Handles, is_full}
-use Rattle.vh_kernel.proofs.Given.{length_up, one_more, few_given}
+use Rattle.vh_kernel.specs.Handles.{Numbered, handles_of, is_full}
+use Rattle.vh_kernel.proofs.HandlesLemmas.{few-given, given-more}
 use Rattle.vh_kernel.proofs.handles.Handles.open.Goals as goal
 
 pub overflow_add-self : goal.overflow_add-self
 overflow_add-self c =
-    let P : Handles → Type 0 = λ h. is_full h ≡ false in
+    let P : Numbered → Type 0 = λ n. is_full (handles_of n) ≡ false in
     let few : c.self.inside.next < 9223372036854775808 =
-    few_given (length c.self.inside.live.entries) c.self.inside.next (subst P (sym c.self.view_is) c.requires) in
+    few-given (length c.self.inside.live.entries) c.self.inside.next (subst P (sym c.self.view_is) c.requires) in
     search rules
 
-pub returns : goal.returns
-returns c = (
-  rw (← c.self.view_is, c.new.ensures) (sym (length_up 0 c.self.inside.next)),
-  rw (← c.self.view_is, c.new.ensures, c.in_ok-insert.ensures.entries, one_more c.self.inside.next) refl,
-)
+pub returns-clause-opens : goal.returns-clause-opens
+returns-clause-opens c =
+    rw (← c.self.view_is, c.new.ensures, c.in_ok-insert.ensures.entries, given-more c.self.inside.next) refl

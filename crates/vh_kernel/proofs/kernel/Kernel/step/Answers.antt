@@ -1,16 +1,28 @@
-use Rattle.std.proofs.Common.{◌≡◌, true}
-use Rattle.vh_kernel.specs.Handles.{fresh_of}
-use Rattle.vh_kernel.specs.Shown.{state_of}
+use Rattle.std.proofs.Common.{◌≡◌, ◌<◌, true, false, sym, ap}
 use Rattle.vh_kernel.specs.Step.{is_end}
-use Rattle.vh_kernel.proofs.Goes.{label_goes}
+use Rattle.vh_kernel.specs.Views.{state_of, given_by}
+use Rattle.vh_kernel.proofs.RunLemmas.{makes-step}
+use Rattle.vh_kernel.proofs.StepLemmas.{label-goes}
 use Rattle.vh_kernel.proofs.kernel.Kernel.step.Goals as goal
-use Rattle.vh_kernel.proofs.kernel.Kernel.step.Goals.{then-not-is_end+in_ok-settle, else-not-is_end}
+use Rattle.vh_kernel.proofs.kernel.Kernel.step.Goals.{then-not-is_end, else-not-is_end}
+
+pub returns-clause-step : goal.returns-clause-step
+returns-clause-step c = elim c.if-not-is_end.branch [
+  | then-not-is_end w ↦
+      makes-step (state_of c.args.self.now) (state_of c.make_label.new.self) (state_of c.if-not-is_end.self) c.args.k
+      (given_by c.args.self.now) c.in_ok-label.label false c.next_number.ensures.new c.in_ok-label.ensures
+      (sym w.if-not-is_end.ensures) (rw w.self-is w.settle.ensures)
+  | else-not-is_end w ↦
+      makes-step (state_of c.args.self.now) (state_of c.make_label.new.self) (state_of c.if-not-is_end.self) c.args.k
+      (given_by c.args.self.now) c.in_ok-label.label true c.next_number.ensures.new c.in_ok-label.ensures
+      (sym w.if-not-is_end.ensures) (ap state_of w.self-is)
+]
 
 pub returns-clause-goes : goal.returns-clause-goes
 returns-clause-goes c = elim c.if-not-is_end.branch [
-  | then-not-is_end+in_ok-settle w ↦
-      label_goes (state_of c.args.self.now) (state_of c.make_label.new.self) (state_of c.if-not-is_end.self) c.args.k
-      (fresh_of (state_of c.args.self.now).handles) c.in_ok-label.label c.in_ok-label.ensures
-      (rw w.self-is w.in_ok-settle.ensures)
+  | then-not-is_end w ↦
+      label-goes (state_of c.args.self.now) (state_of c.make_label.new.self) (state_of c.if-not-is_end.self) c.args.k
+      (given_by c.args.self.now) c.in_ok-label.label c.requires c.in_ok-label.ensures
+      (rw w.self-is w.settle.ensures)
   | else-not-is_end w ↦ λ open_yet. absurd (let h : true ≡ is_end c.in_ok-label.label = w.if-not-is_end.ensures in cc)
 ]

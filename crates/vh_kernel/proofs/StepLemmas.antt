@@ -1,0 +1,284 @@
+-- What a step leaves: which outcomes keep the queue and the phase, and that the machine goes on after a
+-- label that is no end.
+use Rattle.std.proofs.Common.{◌≡◌, ◌<◌, ◌+◌, ◌-◌, nat_le, ℕ, List, [], ◌∷◌, length, max, Bool, true, false, cond, Option, Some, None, Result, Ok, Err, nat_lt, slice_get, slice_set, bytes_eq, refl, sym, ap, subst, ◌∙◌, arith}
+use Rattle.vh_base.specs.declared.faults.Fault.{Fault}
+use Rattle.vh_base.specs.declared.faults.Fault.TheVariants as fault
+use Rattle.vh_base.specs.declared.first.First.{First}
+use Rattle.vh_base.specs.declared.first.FirstBit.{FirstBit}
+use Rattle.vh_base.specs.declared.first.FirstCode.{FirstCode}
+use Rattle.vh_base.specs.declared.first.FirstCode.TheVariants as code
+use Rattle.vh_base.specs.declared.orders.Answer.{Answer}
+use Rattle.vh_base.specs.declared.orders.Order.{Order}
+use Rattle.vh_base.proofs.ChecksLemmas.{unless-holds}
+use Rattle.vh_app.specs.declared.point.Point.{Point}
+use Rattle.vh_app.specs.Next.{next_of as next_order}
+use Rattle.vh_app.specs.Script.{ScriptData}
+use Rattle.vh_callbacks.specs.declared.registration.Registration.{Registration}
+use Rattle.vh_callbacks.specs.Callbacks.{info_of, body_of}
+use Rattle.vh_kernel.specs.declared.activation.Activation.{Activation}
+use Rattle.vh_kernel.specs.declared.activation.Body.{Body}
+use Rattle.vh_kernel.specs.declared.control.Control.{Control}
+use Rattle.vh_kernel.specs.declared.control.Control.TheVariants as top
+use Rattle.vh_kernel.specs.declared.control.TheConstants.{MOST_FRAMES, MOST_OCCURRENCES}
+use Rattle.vh_kernel.specs.declared.events.Entry.{Entry}
+use Rattle.vh_kernel.specs.declared.events.TheConstants.{MOST_TIME}
+use Rattle.vh_kernel.specs.declared.events.Work.{Work}
+use Rattle.vh_kernel.specs.declared.events.Work.TheVariants as work
+use Rattle.vh_kernel.specs.declared.label.Label.{Label}
+use Rattle.vh_kernel.specs.declared.label.Label.TheVariants as label
+use Rattle.vh_kernel.specs.declared.label.Region.{Region}
+use Rattle.vh_kernel.specs.declared.occurrence.Agendum.{Agendum}
+use Rattle.vh_kernel.specs.declared.occurrence.Agendum.TheVariants as agendum
+use Rattle.vh_kernel.specs.declared.occurrence.Frame.{Frame}
+use Rattle.vh_kernel.specs.declared.phase.Phase.{Phase}
+use Rattle.vh_kernel.specs.declared.phase.Phase.TheVariants as phase
+use Rattle.vh_kernel.specs.Control.{frames}
+use Rattle.vh_kernel.specs.Events.{eligible, next_region, least_time, is_full}
+use Rattle.vh_kernel.specs.Numbers.{without_number}
+use Rattle.vh_kernel.specs.Occurrences.{Occurrence, occurrence_of, bit_text}
+use Rattle.vh_kernel.specs.Orders.{Given, Effect, answered, effect_of, is_return, error_in}
+use Rattle.vh_kernel.specs.Outcome.{Made, Outcome, Move, silently, move_of}
+use Rattle.vh_kernel.specs.Settle.{settled, opening}
+use Rattle.vh_kernel.specs.State.{State, before_all, with_top, without_top, without_item}
+use Rattle.vh_kernel.specs.Statements.{next_statement, past_statement, going_on, value_outcome, statement_outcome}
+use Rattle.vh_kernel.specs.Step.{telling_outcome, occurrence_move, called, fire_move, resumed, answer_move, order_move, next_move_of, activation_move, work_outcome, time_move, region_move, pick_move, started, agenda_move, idle_move, item_move, top_move, crowded_move, is_crowded, is_end, step_of, is_over, item_choices, agenda_choices, idle_choices, top_choices, choices_of}
+use Rattle.vh_kernel.proofs.OrdersLemmas.{IsForm, refuses, answers_only, opens_object, registers, removes, effect-form}
+
+-- The second state has the queue and the phase of the first.
+pub record IsKept (s t : State) : Type 0 where
+  pub phase : t.phase ≡ s.phase
+  pub queue : t.queue ≡ s.queue
+
+pub same : (s : State) → IsKept s s
+same s = record { phase = refl; queue = refl }
+
+-- An order is answered with a state that keeps both, and nothing else comes of it.
+pub record IsQuiet (s : State) (given : Answer × Outcome) : Type 0 where
+  pub after : State
+  pub outcome : given.1 ≡ silently after
+  pub kept : IsKept s after
+
+pub quiet-by : (o : Order) (s : State) (g : Given) (e : Effect) → IsForm o s e → IsQuiet s (answered e s g)
+quiet-by o s g e (refuses c is) =
+    subst (λ (x : Effect). IsQuiet s (answered x s g)) (sym is) (record { after = s; outcome = refl; kept = same s })
+quiet-by o s g e (answers_only a plain is) =
+    subst (λ (x : Effect). IsQuiet s (answered x s g)) (sym is) (record { after = s; outcome = refl; kept = same s })
+quiet-by o s g e (opens_object text name scope id by means at room is) =
+    subst (λ (x : Effect). IsQuiet s (answered x s g)) (sym is)
+    (record { after = _; outcome = refl; kept = record { phase = refl; queue = refl } })
+quiet-by o s g e (registers r h time n body object b by watches calls room free is) =
+    subst (λ (x : Effect). IsQuiet s (answered x s g)) (sym is)
+    (record { after = _; outcome = refl; kept = record { phase = refl; queue = refl } })
+quiet-by o s g e (removes c h by names is) =
+    subst (λ (x : Effect). IsQuiet s (answered x s g)) (sym is)
+    (record { after = _; outcome = refl; kept = record { phase = refl; queue = refl } })
+
+-- The state with these variables.
+abbrev pub with_variables : List (List Answer) → State → State
+with_variables vars s = record s { variables = vars }
+
+-- What an activation does: it returns, or it gives an order and is answered, and is on control again.
+pub data IsActing (a : Activation) (s : State) (g : Given) (m : Move) : Type 0 where
+  returns : (vars : List (List Answer)) → m ≡ (label.Ret a.who, with_variables vars s) → IsActing a s g m
+  orders : (vars : List (List Answer)) (o : Order) (further : Activation) (t : State)
+      → (answered (effect_of o a.who (with_variables vars s)) (with_variables vars s) g).1 ≡ silently t
+      → IsKept s t
+      → m ≡ (label.Do a.who o (answered (effect_of o a.who (with_variables vars s)) (with_variables vars s) g).0,
+          record t { control = top.Activation further ∷ t.control;
+            error = error_in (answered (effect_of o a.who (with_variables vars s)) (with_variables vars s) g).0 })
+      → IsActing a s g m
+
+order-acts : (b : Bool) (o : Order) (a : Activation) (p : Point) (vars : List (List Answer)) (before s : State) (g : Given)
+    → IsActing a s g (order_move b o (record a { at = p }) before (with_variables vars s) g)
+order-acts true o a p vars before s g = returns vars refl
+order-acts false o a p vars before s g =
+    let given : Answer × Outcome = answered (effect_of o a.who (with_variables vars s)) (with_variables vars s) g in
+    let quiet : IsQuiet (with_variables vars s) given = quiet-by o (with_variables vars s) g _ (effect-form o a.who (with_variables vars s)) in
+    orders vars o _ quiet.after quiet.outcome (record { phase = quiet.kept.phase; queue = quiet.kept.queue })
+    (ap (λ (out : Outcome). move_of (λ shown. label.Do a.who o given.0) before (resumed (record a { at = p }) given.0 out)) quiet.outcome)
+
+pub acts : (script : Option ScriptData) (vars : Option (List Answer)) (a : Activation) (s : State) (g : Given)
+    → IsActing a s g (activation_move script vars a s g)
+acts None vars a s g = returns s.variables refl
+acts (Some script) None a s g = returns s.variables refl
+acts (Some script) (Some vars) a s g =
+    let next : Order × Point × List Answer = next_order script a.at vars a.seen in
+    order-acts (is_return next.0) next.0 a next.1 (slice_set s.variables a.script next.2) (with_top (top.Activation a) s) s g
+
+pub acts-kept : (a : Activation) (s : State) (g : Given) (m : Move) → IsActing a s g m → IsKept s m.1
+acts-kept a s g m (returns vars is) = subst (λ (x : Move). IsKept s x.1) (sym is) (record { phase = refl; queue = refl })
+acts-kept a s g m (orders vars o further t answers kept is) =
+    subst (λ (x : Move). IsKept s x.1) (sym is) (record { phase = kept.phase; queue = kept.queue })
+
+-- What holds of all that an outcome may leave.
+abbrev pub AllMade : (Made → Type 0) → Outcome → Type 0
+AllMade P (Ok m) = P m
+AllMade P (Err f) = Unit {0}
+
+pub either-made : (P : Made → Type 0) (b : Bool) (x y : Outcome) → AllMade P x → AllMade P y → AllMade P (cond b x y)
+either-made P true x y here there = here
+either-made P false x y here there = there
+
+-- A statement keeps the phase, and so does what an occurrence or an entry comes to.
+abbrev HasPhase : Phase → Made → Type 0
+HasPhase f m = m.state.phase ≡ f
+
+value-phase : (o : Option FirstBit) (reg : ℕ) (value : FirstBit) (s : State) → AllMade (HasPhase s.phase) (value_outcome o reg value s)
+value-phase None reg value s = refl
+value-phase (Some old) reg value s =
+    either-made (HasPhase s.phase) (bytes_eq (bit_text old) (bit_text value)) _ _ refl refl
+
+statement-phase : (p : ℕ) (o : Option FirstCode) (s : State) → AllMade (HasPhase s.phase) (statement_outcome p o s)
+statement-phase p None s = refl
+statement-phase p (Some (code.Wait d)) s =
+    unless-holds (AllMade (HasPhase s.phase)) (nat_lt MOST_TIME (s.queue.time + d)) fault.F2 _ (λ _. tt)
+    (λ _. unless-holds (AllMade (HasPhase s.phase)) (is_full s.queue) fault.F3 _ (λ _. tt) (λ _. refl))
+statement-phase p (Some (code.Assign reg value)) s = value-phase (slice_get s.store reg) reg value (going_on p s)
+statement-phase p (Some (code.Show text)) s = refl
+statement-phase p (Some code.Finish) s = refl
+
+telling-phase : (o : Occurrence) (s : State) → AllMade (HasPhase s.phase) (telling_outcome o s)
+telling-phase o s =
+    unless-holds (AllMade (HasPhase s.phase)) (nat_le MOST_FRAMES (frames s.control)) fault.F1 _ (λ _. tt)
+    (λ _. unless-holds (AllMade (HasPhase s.phase)) (nat_lt MOST_OCCURRENCES s.occurrence) fault.F3 _ (λ _. tt) (λ _. refl))
+
+work-phase : (w : Work) (s : State) → AllMade (HasPhase s.phase) (work_outcome w s)
+work-phase (work.Evaluation p) s = refl
+
+-- A move that ends the run, or one after which it isn't over.
+abbrev Goes : Move → Type 0
+Goes m = is_end m.0 ≡ false → is_over m.1.phase ≡ false
+
+outcome-goes : (l : Option (List ℕ) → Label) (before : State) (f : Phase) (out : Outcome) → is_over f ≡ false
+    → AllMade (HasPhase f) out → Goes (move_of l before out)
+outcome-goes l before f (Ok m) alive has = λ open_yet. ap is_over has ∙ alive
+outcome-goes l before f (Err e) alive has = λ open_yet. absurd (cc)
+
+called-phase : (r : Option Registration) (b : Option Body) (c : ℕ) (o : Occurrence) (s : State) → IsKept s (called r b c o s)
+called-phase None b c o s = same s
+called-phase (Some r) None c o s = same s
+called-phase (Some r) (Some b) c o s = record { phase = refl; queue = refl }
+
+pub called-kept : (r : Option Registration) (b : Option Body) (c : ℕ) (o : Occurrence) (s : State) → IsKept s (called r b c o s)
+called-kept = called-phase
+
+fire-goes : (o : Option ℕ) (f : Frame) (s : State) → is_over s.phase ≡ false → Goes (fire_move o f s)
+fire-goes None f s alive = λ open_yet. alive
+fire-goes (Some c) f s alive =
+    let before : State = with_top (top.Frame (record f { left = without_number c f.left })) s in
+    let kept = called-phase (info_of c s.callbacks) (body_of c s.callbacks) c f.what before in
+    λ open_yet. ap is_over kept.phase ∙ alive
+
+time-goes : (o : Option ℕ) (s : State) → is_over s.phase ≡ false → Goes (time_move o s)
+time-goes None s alive = λ open_yet. refl
+time-goes (Some time) s alive = λ open_yet. alive
+
+region-goes : (o : Option Region) (s : State) → is_over s.phase ≡ false → Goes (region_move o s)
+region-goes None s alive = time-goes (least_time s.queue.entries) s alive
+region-goes (Some r) s alive = λ open_yet. alive
+
+pick-goes : (o : Option Entry) (s : State) → is_over s.phase ≡ false → Goes (pick_move o s)
+pick-goes None s alive = region-goes (next_region s.queue) s alive
+pick-goes (Some e) s alive = outcome-goes (λ shown. label.Pick e.serial shown) s s.phase _ alive (work-phase e.work _)
+
+pub started-kept : (script : Option ScriptData) (k : ℕ) (s : State) → IsKept s (started script k s)
+started-kept None k s = same s
+started-kept (Some script) k s = record { phase = refl; queue = refl }
+
+agenda-goes : (o : Option Agendum) (s : State) (k : ℕ) → is_over s.phase ≡ false → Goes (agenda_move o s k)
+agenda-goes None s k alive = pick-goes (slice_get (eligible s.queue) k) s alive
+agenda-goes (Some (agendum.Startup n)) s k alive =
+    let kept = started-kept (slice_get s.scripts (n - 1)) n (without_item s) in
+    λ open_yet. ap is_over kept.phase ∙ alive
+agenda-goes (Some (agendum.Occurrence r)) s k alive =
+    outcome-goes _ s s.phase _ alive (telling-phase (occurrence_of r) (without_item s))
+
+idle-goes : (f : Phase) (s : State) (k : ℕ) → s.phase ≡ f → Goes (idle_move f s k)
+idle-goes phase.Running s k is = agenda-goes (slice_get s.agenda 0) s k (ap is_over is)
+idle-goes (phase.Finished c) s k is = λ open_yet. absurd (cc)
+idle-goes (phase.Ended e) s k is = λ open_yet. absurd (cc)
+
+item-goes : (c : Control) (s : State) (k : ℕ) (g : Given) → is_over s.phase ≡ false → Goes (item_move c s k g)
+item-goes (top.Process p) s k g alive =
+    outcome-goes (λ shown. label.Stmt p shown) (with_top (top.Process p) s) s.phase _ alive (statement-phase p (next_statement p s) s)
+item-goes (top.Pending o) s k g alive =
+    outcome-goes (λ shown. label.Occ s.occurrence o.reason o.object) (with_top (top.Pending o) s) s.phase _ alive (telling-phase o s)
+item-goes (top.Frame f) s k g alive = fire-goes (slice_get f.left k) f s alive
+item-goes (top.Activation a) s k g alive =
+    let kept = acts-kept a s g _ (acts (slice_get s.scripts a.script) (slice_get s.variables a.script) a s g) in
+    λ open_yet. ap is_over kept.phase ∙ alive
+item-goes (top.Leave c) s k g alive = λ open_yet. refl
+
+top-goes : (o : Option Control) (s : State) (k : ℕ) (g : Given) → is_over s.phase ≡ false → Goes (top_move o s k g)
+top-goes None s k g alive = idle-goes s.phase s k refl
+top-goes (Some c) s k g alive = item-goes c (without_top s) k g alive
+
+crowded-goes : (b : Bool) (s : State) (k : ℕ) (g : Given) → is_over s.phase ≡ false → Goes (crowded_move b s k g)
+crowded-goes true s k g alive = λ open_yet. absurd (cc)
+crowded-goes false s k g alive = top-goes (slice_get s.control 0) s k g alive
+
+-- Where the run isn't over there is a choice.
+one-of : (n : ℕ) → 0 < max n 1
+one-of n = omega arith
+
+item-some : (c : Control) → 0 < item_choices c
+item-some (top.Process p) = omega arith
+item-some (top.Pending o) = omega arith
+item-some (top.Frame f) = one-of (length f.left)
+item-some (top.Activation a) = omega arith
+item-some (top.Leave c) = omega arith
+
+agenda-some : (o : Option Agendum) (s : State) → 0 < agenda_choices o s
+agenda-some None s = one-of (length (eligible s.queue))
+agenda-some (Some item) s = omega arith
+
+idle-some : (f : Phase) (s : State) → is_over f ≡ false → 0 < idle_choices f s
+idle-some phase.Running s alive = agenda-some (slice_get s.agenda 0) s
+idle-some (phase.Finished c) s alive = omega arith
+idle-some (phase.Ended e) s alive = absurd (cc)
+
+top-some : (o : Option Control) (s : State) → is_over s.phase ≡ false → 0 < top_choices o s
+top-some None s alive = idle-some s.phase s alive
+top-some (Some c) s alive = item-some c
+
+choices-by : (over crowded : Bool) (n : ℕ) → over ≡ false → 0 < n → 0 < cond over 0 (cond crowded 1 n)
+choices-by true crowded n alive some = absurd (cc)
+choices-by false true n alive some = omega arith
+choices-by false false n alive some = some
+
+pub some-choice : (s : State) → is_over s.phase ≡ false → 0 < choices_of s
+some-choice s alive =
+    choices-by (is_over s.phase) (is_crowded s) (top_choices (slice_get s.control 0) s) alive (top-some (slice_get s.control 0) s alive)
+
+-- There is none where it is over.
+over-by : (over crowded : Bool) (n k : ℕ) → k < cond over 0 (cond crowded 1 n) → over ≡ false
+over-by true crowded n k below = absurd (omega arith)
+over-by false crowded n k below = refl
+
+pub not-over : (s : State) (k : ℕ) → k < choices_of s → is_over s.phase ≡ false
+not-over s k below = over-by (is_over s.phase) (is_crowded s) (top_choices (slice_get s.control 0) s) k below
+
+-- After a label that is no end the machine has a step to make.
+settled-goes : (b : Bool) (t : State) → is_over t.phase ≡ false → 0 < choices_of (cond b t (settled t))
+settled-goes true t alive = some-choice t alive
+settled-goes false t alive = some-choice (settled t) alive
+
+pub step-goes : (s t : State) (k : ℕ) (g : Given) (l : Label) → k < choices_of s → step_of s k g ≡ (l, t) → is_end l ≡ false
+    → 0 < choices_of t
+step-goes s t k g l below is =
+    let m : Move = crowded_move (is_crowded s) s k g in
+    let P : Move → Type 0 = λ x. is_end x.0 ≡ false → 0 < choices_of x.1 in
+    subst P is (λ open_yet. settled-goes (is_end m.0) m.1 (crowded-goes (is_crowded s) s k g (not-over s k below) open_yet))
+
+-- At the opening it has one too.
+pub opening-goes : (f : First) (scripts : List ScriptData) → 0 < choices_of (opening f scripts)
+opening-goes f scripts = some-choice (opening f scripts) refl
+
+-- The same of a label and the state that settles after it.
+pub label-goes : (s t u : State) (k : ℕ) (g : Given) (l : Label) → k < choices_of s → crowded_move (is_crowded s) s k g ≡ (l, t)
+    → u ≡ settled t → is_end l ≡ false → 0 < choices_of u
+label-goes s t u k g l below is after open_yet =
+    let P : Move → Type 0 = λ x. is_end x.0 ≡ false → is_over x.1.phase ≡ false in
+    let Q : State → Type 0 = λ x. 0 < choices_of x in
+    subst Q (sym after)
+    (some-choice (settled t) (subst P is (crowded-goes (is_crowded s) s k g (not-over s k below)) open_yet))

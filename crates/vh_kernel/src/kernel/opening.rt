@@ -1,0 +1,134 @@
+ghost use Rattle.std.specs.Prelude.{◌≡◌, ◌<◌, ◌+◌, ℕ, List, [], ◌∷◌, ◌++◌, map, length, ◌^◌, ◌-◌, IfOk};
+ghost use Rattle.vh_app.specs.Next.{no_answers};
+ghost use Rattle.vh_kernel.specs.Names.{below};
+ghost use Rattle.vh_kernel.specs.State.{startups, opening_agenda};
+
+use crate::control::Stack;
+use crate::events::Queue;
+use crate::handles::Handles;
+use crate::kernel::Kernel;
+use crate::occurrence::Agendum;
+use crate::phase::Phase;
+use crate::thread::Thread;
+use std::alloc::Global;
+use std::collections::VecDeque;
+use vh_app::{Script, Vars};
+use vh_base::{Bytes, First, FirstBit, FirstCode, NoMemory, Reason, Sequence};
+use vh_callbacks::Registry;
+
+// Every register opens as x.
+fn unknown_values(alloc: Global, regs: &[Bytes]) -> Result<Vec<FirstBit>, NoMemory>
+    ensures { IfOk result (λ v. v.items ≡ map (λ _. FirstBit.X) regs.now) }
+{
+    let mut values = Vec::new(alloc);
+    for _reg in regs {
+        values.push(FirstBit::X)?;
+    }
+    Ok(values)
+}
+
+// Every process has all of its statements to perform.
+fn all_threads(alloc: Global, blocks: Vec<Sequence<FirstCode>>) -> Result<Vec<Thread>, NoMemory>
+    ensures { IfOk result (λ v. v.items ≡ blocks.items) }
+{
+    let mut threads = Vec::new(alloc);
+    for block in blocks {
+        threads.push(Thread::new(block))?;
+    }
+    Ok(threads)
+}
+
+// Every variable of every script is null.
+fn all_vars(alloc: Global, scripts: &[Script]) -> Result<Vec<Vars>, NoMemory>
+    ensures { IfOk result (λ v. v.items ≡ map no_answers scripts.now) }
+{
+    let mut vars = Vec::new(alloc);
+    for script in scripts {
+        vars.push(Vars::new(alloc, script)?)?;
+    }
+    Ok(vars)
+}
+
+// A path below a scope.
+pub(crate) fn joined(alloc: Global, scope: &[u8], path: &[u8]) -> Result<Bytes, NoMemory>
+    ensures { IfOk result (λ name. name ≡ below scope.now path.now) }
+{
+    let length = scope.len().saturating_add(path.len()).saturating_add(1);
+    let mut name = Vec::with_capacity(alloc, length)?;
+    name.extend_from_slice(scope)?;
+    name.push(b'.')?;
+    name.extend_from_slice(path)?;
+    Ok(Sequence::new(name))
+}
+
+// The full names of the module and its registers.
+fn all_names(alloc: Global, name: &[u8], regs: &[Bytes]) -> Result<Vec<Bytes>, NoMemory>
+    ensures { IfOk result (λ names. names.items ≡ name.now ∷ map (below name.now) regs.now) }
+{
+    let mut names = Vec::new(alloc);
+    names.push(Bytes::from_slice(alloc, name)?)?;
+    for reg in regs {
+        names.push(joined(alloc, name, reg.as_slice())?)?;
+    }
+    Ok(names)
+}
+
+// The startup of each script, the end of compilation and the start of simulation.
+fn opening_agenda(alloc: Global, scripts: &[Script]) -> Result<VecDeque<Agendum>, NoMemory>
+    requires { length scripts.now < 2 ^ 32 }
+    ensures { IfOk result (λ agenda. agenda.items ≡ opening_agenda scripts.now) }
+{
+    let mut agenda = all_startups(alloc, scripts.len() as u32)?;
+    agenda.push_back(Agendum::Occurrence(Reason::CbEndOfCompile))?;
+    agenda.push_back(Agendum::Occurrence(Reason::CbStartOfSimulation))?;
+    Ok(agenda)
+}
+
+// The startups of so many scripts.
+fn all_startups(alloc: Global, scripts: u32) -> Result<VecDeque<Agendum>, NoMemory>
+    ensures { IfOk result (λ agenda. agenda.items ≡ startups 1 scripts) }
+{
+    let mut agenda = VecDeque::new(alloc);
+    for i in 0..scripts {
+        agenda.push_back(Agendum::Startup(i + 1))?;
+    }
+    Ok(agenda)
+}
+
+impl Kernel {
+    ghost use Rattle.vh_kernel.specs.State.{before_all};
+    ghost use Rattle.vh_kernel.specs.Views.{state_of};
+
+    // The state before all.
+    pub(crate) fn before_all(
+        alloc: Global,
+        first: First,
+        scripts: Vec<Script>,
+    ) -> Result<Kernel, NoMemory>
+        requires { length scripts.items < 2 ^ 32 }
+        ensures { IfOk result (λ k. state_of k ≡ before_all first scripts.items) }
+    {
+        let names = all_names(alloc, first.name.as_slice(), first.regs.as_slice())?;
+        let store = unknown_values(alloc, first.regs.as_slice())?;
+        let blocks = first.blocks.into_vec();
+        let queue = Queue::opening(alloc, blocks.len())?;
+        let threads = all_threads(alloc, blocks)?;
+        let vars = all_vars(alloc, scripts.as_slice())?;
+        let agenda = opening_agenda(alloc, scripts.as_slice())?;
+        Ok(Kernel {
+            names,
+            scripts,
+            store,
+            queue,
+            threads,
+            vars,
+            callbacks: Registry::new(alloc),
+            handles: Handles::new(alloc),
+            control: Stack::new(alloc),
+            agenda,
+            occurrence: 1,
+            error: None,
+            phase: Phase::Running,
+        })
+    }
+}
