@@ -157,8 +157,6 @@ impl Kernel {
         ensures step { IfOk result (λ l. IsStep (state_of self.old) k (l, state_of self.new)) }
         ensures goes { IfOk result (λ l. is_end l ≡ false → 0 < choices_of (state_of self.new)) }
     {
-        // called for what it says of the number: it was never given
-        let _ = self.handles.next_number();
         let label = self.make_label(alloc, k)?;
         if !label.is_end() {
             self.settle();

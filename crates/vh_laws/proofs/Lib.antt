@@ -1,11 +1,18 @@
-pub mod Views
-pub mod Effects
-pub mod Rows
+-- Paths and their parts, and tests.
 pub mod Splits
-pub mod Handing
-pub mod Turning
-pub mod Removing
-pub mod Naming
-pub mod Keeping
-pub mod FiringLaw
-pub mod Chosen
+-- What a label changes of that of which the laws speak.
+pub mod Works
+-- Each step of the machine is one of six kinds.
+pub mod WorksLemmas
+-- What the callbacks keep in a step.
+pub mod CallbacksLemmas
+-- The set of a frame, from its occurrence on.
+pub mod SetsLemmas
+-- What the handles keep in a step.
+pub mod HandlesLemmas
+-- The firing law.
+pub mod FiringLemmas
+-- The handle law.
+pub mod HandleLawLemmas
+-- Every path and every run from a fresh state keeps the laws.
+pub mod LawsLemmas

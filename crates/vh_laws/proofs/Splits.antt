@@ -1,7 +1,7 @@
 -- Paths and their parts, and tests.
 use Rattle.std.proofs.Common.{◌≡◌, List, [], ◌∷◌, ◌++◌, Bool, true, false, ◌||◌, refl, subst, ◌⊎◌, inl, inr}
 use Rattle.vh_kernel.specs.State.{State}
-use Rattle.vh_kernel.specs.Step.{Move}
+use Rattle.vh_kernel.specs.Outcome.{Move}
 use Rattle.vh_laws.specs.Paths.{IsPath, end_of}
 
 -- A test passes or fails, and not both; one of two passes, or both fail.

@@ -1,61 +1,127 @@
 -- The firing law: which callback fires for an occurrence, and when. (IEEE 1364-2005, 27.33; what a removal
 -- or a registration meanwhile does is own)
-use Rattle.std.specs.Prelude.{◌≡◌, ℕ, List, ◌∷◌, ◌++◌, true, false, Option, Some, ◌⊎◌}
+use Rattle.std.specs.Prelude.{◌≡◌, ℕ, List, [], ◌∷◌, ◌++◌, Bool, true, false, not, ◌&&◌, filter, slice_get, Option, Some, ◌⊎◌}
 use Rattle.vh_base.specs.declared.orders.Answer.TheVariants as answer
 use Rattle.vh_base.specs.declared.orders.Object.{Object}
-use Rattle.vh_base.specs.declared.orders.Order.TheVariants as order
+use Rattle.vh_base.specs.declared.orders.Order.TheVariants as orders
 use Rattle.vh_base.specs.declared.words.Reason.{Reason}
-use Rattle.vh_callbacks.specs.Callbacks.{matching, is_live}
+use Rattle.vh_callbacks.specs.Callbacks.{is_live}
 use Rattle.vh_kernel.specs.declared.activation.Who.{Who}
+use Rattle.vh_kernel.specs.declared.control.Control.{Control}
+use Rattle.vh_kernel.specs.declared.control.Control.TheVariants as top
 use Rattle.vh_kernel.specs.declared.handles.Thing.TheVariants as thing
 use Rattle.vh_kernel.specs.declared.label.Label.{Label}
 use Rattle.vh_kernel.specs.declared.label.Label.TheVariants as label
+use Rattle.vh_kernel.specs.declared.occurrence.Frame.{Frame}
 use Rattle.vh_kernel.specs.Handles.{thing_at}
+use Rattle.vh_kernel.specs.Occurrences.{Occurrence, set_of}
+use Rattle.vh_kernel.specs.Outcome.{Move}
 use Rattle.vh_kernel.specs.State.{State}
-use Rattle.vh_kernel.specs.Step.{Move}
 use Rattle.vh_laws.specs.Paths.{is_among, is_told, is_fire, is_fire_of, is_done, any, was_removed, end_of}
 
--- An occurrence is told once.
+-- The frames on control, the top first.
+abbrev pub with_frame : Control → List Frame → List Frame
+with_frame (top.Process p) frames = frames
+with_frame (top.Pending o) frames = frames
+with_frame (top.Frame f) frames = f ∷ frames
+with_frame (top.Activation a) frames = frames
+with_frame (top.Leave c) frames = frames
+
+abbrev pub frames_of : List Control → List Frame
+frames_of [] = []
+frames_of (x ∷ xs) = with_frame x (frames_of xs)
+
+-- The topmost frame on control.
+abbrev pub TopFrame : State → Frame → Type 0
+TopFrame s f = slice_get (frames_of s.control) 0 ≡ Some f
+
+-- An occurrence is told: its label and the frame that this puts on control, with the whole set of the
+-- callbacks that watch it.
+pub record IsTelling (m : Move) (n : ℕ) (what : Occurrence) : Type 0 where
+  pub told : m.0 ≡ label.Occ n what.reason what.object
+  pub frame : TopFrame m.1 (record { number = n; what = what; left = set_of what m.1.callbacks })
+
+-- An occurrence is told once, with its whole set.
 abbrev pub TellsOnce : List Move → Type 0
 TellsOnce moves =
     (before behind : List Move) (n : ℕ) (reason : Reason) (object : Option Object) (t : State)
-    → moves ≡ before ++ (label.Occ n reason object, t) ∷ behind → any (is_told n) behind ≡ false
+    → moves ≡ before ++ (label.Occ n reason object, t) ∷ behind
+    → ((what : Occurrence) × IsTelling (label.Occ n reason object, t) n what) × (any (is_told n) behind ≡ false)
 
--- The occurrence was told among these labels, and the callback was live then and watched it.
-abbrev pub WasTold : ℕ → ℕ → List Move → Type 0
-WasTold n c moves =
-    (front : List Move) × (rest : List Move) × (reason : Reason) × (object : Option Object) × (u : State)
-    × (moves ≡ front ++ (label.Occ n reason object, u) ∷ rest) × (is_among c (matching reason object u.callbacks) ≡ true)
+-- The occurrence was told among these labels, and the callback was in its set.
+pub record WasTold (n c : ℕ) (moves : List Move) : Type 0 where
+  pub front : List Move
+  pub rest : List Move
+  pub move : Move
+  pub what : Occurrence
+  pub splits : moves ≡ front ++ move ∷ rest
+  pub tells : IsTelling move n what
+  pub among : is_among c (set_of what move.1.callbacks) ≡ true
 
--- A callback fires for an occurrence after that was told, if it was live and watching then; before the occurrence
+-- A callback fires for an occurrence after that was told, if it was in its set then; before the occurrence
 -- is done; and once.
+pub record FiresRight (n c : ℕ) (before : List Move) : Type 0 where
+  pub told : WasTold n c before
+  pub yet : any (is_done n) before ≡ false
+  pub once : any (is_fire n c) before ≡ false
+
 abbrev pub FiresOnce : List Move → Type 0
 FiresOnce moves =
-    (before behind : List Move) (n c : ℕ) (t : State) → moves ≡ before ++ (label.Fire n c, t) ∷ behind
-    → WasTold n c before × (any (is_done n) before ≡ false) × (any (is_fire n c) before ≡ false)
+    (before behind : List Move) (n c : ℕ) (t : State)
+    → moves ≡ before ++ (label.Fire n c, t) ∷ behind → FiresRight n c before
 
--- When an occurrence is done, each callback that watched it when it was told has fired for it, or was removed since.
+-- What is left of a set: those that have neither fired for the occurrence nor been removed since.
+abbrev pub left_of : ℕ → List Move → List ℕ → List ℕ
+left_of n since set = filter (λ c. not (any (is_fire n c) since) && not (was_removed c since)) set
+
+-- The set of a frame is that of its occurrence without those that have fired for it or were removed since.
+abbrev pub KeepsSets : List Move → Type 0
+KeepsSets moves =
+    (front mid behind : List Move) (m : Move) (n i : ℕ) (what : Occurrence) (f : Frame)
+    → moves ≡ front ++ m ∷ mid ++ behind → IsTelling m n what
+    → slice_get (frames_of (end_of m.1 mid).control) i ≡ Some f → f.number ≡ n → f.left ≡ left_of n mid (set_of what m.1.callbacks)
+
+-- When an occurrence is done, each callback of its set has fired for it, or was removed since.
 abbrev pub LeavesNone : List Move → Type 0
 LeavesNone moves =
-    (front mid behind : List Move) (n c : ℕ) (reason : Reason) (object : Option Object) (u t : State)
-    → moves ≡ front ++ (label.Occ n reason object, u) ∷ mid ++ (label.Done n, t) ∷ behind
-    → is_among c (matching reason object u.callbacks) ≡ true
+    (front mid behind : List Move) (m : Move) (n c : ℕ) (what : Occurrence) (t : State)
+    → moves ≡ front ++ m ∷ mid ++ (label.Done n, t) ∷ behind → IsTelling m n what
+    → is_among c (set_of what m.1.callbacks) ≡ true
     → (any (is_fire n c) mid ≡ true) ⊎ (was_removed c mid ≡ true)
 
--- The label is a removal of the callback, by a handle that names it.
-abbrev pub IsRemoval : ℕ → State → Label → Type 0
-IsRemoval c s l =
-    (who : Who) × (h : ℕ) × (l ≡ label.Do who (order.Remove (Some h)) (answer.Number 1)) × (thing_at h s.handles ≡ Some (thing.Callback c))
+-- An occurrence is done after it was told, and once.
+abbrev pub DoneOnce : List Move → Type 0
+DoneOnce moves =
+    (before behind : List Move) (n : ℕ) (t : State) → moves ≡ before ++ (label.Done n, t) ∷ behind
+    → (any (is_told n) before ≡ true) × (any (is_done n) before ≡ false) × (any (is_done n) behind ≡ false)
 
--- A callback stops being live only where it is removed.
+-- What was told after an occurrence is done before it is.
+abbrev pub ClosesInOrder : List Move → Type 0
+ClosesInOrder moves =
+    (front mid behind : List Move) (n k : ℕ) (reason : Reason) (object : Option Object) (u t : State)
+    → moves ≡ front ++ (label.Occ n reason object, u) ∷ mid ++ (label.Done n, t) ∷ behind
+    → any (is_told k) mid ≡ true → any (is_done k) mid ≡ true
+
+-- The label is a removal of the callback, by a handle that names it.
+pub record IsRemoval (c : ℕ) (s : State) (l : Label) : Type 0 where
+  pub who : Who
+  pub handle : ℕ
+  pub is : l ≡ label.Do who (orders.Remove (Some handle)) (answer.Number 1)
+  pub names : thing_at handle s.handles ≡ Some (thing.Callback c)
+
+-- A callback stops being live only where it is removed,
 abbrev pub GoesByRemoval : State → List Move → Type 0
 GoesByRemoval s moves =
     (before behind : List Move) (m : Move) (c : ℕ) → moves ≡ before ++ m ∷ behind
-    → is_live c (end_of s before).callbacks ≡ true → is_live c m.1.callbacks ≡ false → IsRemoval c (end_of s before) m.0
-
--- A callback that was removed fires no more.
-abbrev pub FiresNoMore : State → List Move → Type 0
-FiresNoMore s moves =
-    (before behind : List Move) (m : Move) (c : ℕ) → moves ≡ before ++ m ∷ behind
     → is_live c (end_of s before).callbacks ≡ true → is_live c m.1.callbacks ≡ false
-    → any (is_fire_of c) behind ≡ false
+    → IsRemoval c (end_of s before) m.0
+
+-- and where it is removed it is live no more, and fires no more.
+pub record IsGone (c : ℕ) (m : Move) (behind : List Move) : Type 0 where
+  pub dead : is_live c m.1.callbacks ≡ false
+  pub silent : any (is_fire_of c) behind ≡ false
+
+abbrev pub RemovesForGood : State → List Move → Type 0
+RemovesForGood s moves =
+    (before behind : List Move) (m : Move) (c : ℕ) → moves ≡ before ++ m ∷ behind
+    → IsRemoval c (end_of s before) m.0 → IsGone c m behind

@@ -1,37 +1,61 @@
--- The laws of every run and every prefix of one.
-use Rattle.std.specs.Prelude.{List}
+-- The laws of every path, of every run and of every prefix of one.
+use Rattle.std.specs.Prelude.{◌≡◌, List, [], false}
 use Rattle.vh_base.specs.declared.first.First.{First}
 use Rattle.vh_app.specs.Script.{ScriptData}
+use Rattle.vh_callbacks.specs.Callbacks.{IsSound}
+use Rattle.vh_kernel.specs.Handles.{no_handles}
+use Rattle.vh_kernel.specs.Outcome.{Move}
 use Rattle.vh_kernel.specs.Run.{Chooser, IsRun}
 use Rattle.vh_kernel.specs.Settle.{opening}
 use Rattle.vh_kernel.specs.State.{State}
-use Rattle.vh_kernel.specs.Step.{Move}
+use Rattle.vh_kernel.specs.Step.{is_over}
 use Rattle.vh_laws.specs.Paths.{IsPath}
-use Rattle.vh_laws.specs.Firing.{TellsOnce, FiresOnce, LeavesNone, GoesByRemoval, FiresNoMore}
-use Rattle.vh_laws.specs.HandleLaw.{GivesOnce, NamesOne, FreedByRemoval, StaysFreed}
+use Rattle.vh_laws.specs.Firing.{TellsOnce, FiresOnce, KeepsSets, LeavesNone, DoneOnce, ClosesInOrder, GoesByRemoval, RemovesForGood}
+use Rattle.vh_laws.specs.HandleLaw.{GivesOnce, GivesLive, NamesOne, FindsLive, FreedByRemoval, RemovalFrees, StaysFreed}
 
--- Labels that are made from a state keep the firing law,
-abbrev pub KeepsFiringLaw : State → List Move → Type 0
-KeepsFiringLaw s moves = TellsOnce moves × FiresOnce moves × LeavesNone moves × GoesByRemoval s moves × FiresNoMore s moves
+-- Labels that are made from a state keep the firing law.
+pub record KeepsFiringLaw (s : State) (moves : List Move) : Type 0 where
+  pub told_once : TellsOnce moves
+  pub fires_once : FiresOnce moves
+  pub sets_kept : KeepsSets moves
+  pub none_left : LeavesNone moves
+  pub done_once : DoneOnce moves
+  pub in_order : ClosesInOrder moves
+  pub goes_by_removal : GoesByRemoval s moves
+  pub removes_for_good : RemovesForGood s moves
 
--- and the handle law.
-abbrev pub KeepsHandleLaw : State → List Move → Type 0
-KeepsHandleLaw s moves = GivesOnce moves × NamesOne moves × FreedByRemoval s moves × StaysFreed s moves
+-- And the handle law.
+pub record KeepsHandleLaw (s : State) (moves : List Move) : Type 0 where
+  pub given_once : GivesOnce moves
+  pub given_live : GivesLive s moves
+  pub names_one : NamesOne moves
+  pub finds_live : FindsLive s moves
+  pub freed_by_removal : FreedByRemoval s moves
+  pub removal_frees : RemovalFrees moves
+  pub stays_freed : StaysFreed s moves
 
--- The theorem: of every design, every script and every path from their opening.
-abbrev pub FiringLaw : Type 0
-FiringLaw = (f : First) (scripts : List ScriptData) (moves : List Move) → IsPath (opening f scripts) moves → KeepsFiringLaw (opening f scripts) moves
+pub record KeepsLaws (s : State) (moves : List Move) : Type 0 where
+  pub firing : KeepsFiringLaw s moves
+  pub handles : KeepsHandleLaw s moves
 
-abbrev pub HandleLaw : Type 0
-HandleLaw = (f : First) (scripts : List ScriptData) (moves : List Move) → IsPath (opening f scripts) moves → KeepsHandleLaw (opening f scripts) moves
+-- The run isn't over, nothing is on control and no handle was given; the numbers of callbacks rise.
+pub record IsFresh (s : State) : Type 0 where
+  pub going : is_over s.phase ≡ false
+  pub alone : s.control ≡ []
+  pub none_given : s.handles ≡ no_handles
+  pub sound : IsSound s.callbacks
 
--- Both laws.
-abbrev pub KeepsLaws : State → List Move → Type 0
-KeepsLaws s moves = KeepsFiringLaw s moves × KeepsHandleLaw s moves
+-- The theorem: every path from such a state keeps both laws, whole or cut anywhere,
+abbrev pub PathsKeepLaws : Type 0
+PathsKeepLaws = (s : State) (moves : List Move) → IsFresh s → IsPath s moves → KeepsLaws s moves
 
--- Every run from a state under an order of choice keeps both, whole or cut anywhere.
+-- and so does every run under an order of choice;
 abbrev pub Lawful : Chooser → State → Type 0
 Lawful order s = (moves : List Move) → IsRun order s moves → KeepsLaws s moves
 
 abbrev pub RunsKeepLaws : Type 0
-RunsKeepLaws = (f : First) (scripts : List ScriptData) (order : Chooser) → Lawful order (opening f scripts)
+RunsKeepLaws = (s : State) → IsFresh s → (order : Chooser) → Lawful order s
+
+-- the opening of a design with its scripts is such a state.
+abbrev pub OpensFresh : Type 0
+OpensFresh = (f : First) (scripts : List ScriptData) → IsFresh (opening f scripts)

@@ -1,6 +1,8 @@
+-- Paths of the machine, and what their labels tell.
 pub mod Paths
+-- The firing law: which callback fires for an occurrence, and when.
 pub mod Firing
+-- The handle law: what a handle names, from its giving on.
 pub mod HandleLaw
+-- The two laws, of every path and of every run.
 pub mod Laws
-pub mod Works
-pub mod Keeps

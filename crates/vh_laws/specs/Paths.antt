@@ -1,17 +1,24 @@
 -- Paths of the machine: labels, each with the state after it, by any choices. (IEEE 1364-2005, 11.4.2)
-use Rattle.std.specs.Prelude.{ℕ, ◌<◌, List, [], ◌∷◌, Bool, false, ◌&&◌, not, nat_eq}
+use Rattle.std.specs.Prelude.{ℕ, ⊤, ◌<◌, List, [], ◌∷◌, Bool, false, ◌&&◌, not, ◌==◌}
 use Rattle.std.specs.List.{list_any}
 use Rattle.vh_base.specs.declared.orders.Answer.{Answer}
 use Rattle.vh_callbacks.specs.Callbacks.{is_live}
 use Rattle.vh_kernel.specs.declared.label.Label.{Label}
 use Rattle.vh_kernel.specs.declared.label.Label.TheVariants as label
 use Rattle.vh_kernel.specs.State.{State}
-use Rattle.vh_kernel.specs.Step.{Move, IsStep, choices_of}
+use Rattle.vh_kernel.specs.Outcome.{Move}
+use Rattle.vh_kernel.specs.Step.{IsStep, choices_of}
+
+-- A step by one of the choices that there are.
+pub record IsMade (s : State) (m : Move) : Type 0 where
+  pub choice : ℕ
+  pub below : choice < choices_of s
+  pub step : IsStep s choice m
 
 -- From the state the machine may make these labels.
 abbrev pub IsPath : State → List Move → Type 0
-IsPath s [] = Unit {0}
-IsPath s (m ∷ moves) = ((k : ℕ) × (k < choices_of s) × IsStep s k m) × IsPath m.1 moves
+IsPath s [] = ⊤
+IsPath s (m ∷ moves) = IsMade s m × IsPath m.1 moves
 
 -- The state to which they lead.
 abbrev pub end_of : State → List Move → State
@@ -20,7 +27,7 @@ end_of s (m ∷ moves) = end_of m.1 moves
 
 -- Is a number among these?
 abbrev pub is_among : ℕ → List ℕ → Bool
-is_among n numbers = list_any (nat_eq n) numbers
+is_among n numbers = list_any (λ d. n == d) numbers
 
 -- What a label tells of occurrences, callbacks and handles.
 pub data Deed : Type 0 where
@@ -53,7 +60,7 @@ deed_of (label.End ending) = other
 -- Does a callback fire for an occurrence?
 abbrev pub fires_for : ℕ → ℕ → Deed → Bool
 fires_for n c (tells number) = false
-fires_for n c (fires number callback) = nat_eq n number && nat_eq c callback
+fires_for n c (fires number callback) = n == number && c == callback
 fires_for n c (closes number) = false
 fires_for n c (answers answer) = false
 fires_for n c other = false
@@ -64,7 +71,7 @@ is_fire n c l = fires_for n c (deed_of l)
 -- Does a callback fire, for whichever occurrence?
 abbrev pub fires_any : ℕ → Deed → Bool
 fires_any c (tells number) = false
-fires_any c (fires number callback) = nat_eq c callback
+fires_any c (fires number callback) = c == callback
 fires_any c (closes number) = false
 fires_any c (answers answer) = false
 fires_any c other = false
@@ -74,7 +81,7 @@ is_fire_of c l = fires_any c (deed_of l)
 
 -- Is an occurrence told?
 abbrev pub tells_of : ℕ → Deed → Bool
-tells_of n (tells number) = nat_eq n number
+tells_of n (tells number) = n == number
 tells_of n (fires number callback) = false
 tells_of n (closes number) = false
 tells_of n (answers answer) = false
@@ -87,7 +94,7 @@ is_told n l = tells_of n (deed_of l)
 abbrev pub closes_of : ℕ → Deed → Bool
 closes_of n (tells number) = false
 closes_of n (fires number callback) = false
-closes_of n (closes number) = nat_eq n number
+closes_of n (closes number) = n == number
 closes_of n (answers answer) = false
 closes_of n other = false
 

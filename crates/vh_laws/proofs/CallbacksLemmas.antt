@@ -1,5 +1,5 @@
--- What the callbacks keep in a step.
-use Rattle.std.proofs.Common.{◌≡◌, ℕ, ◌+◌, ◌<◌, ◌≤◌, List, [], ◌∷◌, Bool, true, false, cond, not, ◌||◌, nat_eq, nat_le, Option, Some, None, is_some, refl, sym, ap, subst, ◌∙◌, arith, inl, inr}
+-- What the callbacks keep in a step: they stay, or one is registered, or one is removed.
+use Rattle.std.proofs.Common.{◌≡◌, ℕ, ◌+◌, ◌<◌, ◌≤◌, ◌⊎◌, List, [], ◌∷◌, Bool, true, false, cond, not, ◌||◌, nat_eq, nat_le, Option, Some, None, is_some, refl, sym, ap, subst, ◌∙◌, arith, inl, inr}
 use Rattle.std.proofs.lemmas.Bool.{eqb-true, eq-eqb, ne_eqb, leb-true, leb-false}
 use Rattle.std.specs.Option.{option_map}
 use Rattle.vh_base.specs.declared.orders.Answer.{Answer}
@@ -9,7 +9,7 @@ use Rattle.vh_base.specs.declared.orders.Order.{Order}
 use Rattle.vh_base.specs.declared.words.Reason.{Reason}
 use Rattle.vh_callbacks.specs.declared.registration.Registration.{Registration}
 use Rattle.vh_callbacks.specs.declared.registry.Live.{Live}
-use Rattle.vh_callbacks.specs.Callbacks.{Callbacks, live_at, is_live, info_of, matching, registered, removed, IsSound}
+use Rattle.vh_callbacks.specs.Callbacks.{Callbacks, live_at, is_live, info_of, is_full, matching, registered, removed, IsSound}
 use Rattle.vh_callbacks.specs.Registration.{is_some_for}
 use Rattle.vh_callbacks.proofs.Rising.{sound_registered, sound_removed}
 use Rattle.vh_callbacks.proofs.Telling.{next_is_new, keeps_registered, tells_removed, keeps_removed}
@@ -18,9 +18,10 @@ use Rattle.vh_kernel.specs.declared.activation.Body.{Body}
 use Rattle.vh_kernel.specs.declared.label.Label.{Label}
 use Rattle.vh_kernel.specs.declared.label.Label.TheVariants as label
 use Rattle.vh_kernel.specs.Numbers.{without_number}
-use Rattle.vh_laws.specs.Keeps.{ChangesByOne}
+use Rattle.vh_kernel.specs.Occurrences.{Occurrence, set_of, set_by}
+use Rattle.vh_kernel.specs.State.{State}
 use Rattle.vh_laws.specs.Paths.{is_among}
-use Rattle.vh_laws.specs.Works.{View, Changes, Works}
+use Rattle.vh_laws.proofs.Works.{View, Changes, changes_none, opens_one, registers_one, removes_one, Works, works_none, empties, orders_one, tells_one, fires_one, closes_one}
 use Rattle.vh_laws.proofs.Splits.{not_both, or_right, or_left}
 
 -- Sets of numbers.
@@ -99,43 +100,56 @@ live_removed c d s apart =
 pub gone_removed : (c : ℕ) (s : Callbacks Body) → IsSound s → is_live c (removed c s) ≡ false
 gone_removed c s sound = sym (live_info c (removed c s)) ∙ ap (λ (o : Option Registration). is_some o) (tells_removed s c sound).0
 
--- What a label does to the callbacks.
-answer_turns : (v w : View) (o : Order) (a : Answer) → Changes v o a w → ChangesByOne v.callbacks w.callbacks
-answer_turns v w o answer.Done is = inl (ap (λ (x : View). x.callbacks) is)
-answer_turns v w o answer.Null is = inl (ap (λ (x : View). x.callbacks) is)
-answer_turns v w o (answer.Handle h) (fresh, inl opens) = inl (ap (λ (x : View). x.callbacks) opens.1)
-answer_turns v w o (answer.Handle h) (fresh, inr (r, b, room, is)) = inr (inl (r, b, room, ap (λ (x : View). x.callbacks) is))
-answer_turns v w o (answer.Number n) (c, h, by, one, names, is) = inr (inr (c, ap (λ (x : View). x.callbacks) is))
-answer_turns v w o (answer.Text text) is = inl (ap (λ (x : View). x.callbacks) is)
-answer_turns v w o (answer.Refused c) is = inl (ap (λ (x : View). x.callbacks) is)
+-- What the set of an occurrence holds is live.
+same-number : (b : Bool) (c d : ℕ) → nat_eq d c ≡ b → (b || false) ≡ true → d ≡ c
+same-number true c d is among = eqb-true d c is
+same-number false c d is among = absurd (cc)
 
-pub works_turns : (v w : View) (l : Label) → Works v l w → ChangesByOne v.callbacks w.callbacks
-works_turns v w (label.Startup k) is = inl (ap (λ (x : View). x.callbacks) is)
-works_turns v w (label.Do who o a) is = answer_turns v w o a is.0
-works_turns v w (label.Ret who) is = inl (ap (λ (x : View). x.callbacks) is)
-works_turns v w (label.Occ n reason object) (o, number, is) = inl (ap (λ (x : View). x.callbacks) is)
-works_turns v w (label.Fire n c) (f, rest, on, number, among, is) = inl (ap (λ (x : View). x.callbacks) is)
-works_turns v w (label.Done n) (f, rest, on, number, none, is) = inl (ap (λ (x : View). x.callbacks) is)
-works_turns v w (label.Activate r) is = inl (ap (λ (x : View). x.callbacks) is)
-works_turns v w (label.Advance time) is = inl (ap (λ (x : View). x.callbacks) is)
-works_turns v w (label.Pick n shown) is = inl (ap (λ (x : View). x.callbacks) is)
-works_turns v w (label.Stmt p shown) is = inl (ap (λ (x : View). x.callbacks) is)
-works_turns v w (label.Finish c) is = inl (ap (λ (x : View). x.callbacks) is)
-works_turns v w (label.End e) is = inl (ap (λ (x : View). x.callbacks) is)
+alone : (b : Bool) (c d : ℕ) (s : Callbacks Body) → is_live c s ≡ b → is_among d (cond b (c ∷ []) []) ≡ true → is_live d s ≡ true
+alone true c d s alive there = ap (λ (n : ℕ). is_live n s) (same-number (nat_eq d c) c d refl there) ∙ alive
+alone false c d s alive there = absurd (cc)
+
+set-live-by : (only : Option ℕ) (o : Occurrence) (s : Callbacks Body) (d : ℕ) → IsSound s → is_among d (set_by only o s) ≡ true
+    → is_live d s ≡ true
+set-live-by None o s d sound among = matching_live s o.reason o.object d sound among
+set-live-by (Some c) o s d sound among = alone (is_live c s) c d s refl among
+
+pub set-live : (o : Occurrence) (s : Callbacks Body) (d : ℕ) → IsSound s → is_among d (set_of o s) ≡ true → is_live d s ≡ true
+set-live o s d sound among = set-live-by o.only o s d sound among
+
+-- The callbacks stay, or one is registered, or one is removed.
+pub data ChangesByOne (a b : Callbacks Body) : Type 0 where
+  stays : b ≡ a → ChangesByOne a b
+  adds : (r : Registration) (body : Body) → is_full a ≡ false → b ≡ registered r body a → ChangesByOne a b
+  drops : (c : ℕ) → b ≡ removed c a → ChangesByOne a b
+
+changes-turn : (s : State) (o : Order) (a : Answer) (w : View) → Changes s o a w → ChangesByOne s.callbacks w.callbacks
+changes-turn s o a w (changes_none plain is) = stays (ap (λ (x : View). x.callbacks) is)
+changes-turn s o a w (opens_one h x gives fresh finds is) = stays (ap (λ (x : View). x.callbacks) is)
+changes-turn s o a w (registers_one h r b gives fresh room asks is) = adds r b room (ap (λ (x : View). x.callbacks) is)
+changes-turn s o a w (removes_one c h by one names is) = drops c (ap (λ (x : View). x.callbacks) is)
+
+pub works-turn : (s : State) (l : Label) (w : View) → Works s l w → ChangesByOne s.callbacks w.callbacks
+works-turn s l w (works_none quiet is) = stays (ap (λ (x : View). x.callbacks) is)
+works-turn s l w (empties quiet is) = stays (ap (λ (x : View). x.callbacks) is)
+works-turn s l w (orders_one who o a is changes) = changes-turn s o a w changes
+works-turn s l w (tells_one n what is number after) = stays (ap (λ (x : View). x.callbacks) after)
+works-turn s l w (fires_one n c f rest is on number among after) = stays (ap (λ (x : View). x.callbacks) after)
+works-turn s l w (closes_one n f rest is on number none after) = stays (ap (λ (x : View). x.callbacks) after)
 
 -- Of each way: soundness stays,
 pub turns_sound : (a b : Callbacks Body) → ChangesByOne a b → IsSound a → IsSound b
-turns_sound a b (inl is) sound = subst (λ (x : Callbacks Body). IsSound x) (sym is) sound
-turns_sound a b (inr (inl (r, body, room, is))) sound =
+turns_sound a b (stays is) sound = subst (λ (x : Callbacks Body). IsSound x) (sym is) sound
+turns_sound a b (adds r body room is) sound =
     subst (λ (x : Callbacks Body). IsSound x) (sym is) (sound_registered a r body sound room)
-turns_sound a b (inr (inr (c, is))) sound =
+turns_sound a b (drops c is) sound =
     subst (λ (x : Callbacks Body). IsSound x) (sym is) (sound_removed a c sound)
 
 -- the next number doesn't fall,
 pub turns_next : (a b : Callbacks Body) → ChangesByOne a b → a.next ≤ b.next
-turns_next a b (inl is) = let e : b.next ≡ a.next = ap (λ (x : Callbacks Body). x.next) is in omega arith
-turns_next a b (inr (inl (r, body, room, is))) = let e : b.next ≡ a.next + 1 = ap (λ (x : Callbacks Body). x.next) is in omega arith
-turns_next a b (inr (inr (c, is))) = let e : b.next ≡ a.next = ap (λ (x : Callbacks Body). x.next) is in omega arith
+turns_next a b (stays is) = let e : b.next ≡ a.next = ap (λ (x : Callbacks Body). x.next) is in omega arith
+turns_next a b (adds r body room is) = let e : b.next ≡ a.next + 1 = ap (λ (x : Callbacks Body). x.next) is in omega arith
+turns_next a b (drops c is) = let e : b.next ≡ a.next = ap (λ (x : Callbacks Body). x.next) is in omega arith
 
 -- and what was live and isn't any more isn't live again.
 gone_by : (b : Bool) (c d : ℕ) (s : Callbacks Body) → nat_eq c d ≡ b → IsSound s → is_live c s ≡ false → is_live c (removed d s) ≡ false
@@ -145,8 +159,8 @@ gone_by true c d s is sound gone =
 gone_by false c d s is sound gone = live_removed d c s is ∙ gone
 
 pub stays_gone : (c : ℕ) (a b : Callbacks Body) → ChangesByOne a b → IsSound a → c < a.next → is_live c a ≡ false → is_live c b ≡ false
-stays_gone c a b (inl is) sound below gone = ap (λ (x : Callbacks Body). is_live c x) is ∙ gone
-stays_gone c a b (inr (inl (r, body, room, is))) sound below gone =
+stays_gone c a b (stays is) sound below gone = ap (λ (x : Callbacks Body). is_live c x) is ∙ gone
+stays_gone c a b (adds r body room is) sound below gone =
     ap (λ (x : Callbacks Body). is_live c x) is ∙ live_registered c r body a below ∙ gone
-stays_gone c a b (inr (inr (d, is))) sound below gone =
+stays_gone c a b (drops d is) sound below gone =
     ap (λ (x : Callbacks Body). is_live c x) is ∙ gone_by (nat_eq c d) c d a refl sound gone
