@@ -9,18 +9,21 @@ use crate::file::TextFile;
 use crate::status::Status;
 use crate::words::{is_design_word, is_script_word};
 use std::alloc::{AllocError, AllocFailed, Global};
+use thiserror::Error;
 use vh_app::{Script, ScriptFault, read_app};
 use vh_base::{AppFault, DesignFault, First, Place, Short};
 use vh_parse::{FirstFault, parse_first};
 
 /// Why texts can't be run.
-#[derive(Clone, Copy, Debug, PartialEq, Eq)]
+#[derive(Clone, Copy, Debug, PartialEq, Eq, Error)]
 pub enum Refusal {
     /// The Verilog text is refused.
+    #[error("design refused: {0}")]
     Design(DesignFault, Place),
     /// The script of this file, by its number from 1, is refused.
+    #[error("script of file {0} refused: {1}")]
     Script(u32, AppFault, Place),
-    /// Memory was refused.
+    #[error("out of memory")]
     NoMemory,
 }
 

@@ -7,6 +7,7 @@ ghost use Rattle.vh_host.specs.Reading.{file_seen, files_seen, AreRead, MeetsLon
 use crate::file::TextFile;
 use crate::words::is_script_word;
 use std::alloc::{AllocFailed, Global};
+use thiserror::Error;
 use vh_base::{FetchFault, Files};
 
 // How many bytes a Verilog file may have.
@@ -16,13 +17,13 @@ const DESIGN_LIMIT: usize = 4_194_304;
 const SCRIPT_LIMIT: usize = 1_048_576;
 
 /// Why files weren't read. A file goes by its number among the file words, from 1.
-#[derive(Clone, Copy, Debug, PartialEq, Eq)]
+#[derive(Clone, Copy, Debug, PartialEq, Eq, Error)]
 pub enum Unread {
-    /// The source failed at this file.
+    #[error("the source failed at file {0}")]
     Failed(u32),
-    /// This file has more bytes than it may have.
+    #[error("file {0} has more bytes than it may have")]
     TooLong(u32),
-    /// Memory was refused.
+    #[error("out of memory")]
     NoMemory,
 }
 
