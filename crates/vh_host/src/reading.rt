@@ -2,7 +2,7 @@ ghost use Rattle.std.specs.Prelude.{◌≡◌, ◌≢◌, ◌<◌, ◌≤◌, �
 ghost use Rattle.vh_base.specs.Outside.{Rose, IsAnswered};
 ghost use Rattle.vh_host.specs.Words.{texts, numbered};
 ghost use Rattle.vh_host.specs.Acceptance.{limit_of, first_too_long, is_too_long};
-ghost use Rattle.vh_host.specs.Reading.{file_seen, files_seen, AreRead, MeetsLong};
+ghost use Rattle.vh_host.specs.Reading.{file_seen, files_seen, AreRead, MeetsLong, MeetsNoneLong};
 
 use crate::file::TextFile;
 use crate::words::is_script_word;
@@ -48,6 +48,7 @@ pub fn read_files<'a, F: Files>(
     ensures short { IfOk result (λ found. first_too_long 1 (files_seen found.items) ≡ None) }
     ensures long { (n : ℕ) → result ≡ Err (Unread.TooLong n) → MeetsLong (F.holds files.old) (texts words.now) n }
     ensures failed { (n : ℕ) → result ≡ Err (Unread.Failed n) → Rose (F.faults files.old) (F.faults files.new) }
+    ensures in_order { (n : ℕ) → result ≡ Err (Unread.Failed n) → MeetsNoneLong (F.holds files.old) (texts words.now) n }
     ensures blamed { (n : ℕ) → result ≡ Err (Unread.Failed n) → numbered (texts words.now) n ≡ Some (F.blamed files.new) }
     ensures calm { ((n : ℕ) → result ≢ Err (Unread.Failed n)) → F.faults files.new ≡ F.faults files.old }
 {
