@@ -12,6 +12,7 @@ use std::process::ExitCode;
 use std::rt::Env;
 use std::{env, rt};
 use thiserror::Error;
+use vh_base::NoMemory;
 use vh_host::{Status, exit_number, run, status_line};
 
 // Why there are no words.
@@ -41,20 +42,23 @@ pub fn run_program<R: Env + rt::Files + Print + Eprint + AllocGlobal>(rt: &R) ->
 // The words behind the program's own name.
 fn words_of<R: Env + AllocGlobal>(rt: &R) -> Result<Vec<String>, WordsFault> {
     match env::args(rt) {
-        Ok(args) => Ok(without_name(all_words(rt.alloc(), args)?)),
+        Ok(args) => match all_words(rt.alloc(), args) {
+            Ok(words) => Ok(without_name(words)),
+            Err(NoMemory) => Err(WordsFault::NoMemory),
+        },
         Err(e) if e.kind() == ErrorKind::InvalidData => Err(WordsFault::NoText),
         Err(_) => Err(WordsFault::NoMemory),
     }
 }
 
 // All the words, the program's name first.
-fn all_words(alloc: Global, args: Args) -> Result<Vec<String>, WordsFault>
+fn all_words(alloc: Global, args: Args) -> Result<Vec<String>, NoMemory>
     ensures { IfOk result (λ words. words.items ≡ into_iter_items args) }
 {
     let mut words = Vec::new(alloc);
     for word in args {
         if words.push(word).is_err() {
-            return Err(WordsFault::NoMemory);
+            return Err(NoMemory);
         }
     }
     Ok(words)
