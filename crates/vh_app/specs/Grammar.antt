@@ -7,6 +7,7 @@
 --             | "remove" h | "print" TEXT
 --     h       = NAME | "me" | "null", in the startup "null" alone
 use Rattle.std.specs.Prelude.{ℕ, ◌+◌, ◌*◌, ◌-◌, Bool, true, false, cond, List, Option, Some, None, if◌then◌else◌, codes, fold, nat_eq, nat_lt, bytes_eq}
+use Rattle.vh_base.specs.Words.{reason_text}
 use Rattle.vh_base.specs.declared.words.Reason.{Reason}
 use Rattle.vh_base.specs.declared.words.Reason.TheVariants.{CbValueChange, CbEndOfCompile, CbStartOfSimulation, CbEndOfSimulation}
 use Rattle.vh_grammar.specs.Part.{Part, tok, seq, bind, alt, rep, nested, only, act, two, after, before, listed}
@@ -70,13 +71,13 @@ abbrev pub number_in : Token → Option ℕ
 number_in (digits spelling) = below_limit (number_of spelling)
 number_in _ = None
 
--- REASON (own; IEEE 1364-2005, 27.33.2 and 27.33.3)
+-- REASON: the one whose word this is (own; IEEE 1364-2005, 27.33.2 and 27.33.3)
 abbrev pub reason_of : List ℕ → Option Reason
 reason_of bytes =
-    if bytes_eq bytes (codes "cbValueChange") then Some CbValueChange
-    else (if bytes_eq bytes (codes "cbEndOfCompile") then Some CbEndOfCompile
-    else (if bytes_eq bytes (codes "cbStartOfSimulation") then Some CbStartOfSimulation
-    else (if bytes_eq bytes (codes "cbEndOfSimulation") then Some CbEndOfSimulation else None)))
+    if bytes_eq bytes (reason_text CbValueChange) then Some CbValueChange
+    else (if bytes_eq bytes (reason_text CbEndOfCompile) then Some CbEndOfCompile
+    else (if bytes_eq bytes (reason_text CbStartOfSimulation) then Some CbStartOfSimulation
+    else (if bytes_eq bytes (reason_text CbEndOfSimulation) then Some CbEndOfSimulation else None)))
 
 abbrev pub reason_in : Token → Option Reason
 reason_in (name bytes) = reason_of bytes

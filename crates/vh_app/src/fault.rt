@@ -1,24 +1,26 @@
 ghost use Rattle.std.specs.Prelude.{◌≡◌};
 
 use std::alloc::{AllocError, AllocFailed};
+use thiserror::Error;
 use vh_base::{AppFault, Place};
 use vh_grammar::Stop;
 
 /// Why a text has no script.
-#[derive(Clone, Copy, Debug, PartialEq, Eq)]
+#[derive(Clone, Copy, Debug, PartialEq, Eq, Error)]
 pub enum ScriptFault {
-    /// The bytes are no script, and what is wrong stands at this place.
+    /// What is wrong, and where it stands.
+    #[error("no script: {0}, at line {line}, column {column}", line = .1.line, column = .1.column)]
     Refused(AppFault, Place),
-    /// Memory was refused.
+    #[error("out of memory")]
     NoMemory,
 }
 
 /// Why a text has no script, without a place.
-#[derive(Clone, Copy, Debug, PartialEq, Eq)]
+#[derive(Clone, Copy, Debug, PartialEq, Eq, Error)]
 pub enum NotRead {
-    /// The bytes are no script.
+    #[error("the bytes are no script")]
     NoScript,
-    /// Memory was refused.
+    #[error("out of memory")]
     NoMemory,
 }
 

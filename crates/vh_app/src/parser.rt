@@ -1,8 +1,9 @@
-ghost use Rattle.std.specs.Prelude.{◌≡◌, map, Some, None, false, IfOk};
+ghost use Rattle.std.specs.Prelude.{◌≡◌, map, Some, None, false, IfOk, bytes_eq};
 ghost use Rattle.vh_app.specs.Grammar;
 ghost use Rattle.vh_app.specs.Meaning;
 ghost use Rattle.vh_app.specs.Seen.{tokens_seen, command_seen, commands_seen, order_seen, handle_seen, procedure_seen, procedures_seen, app_seen, ReadsPart, TakesToken, TakesMeaning, token_is_next};
 ghost use Rattle.vh_base.specs.Lists.{names_seen};
+ghost use Rattle.vh_base.specs.Words.{reason_text};
 ghost use Rattle.vh_app.specs.Spelling.{unescaped};
 
 use crate::fault::NotRead;
@@ -523,17 +524,24 @@ fn reason<'t, 'a>(tokens: &'t [Token<'a>]) -> Result<(Reason, &'t [Token<'a>]), 
 fn reason_of(word: &[u8]) -> Option<Reason>
     ensures { result ≡ Grammar.reason_of word.now }
 {
-    if word == b"cbValueChange".as_slice() {
+    if is_word_of(word, Reason::CbValueChange) {
         Some(Reason::CbValueChange)
-    } else if word == b"cbEndOfCompile".as_slice() {
+    } else if is_word_of(word, Reason::CbEndOfCompile) {
         Some(Reason::CbEndOfCompile)
-    } else if word == b"cbStartOfSimulation".as_slice() {
+    } else if is_word_of(word, Reason::CbStartOfSimulation) {
         Some(Reason::CbStartOfSimulation)
-    } else if word == b"cbEndOfSimulation".as_slice() {
+    } else if is_word_of(word, Reason::CbEndOfSimulation) {
         Some(Reason::CbEndOfSimulation)
     } else {
         None
     }
+}
+
+// Is this a reason's word?
+fn is_word_of(word: &[u8], reason: Reason) -> bool
+    ensures { result ≡ bytes_eq word.now (reason_text reason) }
+{
+    word == reason.name().as_bytes()
 }
 
 // Takes what stands for a handle.

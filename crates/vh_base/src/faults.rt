@@ -1,8 +1,13 @@
+ghost use Rattle.std.specs.Prelude.{◌≡◌};
+ghost use Rattle.vh_base.specs.Faults.{cause_name, fault_name, design_fault_name, app_fault_name};
+
 use std::alloc::{AllocError, AllocFailed};
+use thiserror::Error;
 
 /// Memory was refused. The one free answer: it comes from any call that takes an
 /// allocator, and is merged with no other.
-#[derive(Clone, Copy, Debug, PartialEq, Eq)]
+#[derive(Clone, Copy, Debug, PartialEq, Eq, Error)]
+#[error("out of memory")]
 pub struct NoMemory;
 
 impl From<AllocError> for NoMemory {
@@ -29,52 +34,178 @@ pub enum Cause {
     Nothing,
 }
 
-/// A number of the machine that a run would exceed; the run ends there.
-#[derive(Clone, Copy, Debug, PartialEq, Eq)]
+impl Cause {
+    /// The word that a transcript has for it.
+    pub fn name(self) -> &'static str
+        ensures { result.now ≡ cause_name self }
+    {
+        match self {
+            Cause::Finish => "finish",
+            Cause::Stop => "stop",
+            Cause::Nothing => "none",
+        }
+    }
+}
+
+/// A number of the machine that a run would exceed; the run ends there. (own)
+#[derive(Clone, Copy, Debug, PartialEq, Eq, Error)]
 pub enum Fault {
-    /// A 65th frame of callbacks.
+    #[error("a 65th frame of callbacks would stand")]
     F1,
-    /// A delay of the design leads to a time above 2^63-1.
+    #[error("a delay of the design leads to a time above 2^63-1")]
     F2,
-    /// 1,048,576 entries stand and the design adds one, or a number is used up.
+    /// 1,048,576 entries stand and the design adds one; or 2^63 serials, or occurrence or process
+    /// numbers, were given.
+    #[error("the event queue is full, or a number is used up")]
     F3,
-    /// A 257th nested call of functions or tasks in one thread.
+    #[error("a 257th nested call of functions or tasks in one thread")]
     F4,
 }
 
+impl Fault {
+    /// Its short name, which lines and statuses show.
+    pub fn name(self) -> &'static str
+        ensures { result.now ≡ fault_name self }
+    {
+        match self {
+            Fault::F1 => "F1",
+            Fault::F2 => "F2",
+            Fault::F3 => "F3",
+            Fault::F4 => "F4",
+        }
+    }
+}
+
 /// Why a Verilog text is refused: `L` lexical, `S` of the grammar, `N` of names,
-/// sizes and hierarchy.
-#[derive(Clone, Copy, Debug, PartialEq, Eq)]
+/// sizes and hierarchy. Of two faults that with the first place is answered.
+#[derive(Clone, Copy, Debug, PartialEq, Eq, Error)]
 pub enum DesignFault {
+    /// Outside strings and comments (IEEE 1364-2005, 3.1).
+    #[error("a byte that begins no token")]
     L1,
+    /// An unbalanced one is a conditional without its end, or an end without its conditional
+    /// (IEEE 1364-2005, 19).
+    #[error("a directive that is unknown here, malformed or unbalanced")]
     L2,
+    /// At its use (IEEE 1364-2005, 19.3).
+    #[error("a macro that is undefined, takes arguments, holds a directive or is nested above 64")]
     L3,
+    /// Also a size outside 1 to 64, and a number that its 64 digits don't hold (IEEE 1364-2005, 3.5
+    /// and 3.6).
+    #[error("a malformed number, or an escape that no string has")]
     L4,
+    /// At its start (IEEE 1364-2005, 3.3, 3.6 and 3.8).
+    #[error("a comment, an attribute or a string without its end")]
     L5,
+    /// A name above 1,024 bytes, a string above 4,096, a token past the 4,194,304th, or a use of a
+    /// macro past the 1,048,576th. (own)
+    #[error("a name, a string, the tokens or the uses of macros above their limit")]
     L6,
+    /// The first with which the tokens so far begin no source, or the end of an unfinished one
+    /// (IEEE 1364-2005, Annex A).
+    #[error("a token with which no source goes on")]
     S1,
+    /// At the first token that is nested so. (own)
+    #[error("statements, blocks and expressions nested above 200")]
     S2,
-    /// A construct that is left out by name.
+    /// At the construct's first token. (own)
+    #[error("a construct of the standard that is left out")]
     S3,
+    /// Also a use of one of another kind, as of a module's name in an expression.
+    #[error("a name, a module, a port or a parameter that isn't declared")]
     N1,
+    #[error("a name declared twice in one scope, or two modules of one name")]
     N2,
+    /// A width outside 1 to 64, a bound outside 0 to 2^31-1, above 65,536 words, a replication below
+    /// 1, a number without size in a concatenation, or a string operand above 8 bytes. (own)
+    #[error("a width, a bound, a size or a count outside its range")]
     N3,
+    /// Also a parameter whose value needs itself.
+    #[error("a value that isn't constant where a constant is needed")]
     N4,
+    /// As a net in a procedural assignment, or a variable in a continuous one (IEEE 1364-2005, 6 and
+    /// 9).
+    #[error("a target that can't take this assignment")]
     N5,
+    /// Other than a name, a constant select of one or a named event; or of a memory. (own)
+    #[error("an event control of something that can't be waited on")]
     N6,
+    /// In another number than is declared, by order and by name in one list, one named twice, or a
+    /// terminal of another width than 1 (IEEE 1364-2005, 12.2 and 12.3).
+    #[error("connections, parameter entries or gate terminals that don't fit")]
     N7,
+    #[error("a module that instantiates itself, directly or through others")]
     N8,
+    #[error("no top module, or more than one")]
     N9,
+    /// Wrong are the arguments or a format (IEEE 1364-2005, 17).
+    #[error("a system task or function that is unknown, of the other kind, or called wrongly")]
     N10,
+    /// 100,000 objects, 4,194,304 statements and operators, 1,048,576 words of memories, and 2^31 of
+    /// each other. (own)
+    #[error("more objects, statements, words, expressions, drivers or processes than fit")]
     N11,
 }
 
-/// Why an application script is refused.
-#[derive(Clone, Copy, Debug, PartialEq, Eq)]
+impl DesignFault {
+    /// Its short name, which lines and statuses show.
+    pub fn name(self) -> &'static str
+        ensures { result.now ≡ design_fault_name self }
+    {
+        match self {
+            DesignFault::L1 => "L1",
+            DesignFault::L2 => "L2",
+            DesignFault::L3 => "L3",
+            DesignFault::L4 => "L4",
+            DesignFault::L5 => "L5",
+            DesignFault::L6 => "L6",
+            DesignFault::S1 => "S1",
+            DesignFault::S2 => "S2",
+            DesignFault::S3 => "S3",
+            DesignFault::N1 => "N1",
+            DesignFault::N2 => "N2",
+            DesignFault::N3 => "N3",
+            DesignFault::N4 => "N4",
+            DesignFault::N5 => "N5",
+            DesignFault::N6 => "N6",
+            DesignFault::N7 => "N7",
+            DesignFault::N8 => "N8",
+            DesignFault::N9 => "N9",
+            DesignFault::N10 => "N10",
+            DesignFault::N11 => "N11",
+        }
+    }
+}
+
+/// Why an application's script is refused. (own)
+#[derive(Clone, Copy, Debug, PartialEq, Eq, Error)]
 pub enum AppFault {
+    #[error("bytes that are no token, or a number above 2^64-1")]
     A1,
+    /// Also a `calltf` or `compiletf` that is no procedure of the script, a function's size outside 1
+    /// to 64, or a malformed system name.
+    #[error("a token that no script has here, or an unknown variable")]
     A2,
+    #[error("an unknown routine, reason, relation, property, format or mode")]
     A3,
+    #[error("a variable, a procedure or a script's name declared twice")]
     A4,
+    /// A name above 100 bytes, a text above 255, nesting above 64, or more than 65,536 commands.
+    #[error("a name, a text, the nesting or the commands above their limit")]
     A5,
+}
+
+impl AppFault {
+    /// Its short name, which lines and statuses show.
+    pub fn name(self) -> &'static str
+        ensures { result.now ≡ app_fault_name self }
+    {
+        match self {
+            AppFault::A1 => "A1",
+            AppFault::A2 => "A2",
+            AppFault::A3 => "A3",
+            AppFault::A4 => "A4",
+            AppFault::A5 => "A5",
+        }
+    }
 }

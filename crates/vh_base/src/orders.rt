@@ -31,11 +31,13 @@ pub enum BodyName {
 pub struct SystfEntry {
     pub kind: SystfKind,
     /// The name with its `$`.
-    pub text: Short,
+    pub name: Short,
     /// How many digits a function's value has.
-    pub n: u64,
-    pub calltf: ProcName,
-    pub compiletf: Option<ProcName>,
+    pub size: u32,
+    /// The script's procedure that an execution calls.
+    pub calltf: Short,
+    /// The one that is called before the run, for each call in the design.
+    pub compiletf: Option<Short>,
 }
 
 /// One call of a VPI routine by an application. A handle that is `None` is null.

@@ -2,22 +2,25 @@ ghost use Rattle.std.specs.Prelude.{◌≡◌, ◌≢◌, ℕ, ◌+◌, ◌<◌,
 ghost use Rattle.vh_base.specs.Outside.{Rose, IsAnswered, appended};
 
 use std::alloc::Global;
+use thiserror::Error;
 
 /// Why a read gave no bytes.
-#[derive(Clone, Copy, Debug, PartialEq, Eq)]
+#[derive(Clone, Copy, Debug, PartialEq, Eq, Error)]
 pub enum FetchFault {
-    /// The source failed; its count of faults rose.
+    /// Its count of faults rose.
+    #[error("the source of files failed")]
     Failed,
-    /// Memory was refused.
+    #[error("out of memory")]
     NoMemory,
 }
 
 /// Why a write took no bytes.
-#[derive(Clone, Copy, Debug, PartialEq, Eq)]
+#[derive(Clone, Copy, Debug, PartialEq, Eq, Error)]
 pub enum SinkFault {
-    /// The sink failed; its count of faults rose.
+    /// Its count of faults rose.
+    #[error("the sink failed")]
     Failed,
-    /// Memory was refused.
+    #[error("out of memory")]
     NoMemory,
 }
 

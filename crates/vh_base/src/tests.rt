@@ -2,8 +2,8 @@ ghost use Rattle.std.specs.Prelude.{◌≡◌};
 ghost use Rattle.vh_base.specs.Promise.{stop_at};
 
 use crate::{
-    Answer, Bytes, FetchFault, Files, HandleNo, MemoryFiles, MemorySink, Native, Order, Promise,
-    Reason, Seen, Sequence, Short, Sink, SinkFault,
+    Answer, AppFault, Bytes, Code, DesignFault, Fault, FetchFault, Files, HandleNo, MemoryFiles,
+    MemorySink, Native, Order, Promise, Reason, Seen, Sequence, Short, Sink, SinkFault,
 };
 use std::alloc::Global;
 use std::test::Fail;
@@ -69,6 +69,24 @@ fn a_sequence_gives_its_vector_back(rt: HostRuntime) -> Result<(), Fail> {
     let bytes: Bytes = Sequence::new(Vec::from_slice(rt.alloc(), b"top")?);
     assert_eq!(rt; bytes.as_slice(), b"top".as_slice());
     assert_eq!(rt; bytes.into_vec().as_slice(), b"top".as_slice());
+    Ok(())
+}
+
+#[test]
+fn a_fault_has_a_name_and_says_what_it_means(rt: HostRuntime) -> Result<(), Fail> {
+    let alloc = rt.alloc();
+    let design = DesignFault::N9;
+    let app = AppFault::A3;
+    let run = Fault::F1;
+    let code = Code::E15;
+    let mut lines = format!(in alloc; "{} {design}, ", design.name())?;
+    lines.push_str(format!(in alloc; "{} {app}, ", app.name())?.as_str())?;
+    lines.push_str(format!(in alloc; "{} {run}, ", run.name())?.as_str())?;
+    lines.push_str(format!(in alloc; "{} {code}", code.name())?.as_str())?;
+    let wanted = "N9 no top module, or more than one, \
+        A3 an unknown routine, reason, relation, property, format or mode, \
+        F1 a 65th frame of callbacks would stand, E15 the event queue is full";
+    assert_eq!(rt; lines.as_str(), wanted);
     Ok(())
 }
 

@@ -1,3 +1,8 @@
+ghost use Rattle.std.specs.Prelude.{◌≡◌};
+ghost use Rattle.vh_base.specs.Words.{reason_text, code_name};
+
+use thiserror::Error;
+
 /// Why a callback is called (IEEE 1364-2005, 27.33.2 to 27.33.4).
 #[derive(Clone, Copy, Debug, PartialEq, Eq)]
 pub enum Reason {
@@ -14,25 +19,99 @@ pub enum Reason {
     CbEndOfSimulation,
 }
 
-/// What is wrong with an order that is refused, as `E1` to `E16`.
-#[derive(Clone, Copy, Debug, PartialEq, Eq)]
+impl Reason {
+    /// Its word in scripts and in the transcript.
+    pub fn name(self) -> &'static str
+        ensures { result.now ≡ reason_text self }
+    {
+        match self {
+            Reason::CbValueChange => "cbValueChange",
+            Reason::CbForce => "cbForce",
+            Reason::CbRelease => "cbRelease",
+            Reason::CbAtStartOfSimTime => "cbAtStartOfSimTime",
+            Reason::CbAfterDelay => "cbAfterDelay",
+            Reason::CbNextSimTime => "cbNextSimTime",
+            Reason::CbReadWriteSynch => "cbReadWriteSynch",
+            Reason::CbReadOnlySynch => "cbReadOnlySynch",
+            Reason::CbEndOfCompile => "cbEndOfCompile",
+            Reason::CbStartOfSimulation => "cbStartOfSimulation",
+            Reason::CbEndOfSimulation => "cbEndOfSimulation",
+        }
+    }
+}
+
+/// What is wrong with an order that is refused. (own)
+#[derive(Clone, Copy, Debug, PartialEq, Eq, Error)]
 pub enum Code {
+    #[error("a handle that isn't live, or null where one is needed")]
     E1,
+    /// Also an order that only a callback's activation may give.
+    #[error("a handle of the wrong kind")]
     E2,
+    #[error("no such property or relation for this kind")]
     E3,
+    #[error("a text that is no value in this format")]
     E4,
+    /// A parameter, a constant, an operation; a system function call other than the running one,
+    /// or with a mode other than `vpiNoDelay`; a word of a memory with force or release.
+    #[error("an object that can't be put")]
     E5,
+    /// `cbAtStartOfSimTime` with a time not above now, `cbAfterDelay` with delay 0, or a time above
+    /// 2^63-1.
+    #[error("a time that can't be waited for")]
     E6,
+    /// Within a `cbReadOnlySynch` activation, a put other than with a delay of 1 or more, or a synch
+    /// registration with delay 0.
+    #[error("a change at the present time in a read-only synch")]
     E7,
+    #[error("the run has passed its finish")]
     E8,
+    /// A startup registers no reason that needs an object, and only a startup registers system tasks.
+    #[error("an order that this phase doesn't allow")]
     E9,
+    /// 65,536, or 2^63 were given.
+    #[error("as many handles are live as may be")]
     E10,
+    /// 65,536, or 2^63 were given.
+    #[error("as many callbacks are live as may be")]
     E11,
+    #[error("no native of this name is in stock")]
     E12,
+    #[error("no script has this procedure")]
     E13,
+    #[error("a system name that is built in or registered")]
     E14,
+    /// 1,048,576 entries stand, or 2^63 serials were given.
+    #[error("the event queue is full")]
     E15,
+    #[error("a value or a text that doesn't fit the format")]
     E16,
+}
+
+impl Code {
+    /// Its short name, which lines show.
+    pub fn name(self) -> &'static str
+        ensures { result.now ≡ code_name self }
+    {
+        match self {
+            Code::E1 => "E1",
+            Code::E2 => "E2",
+            Code::E3 => "E3",
+            Code::E4 => "E4",
+            Code::E5 => "E5",
+            Code::E6 => "E6",
+            Code::E7 => "E7",
+            Code::E8 => "E8",
+            Code::E9 => "E9",
+            Code::E10 => "E10",
+            Code::E11 => "E11",
+            Code::E12 => "E12",
+            Code::E13 => "E13",
+            Code::E14 => "E14",
+            Code::E15 => "E15",
+            Code::E16 => "E16",
+        }
+    }
 }
 
 /// How a value is put (IEEE 1364-2005, 27.32).

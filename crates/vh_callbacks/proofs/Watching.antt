@@ -1,12 +1,12 @@
 -- What the index keeps beside the callbacks, through a registration and a removal.
-use Rattle.std.proofs.Common.{◌≡◌, ◌+◌, ◌++◌, ℕ, List, [], ◌∷◌, map, filter, length, Bool, true, false, cond, not, refl, sym, ap, ◌∙◌, arith, subst, slice_get, Option, Some, None, Vec, Less, Equal, Greater}
+use Rattle.std.proofs.Common.{◌≡◌, ◌+◌, ◌++◌, ℕ, List, [], ◌∷◌, map, filter, length, Bool, true, false, cond, not, refl, sym, ap, ◌∙◌, arith, slice_get, Option, Some, None, Vec, Less, Equal, Greater}
 use Rattle.std.proofs.lemmas.Bool.{eqb-true, ne_eqb, eq-eqb, and_parts}
 use Rattle.std.proofs.lemmas.List.{append-nil}
 use Rattle.std.proofs.lemmas.List.Elements.{filter-append}
 use Rattle.std.specs.BTreeMap.{is_at}
 use Rattle.std.specs.Cmp.{nat_eq_equiv}
 use Rattle.std.specs.Map.{lookup}
-use Rattle.std.specs.Option.{option_cmp}
+use Rattle.std.specs.Option.{option_cmp, option_map}
 use Rattle.std.specs.Ordering.{nat_cmp, is_eq, ordering_then}
 use Rattle.std.specs.declared.alloc.Global.{Global}
 use Rattle.std.specs.declared.cmp.Ordering.{Ordering}
@@ -17,7 +17,7 @@ use Rattle.vh_callbacks.specs.declared.index.Watch.{Watch}
 use Rattle.vh_callbacks.specs.declared.registry.Live.{Live}
 use Rattle.vh_callbacks.specs.Registration.{same_word, same_reason, same_object}
 use Rattle.vh_callbacks.specs.Callbacks.{Rise, live_at, without, has_reason, numbers_of, any_of}
-use Rattle.vh_callbacks.specs.Watching.{watch, watch_cmp, watches, watchers, without_number, listed, numbers_under, Indexes}
+use Rattle.vh_callbacks.specs.Watching.{watch, watch_cmp, watches, watchers, without_number, listed, list_under, numbers_under, if_any, Indexes}
 use Rattle.vh_callbacks.proofs.Rising.{at_eq}
 use Rattle.vh_callbacks.proofs.Telling.{live_below, live_above}
 use Rattle.vh_callbacks.proofs.Matching.{some}
@@ -99,54 +99,37 @@ Entries = List (Watch × Vec ℕ Global)
 abbrev pub ChangesAt : Watch → Entries → Entries → Option (Vec ℕ Global) → Type 0
 ChangesAt k old new w = (q : Watch) → lookup (is_at (watch_cmp q)) new ≡ cond (is_at (watch_cmp k) q) w (lookup (is_at (watch_cmp q)) old)
 
-under_head : (k q : Watch) (old new : Entries) (w : Option (Vec ℕ Global)) (before after : List ℕ) (P : Bool → List ℕ → List ℕ → Type 0) (b : Bool)
-    → is_at (watch_cmp k) q ≡ b → lookup (is_at (watch_cmp q)) new ≡ cond b w (lookup (is_at (watch_cmp q)) old)
-    → numbers_under k old ≡ before → listed w ≡ after → P true before after → ((ns : List ℕ) → P false ns ns)
-    → P b (numbers_under q old) (numbers_under q new)
-under_head k q old new w before after P true is upd was now here elsewhere =
-    let one : numbers_under q old ≡ before = ap (λ (z : Watch). numbers_under z old) (sym (watch_exact k q is)) ∙ was in
-    let two : numbers_under q new ≡ after = ap listed upd ∙ now in
-    subst (λ (z : List ℕ). P true z (numbers_under q new)) (sym one) (subst (λ (z : List ℕ). P true before z) (sym two) here)
-under_head k q old new w before after P false is upd was now here elsewhere =
-    subst (λ (z : List ℕ). P false (numbers_under q old) z) (sym (ap listed upd)) (elsewhere (numbers_under q old))
+abbrev pub items_of : Option (Vec ℕ Global) → Option (List ℕ)
+items_of = option_map (λ v. v.items)
 
-pub under_changed : (k : Watch) (old new : Entries) (w : Option (Vec ℕ Global)) (before after : List ℕ) (P : Bool → List ℕ → List ℕ → Type 0)
-    → ChangesAt k old new w → numbers_under k old ≡ before → listed w ≡ after → P true before after → ((ns : List ℕ) → P false ns ns)
-    → (q : Watch) → P (is_at (watch_cmp k) q) (numbers_under q old) (numbers_under q new)
-under_changed k old new w before after P upd was now here elsewhere q =
-    under_head k q old new w before after P (is_at (watch_cmp k) q) refl (upd q) was now here elsewhere
+list_head : (b : Bool) (w old : Option (Vec ℕ Global)) (o : Option (List ℕ)) → items_of w ≡ o → items_of (cond b w old) ≡ cond b o (items_of old)
+list_head true w old o is = is
+list_head false w old o is = refl
 
--- one more number under k
-pub under_added : (k : Watch) (old new : Entries) (w : Option (Vec ℕ Global)) (before : List ℕ) (n : ℕ)
-    → ChangesAt k old new w → numbers_under k old ≡ before → listed w ≡ before ++ n ∷ []
-    → (q : Watch) → numbers_under q new ≡ numbers_under q old ++ cond (is_at (watch_cmp k) q) (n ∷ []) []
-under_added k old new w before n upd was now =
-    under_changed k old new w before (before ++ n ∷ []) (λ b o m. m ≡ o ++ cond b (n ∷ []) []) upd was now refl (λ ns. sym (append-nil ns))
+-- So it has the list of that under k, and elsewhere the list that it had.
+pub list_changed : (k : Watch) (old new : Entries) (w : Option (Vec ℕ Global)) (o : Option (List ℕ)) → ChangesAt k old new w → items_of w ≡ o
+    → (q : Watch) → list_under q new ≡ cond (is_at (watch_cmp k) q) o (list_under q old)
+list_changed k old new w o upd is q = ap items_of (upd q) ∙ list_head (is_at (watch_cmp k) q) w (lookup (is_at (watch_cmp q)) old) o is
 
--- the same numbers under k
-pub under_kept : (k : Watch) (old new : Entries) (w : Option (Vec ℕ Global)) (before : List ℕ)
-    → ChangesAt k old new w → numbers_under k old ≡ before → listed w ≡ before
-    → (q : Watch) → numbers_under q new ≡ numbers_under q old
-under_kept k old new w before upd was now = under_changed k old new w before before (λ b o m. m ≡ o) upd was now refl (λ ns. refl)
+same_head : (k q : Watch) (old : Entries) (o : Option (List ℕ)) (b : Bool) → is_at (watch_cmp k) q ≡ b → list_under k old ≡ o
+    → list_under q old ≡ cond b o (list_under q old)
+same_head k q old o true is was = ap (λ (z : Watch). list_under z old) (sym (watch_exact k q is)) ∙ was
+same_head k q old o false is was = refl
 
--- a number less under k
-pub under_taken : (k : Watch) (old new : Entries) (w : Option (Vec ℕ Global)) (before : List ℕ) (n : ℕ)
-    → ChangesAt k old new w → numbers_under k old ≡ before → listed w ≡ without_number n before
-    → (q : Watch) → numbers_under q new ≡ cond (is_at (watch_cmp k) q) (without_number n (numbers_under q old)) (numbers_under q old)
-under_taken k old new w before n upd was now =
-    under_changed k old new w before (without_number n before) (λ b o m. m ≡ cond b (without_number n o) o) upd was now refl (λ ns. refl)
+-- What is there already.
+pub list_same : (k : Watch) (old : Entries) (o : Option (List ℕ)) → list_under k old ≡ o
+    → (q : Watch) → list_under q old ≡ cond (is_at (watch_cmp k) q) o (list_under q old)
+list_same k old o was q = same_head k q old o (is_at (watch_cmp k) q) refl was
 
-none_head : (k q : Watch) (old : Entries) (n : ℕ) (b : Bool) → is_at (watch_cmp k) q ≡ b → numbers_under k old ≡ []
-    → numbers_under q old ≡ cond b (without_number n (numbers_under q old)) (numbers_under q old)
-none_head k q old n true is was =
-    let one : numbers_under q old ≡ [] = ap (λ (z : Watch). numbers_under z old) (sym (watch_exact k q is)) ∙ was in
-    rw one refl
-none_head k q old n false is was = refl
+-- ---- lists that are there where they have a number
 
--- where nothing is under k
-pub under_none : (k : Watch) (old : Entries) (n : ℕ) → numbers_under k old ≡ []
-    → (q : Watch) → numbers_under q old ≡ cond (is_at (watch_cmp k) q) (without_number n (numbers_under q old)) (numbers_under q old)
-under_none k old n was q = none_head k q old n (is_at (watch_cmp k) q) refl was
+listed_any : (ns : List ℕ) → listed (if_any ns) ≡ ns
+listed_any [] = refl
+listed_any (n ∷ ns) = refl
+
+any_more : (ns : List ℕ) (n : ℕ) → if_any (ns ++ n ∷ []) ≡ Some (ns ++ n ∷ [])
+any_more [] n = refl
+any_more (m ∷ ns) n = refl
 
 filled : (ns : List ℕ) → not (nat_eq (length ns) 0) ≡ is_some (slice_get ns 0)
 filled [] = refl
@@ -174,10 +157,10 @@ module _ {B : Type 0} where
 
   -- ---- a registration
 
-  more_head : (w : Watch) (b : Bool) (e new : ℕ × Live B) (es : List (ℕ × Live B)) (added : List ℕ) → watchers w (es ++ new ∷ []) ≡ watchers w es ++ added
+  added_head : (w : Watch) (b : Bool) (e new : ℕ × Live B) (es : List (ℕ × Live B)) (added : List ℕ) → watchers w (es ++ new ∷ []) ≡ watchers w es ++ added
       → kept b e (filter (watches w) (es ++ new ∷ [])) ≡ kept b e (filter (watches w) es) ++ added
-  more_head w true e new es added rest = ap (λ (t : List ℕ). e.0 ∷ t) rest
-  more_head w false e new es added rest = rest
+  added_head w true e new es added rest = ap (λ (t : List ℕ). e.0 ∷ t) rest
+  added_head w false e new es added rest = rest
 
   one_kept : (b : Bool) (e : ℕ × Live B) → kept b e [] ≡ cond b (e.0 ∷ []) []
   one_kept true e = refl
@@ -185,7 +168,7 @@ module _ {B : Type 0} where
 
   pub watchers_more : (w : Watch) (es : List (ℕ × Live B)) (new : ℕ × Live B) → watchers w (es ++ new ∷ []) ≡ watchers w es ++ cond (watches w new) (new.0 ∷ []) []
   watchers_more w [] new = one_kept (watches w new) new
-  watchers_more w (e ∷ es) new = more_head w (watches w e) e new es (cond (watches w new) (new.0 ∷ []) []) (watchers_more w es new)
+  watchers_more w (e ∷ es) new = added_head w (watches w e) e new es (cond (watches w new) (new.0 ∷ []) []) (watchers_more w es new)
 
   -- ---- a removal
 
@@ -252,47 +235,82 @@ module _ {B : Type 0} where
 
   -- ---- the index beside the callbacks
 
-  undone_head : (q : Watch) (n : ℕ) (b : Bool) (es : List (ℕ × Live B)) (before added after : List ℕ) → live_at n es ≡ None
-      → before ≡ watchers q es → added ≡ before ++ cond b (n ∷ []) [] → after ≡ cond b (without_number n added) added → after ≡ watchers q es
-  undone_head q n true es before added after none was more less =
-      let all : after ≡ without_number n (watchers q es ++ n ∷ []) = less ∙ ap (without_number n) (more ∙ ap (λ (t : List ℕ). t ++ n ∷ []) was) in
+  numbers_are : (es : List (ℕ × Live B)) (index : Entries) → Indexes index es → (w : Watch) → numbers_under w index ≡ watchers w es
+  numbers_are es index indexed w = ap listed (indexed w) ∙ listed_any (watchers w es)
+
+  more_head : (k q : Watch) (n : ℕ) (l : Live B) (b : Bool) (es : List (ℕ × Live B)) (old : Entries) (after : Option (List ℕ))
+      → k ≡ watch l.registration.reason l.registration.object → is_at (watch_cmp k) q ≡ b → Indexes old es
+      → after ≡ cond b (Some (numbers_under k old ++ n ∷ [])) (list_under q old) → after ≡ if_any (watchers q (es ++ (n, l) ∷ []))
+  more_head k q n l true es old after watched is indexed more =
+      let mine : watches q (n, l) ≡ true = ap (λ (z : Watch). is_at (watch_cmp q) z) (sym watched) ∙ watch_turned q k ∙ is in
+      let all : watchers q (es ++ (n, l) ∷ []) ≡ watchers q es ++ n ∷ [] =
+      watchers_more q es (n, l) ∙ ap (λ (b : Bool). watchers q es ++ cond b (n ∷ []) []) mine in
+      let was : numbers_under k old ≡ watchers q es = ap (λ (z : Watch). numbers_under z old) (watch_exact k q is) ∙ numbers_are es old indexed q in
+      more ∙ ap (λ (ns : List ℕ). Some (ns ++ n ∷ [])) was ∙ sym (ap if_any all ∙ any_more (watchers q es) n)
+  more_head k q n l false es old after watched is indexed more =
+      let other : watches q (n, l) ≡ false = ap (λ (z : Watch). is_at (watch_cmp q) z) (sym watched) ∙ watch_turned q k ∙ is in
+      let all : watchers q (es ++ (n, l) ∷ []) ≡ watchers q es =
+      watchers_more q es (n, l) ∙ ap (λ (b : Bool). watchers q es ++ cond b (n ∷ []) []) other ∙ append-nil (watchers q es) in
+      more ∙ indexed q ∙ ap if_any (sym all)
+
+  -- A callback that is new has its number added where it watches.
+  pub indexed_more : (k : Watch) (n : ℕ) (l : Live B) (es : List (ℕ × Live B)) (old new : Entries) → k ≡ watch l.registration.reason l.registration.object
+      → Indexes old es
+      → ((q : Watch) → list_under q new ≡ cond (is_at (watch_cmp k) q) (Some (numbers_under k old ++ n ∷ [])) (list_under q old))
+      → Indexes new (es ++ (n, l) ∷ [])
+  indexed_more k n l es old new watched indexed more q =
+      more_head k q n l (is_at (watch_cmp k) q) es old (list_under q new) watched refl indexed (more q)
+
+  undone_head : (k q : Watch) (n : ℕ) (b : Bool) (es : List (ℕ × Live B)) (old added : Entries) (after : Option (List ℕ)) → live_at n es ≡ None
+      → is_at (watch_cmp k) q ≡ b → Indexes old es
+      → ((q : Watch) → list_under q added ≡ cond (is_at (watch_cmp k) q) (Some (numbers_under k old ++ n ∷ [])) (list_under q old))
+      → after ≡ cond b (if_any (without_number n (numbers_under k added))) (list_under q added) → after ≡ if_any (watchers q es)
+  undone_head k q n true es old added after none is indexed more less =
+      let here : is_at (watch_cmp k) k ≡ true = ap (λ (z : Watch). is_at (watch_cmp k) z) (watch_exact k q is) ∙ is in
+      let all : numbers_under k added ≡ watchers k es ++ n ∷ [] =
+      ap listed (more k ∙ ap (λ (b : Bool). cond b (Some (numbers_under k old ++ n ∷ [])) (list_under k old)) here)
+      ∙ ap (λ (ns : List ℕ). ns ++ n ∷ []) (numbers_are es old indexed k) in
       let last : without_number n (n ∷ []) ≡ [] = rw (eq-eqb n n refl) refl in
-      all ∙ filter-append (λ m. not (nat_eq m n)) (watchers q es) (n ∷ [])
-      ∙ ap (λ (t : List ℕ). without_number n (watchers q es) ++ t) last ∙ append-nil (without_number n (watchers q es)) ∙ watchers_absent q n es none
-  undone_head q n false es before added after none was more less = less ∙ more ∙ append-nil before ∙ was
+      let back : without_number n (numbers_under k added) ≡ watchers k es =
+      ap (without_number n) all ∙ filter-append (λ m. not (nat_eq m n)) (watchers k es) (n ∷ [])
+      ∙ ap (λ (t : List ℕ). without_number n (watchers k es) ++ t) last ∙ append-nil (without_number n (watchers k es)) ∙ watchers_absent k n es none in
+      less ∙ ap if_any (back ∙ ap (λ (z : Watch). watchers z es) (watch_exact k q is))
+  undone_head k q n false es old added after none is indexed more less =
+      less ∙ more q ∙ ap (λ (b : Bool). cond b (Some (numbers_under k old ++ n ∷ [])) (list_under q old)) is ∙ indexed q
 
   -- A number that was added and taken again leaves what was.
   pub undone : (k : Watch) (n : ℕ) (es : List (ℕ × Live B)) (old added new : Entries) → Rise 1 es n → Indexes old es
-      → ((q : Watch) → numbers_under q added ≡ numbers_under q old ++ cond (is_at (watch_cmp k) q) (n ∷ []) [])
-      → ((q : Watch) → numbers_under q new ≡ cond (is_at (watch_cmp k) q) (without_number n (numbers_under q added)) (numbers_under q added))
+      → ((q : Watch) → list_under q added ≡ cond (is_at (watch_cmp k) q) (Some (numbers_under k old ++ n ∷ [])) (list_under q old))
+      → ((q : Watch) → list_under q new ≡ cond (is_at (watch_cmp k) q) (if_any (without_number n (numbers_under k added))) (list_under q added))
       → Indexes new es
   undone k n es old added new rising indexed more less q =
-      undone_head q n (is_at (watch_cmp k) q) es (numbers_under q old) (numbers_under q added) (numbers_under q new) (live_above n 1 es n (omega arith) rising) (indexed q) (more q) (less q)
+      undone_head k q n (is_at (watch_cmp k) q) es old added (list_under q new) (live_above n 1 es n (omega arith) rising) refl indexed more (less q)
 
-  removed_head : (k q : Watch) (c : ℕ) (l : Live B) (b : Bool) (es : List (ℕ × Live B)) (next : ℕ) (before after : List ℕ) → k ≡ watch l.registration.reason l.registration.object
-      → is_at (watch_cmp k) q ≡ b → Rise 1 es next → live_at c es ≡ Some l → before ≡ watchers q es → after ≡ cond b (without_number c before) before
-      → after ≡ watchers q (without c es)
-  removed_head k q c l true es next before after watched is rising found was less =
-      less ∙ ap (without_number c) was ∙ sym (watchers_without q c 1 es next rising)
-  removed_head k q c l false es next before after watched is rising found was less =
+  removed_head : (k q : Watch) (c : ℕ) (l : Live B) (b : Bool) (es : List (ℕ × Live B)) (next : ℕ) (old : Entries) (after : Option (List ℕ))
+      → k ≡ watch l.registration.reason l.registration.object → is_at (watch_cmp k) q ≡ b → Rise 1 es next → live_at c es ≡ Some l → Indexes old es
+      → after ≡ cond b (if_any (without_number c (numbers_under k old))) (list_under q old) → after ≡ if_any (watchers q (without c es))
+  removed_head k q c l true es next old after watched is rising found indexed less =
+      let was : numbers_under k old ≡ watchers q es = ap (λ (z : Watch). numbers_under z old) (watch_exact k q is) ∙ numbers_are es old indexed q in
+      less ∙ ap if_any (ap (without_number c) was ∙ sym (watchers_without q c 1 es next rising))
+  removed_head k q c l false es next old after watched is rising found indexed less =
       let other : watches q (c, l) ≡ false = ap (λ (z : Watch). is_at (watch_cmp q) z) (sym watched) ∙ watch_turned q k ∙ is in
-      less ∙ was ∙ sym (watchers_left q c l es found other)
+      less ∙ indexed q ∙ ap if_any (sym (watchers_left q c l es found other))
 
   -- A callback that is gone has its number taken where it watched.
   pub indexed_removed : (k : Watch) (c n : ℕ) (l : Live B) (es : List (ℕ × Live B)) (next : ℕ) (old new : Entries) → n ≡ c → k ≡ watch l.registration.reason l.registration.object
       → Rise 1 es next → live_at n es ≡ Some l → Indexes old es
-      → ((q : Watch) → numbers_under q new ≡ cond (is_at (watch_cmp k) q) (without_number c (numbers_under q old)) (numbers_under q old))
+      → ((q : Watch) → list_under q new ≡ cond (is_at (watch_cmp k) q) (if_any (without_number c (numbers_under k old))) (list_under q old))
       → Indexes new (without n es)
   indexed_removed k c n l es next old new same watched rising found indexed less q =
       let here : live_at c es ≡ Some l = ap (λ (z : ℕ). live_at z es) (sym same) ∙ found in
-      removed_head k q c l (is_at (watch_cmp k) q) es next (numbers_under q old) (numbers_under q new) watched refl rising here (indexed q) (less q)
-      ∙ ap (λ (z : ℕ). watchers q (without z es)) (sym same)
+      removed_head k q c l (is_at (watch_cmp k) q) es next old (list_under q new) watched refl rising here indexed (less q)
+      ∙ ap (λ (z : ℕ). if_any (watchers q (without z es))) (sym same)
 
   -- ---- what is read of the index
 
   pub listed_all : (reason : Reason) (object : Option Object) (es : List (ℕ × Live B)) (index : Entries) → Indexes index es
       → numbers_under (watch reason object) index ≡ numbers_of reason object es
-  listed_all reason object es index indexed = indexed (watch reason object) ∙ watchers_are reason object es
+  listed_all reason object es index indexed = numbers_are es index indexed (watch reason object) ∙ watchers_are reason object es
 
   pub any_listed : (reason : Reason) (object : Option Object) (es : List (ℕ × Live B)) (index : Entries) → Indexes index es
       → not (nat_eq (length (numbers_under (watch reason object) index)) 0) ≡ any_of reason object es

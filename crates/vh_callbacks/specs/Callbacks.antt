@@ -7,6 +7,7 @@ use Rattle.std.specs.List.{list_any}
 use Rattle.std.specs.Map.{lookup, remove_entry}
 use Rattle.std.specs.Option.{option_map}
 use Rattle.std.specs.Ordering.{nat_cmp}
+use Rattle.vh_base.specs.declared.limits.TheConstants.{MOST_CALLBACKS, MOST_NUMBERS}
 use Rattle.vh_base.specs.declared.orders.Object.{Object}
 use Rattle.vh_base.specs.declared.words.Reason.{Reason}
 use Rattle.vh_callbacks.specs.declared.registration.RegisterFault.{RegisterFault}
@@ -31,9 +32,9 @@ module _ {B : Type 0} where
   abbrev pub opening : Callbacks B
   opening = record { live = []; next = 1 }
 
-  -- No callback may be registered where 65,536 are live, or where 2^63 numbers were given. (own)
+  -- No callback may be registered where as many are live as may be, or where all numbers were given. (own)
   abbrev pub is_full : Callbacks B → Bool
-  is_full s = nat_le 65536 (length s.live) || nat_lt 9223372036854775808 s.next
+  is_full s = nat_le MOST_CALLBACKS (length s.live) || nat_lt MOST_NUMBERS s.next
 
   -- One callback more, under the next number.
   abbrev pub registered : Registration → B → Callbacks B → Callbacks B
@@ -100,6 +101,6 @@ module _ {B : Type 0} where
   Rise least [] next = least ≤ next
   Rise least (e ∷ es) next = (least ≤ e.0) × Rise (e.0 + 1) es next
 
-  -- The numbers are from 1, rise and are below the next one, and 65,536 callbacks are live at most.
+  -- The numbers are from 1, rise and are below the next one, and no more callbacks are live than may be.
   abbrev pub IsSound : Callbacks B → Type 0
-  IsSound s = Rise 1 s.live s.next × (length s.live ≤ 65536)
+  IsSound s = Rise 1 s.live s.next × (length s.live ≤ MOST_CALLBACKS)

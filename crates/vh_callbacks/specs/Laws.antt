@@ -1,5 +1,5 @@
 -- The laws of the callbacks, whatever a body is. (own)
-use Rattle.std.specs.Prelude.{◌≡◌, ◌≤◌, ℕ, false, Option, Some, None, is_some, nat_eq, slice_get}
+use Rattle.std.specs.Prelude.{◌≡◌, ◌≤◌, ℕ, false, ◌==◌, Option, Some, None, is_some, slice_get}
 use Rattle.std.specs.List.{list_any}
 use Rattle.vh_base.specs.declared.orders.Object.{Object}
 use Rattle.vh_base.specs.declared.words.Reason.{Reason}
@@ -7,7 +7,7 @@ use Rattle.vh_callbacks.specs.declared.registration.Registration.{Registration}
 use Rattle.vh_callbacks.specs.Registration.{is_some_for}
 use Rattle.vh_callbacks.specs.Callbacks.{Callbacks, opening, is_full, registered, removed, info_of, body_of, is_live, matching, matches, IsSound}
 
--- Numbers rise and are below the next one, and 65,536 are live at most: so at the opening, after a
+-- Numbers rise and are below the next one, and no more are live than may be: so at the opening, after a
 -- registration into a registry that isn't full, and after a removal.
 abbrev pub OpensSound : Type 0 → Type 0
 OpensSound B = IsSound {B = B} opening
@@ -29,7 +29,7 @@ TellsRegistered B = (s : Callbacks B) (r : Registration) (b : B) → IsSound s
 
 -- and each other number has what it had.
 abbrev pub KeepsOthersRegistered : Type 0 → Type 0
-KeepsOthersRegistered B = (s : Callbacks B) (r : Registration) (b : B) (c : ℕ) → nat_eq c s.next ≡ false
+KeepsOthersRegistered B = (s : Callbacks B) (r : Registration) (b : B) (c : ℕ) → (c == s.next) ≡ false
     → (info_of c (registered r b s) ≡ info_of c s) × (body_of c (registered r b s) ≡ body_of c s)
 
 -- After a removal the number has nothing,
@@ -38,13 +38,13 @@ TellsNoneRemoved B = (s : Callbacks B) (c : ℕ) → IsSound s → (info_of c (r
 
 -- and each other number has what it had.
 abbrev pub KeepsOthersRemoved : Type 0 → Type 0
-KeepsOthersRemoved B = (s : Callbacks B) (c d : ℕ) → nat_eq c d ≡ false
+KeepsOthersRemoved B = (s : Callbacks B) (c d : ℕ) → (c == d) ≡ false
     → (info_of d (removed c s) ≡ info_of d s) × (body_of d (removed c s) ≡ body_of d s)
 
 -- A number is among the matching ones exactly where it is live with this reason and this object.
 abbrev pub MatchingIsSet : Type 0 → Type 0
 MatchingIsSet B = (s : Callbacks B) (reason : Reason) (object : Option Object) (c : ℕ) → IsSound s
-    → list_any (nat_eq c) (matching reason object s) ≡ is_some_for reason object (info_of c s)
+    → list_any (λ n. c == n) (matching reason object s) ≡ is_some_for reason object (info_of c s)
 
 -- Some callback matches exactly where there is a matching one.
 abbrev pub MatchesIsSome : Type 0 → Type 0

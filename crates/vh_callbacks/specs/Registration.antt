@@ -1,5 +1,5 @@
 -- For which reason and which object a callback was registered. (IEEE 1364-2005, 27.33)
-use Rattle.std.specs.Prelude.{ℕ, Bool, true, false, ◌&&◌, nat_eq, Option, Some, None}
+use Rattle.std.specs.Prelude.{ℕ, Bool, true, false, ◌&&◌, ◌==◌, Option, Some, None}
 use Rattle.vh_base.specs.declared.orders.Object.{Object}
 use Rattle.vh_base.specs.declared.words.Reason.{Reason}
 use Rattle.vh_base.specs.declared.words.Reason.TheVariants as reason
@@ -21,21 +21,21 @@ rank reason.CbEndOfSimulation = 10
 
 -- Are two reasons one?
 abbrev pub same_reason : Reason → Reason → Bool
-same_reason a b = nat_eq (rank a) (rank b)
+same_reason a b = rank a == rank b
 
 -- Are two addresses of words, which may be missing, one?
 abbrev pub same_word : Option ℕ → Option ℕ → Bool
 same_word None None = true
 same_word None (Some y) = false
 same_word (Some x) None = false
-same_word (Some x) (Some y) = nat_eq x y
+same_word (Some x) (Some y) = x == y
 
 -- Are two objects, which may be missing, one?
 abbrev pub same_object : Option Object → Option Object → Bool
 same_object None None = true
 same_object None (Some y) = false
 same_object (Some x) None = false
-same_object (Some x) (Some y) = nat_eq x.id y.id && same_word x.word y.word
+same_object (Some x) (Some y) = x.id == y.id && same_word x.word y.word
 
 -- Is a registration for this reason and this object?
 abbrev pub is_for : Reason → Option Object → Registration → Bool

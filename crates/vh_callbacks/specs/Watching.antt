@@ -1,8 +1,8 @@
 -- The live callbacks by what they watch: the index that the registry keeps beside them. (own)
-use Rattle.std.specs.Prelude.{◌≡◌, ℕ, List, [], map, filter, Bool, not, nat_eq, Option, Some, None, Vec}
+use Rattle.std.specs.Prelude.{◌≡◌, ◌==◌, ℕ, List, [], ◌∷◌, map, filter, Bool, true, false, not, Option, Some, None, Vec}
 use Rattle.std.specs.BTreeMap.{is_at}
 use Rattle.std.specs.Map.{lookup}
-use Rattle.std.specs.Option.{option_cmp}
+use Rattle.std.specs.Option.{option_cmp, option_map}
 use Rattle.std.specs.Ordering.{nat_cmp, ordering_then}
 use Rattle.std.specs.declared.cmp.Ordering.{Ordering}
 use Rattle.std.specs.declared.alloc.Global.{Global}
@@ -21,18 +21,33 @@ watch reason (Some x) = record { reason = rank reason; object = Some x.id; word 
 abbrev pub watch_cmp : Watch → Watch → Ordering
 watch_cmp a b = ordering_then (nat_cmp a.reason b.reason) (ordering_then (option_cmp nat_cmp a.object b.object) (option_cmp nat_cmp a.word b.word))
 
+-- The list that an index has under what is watched, if it has one.
+abbrev pub list_under : Watch → List (Watch × Vec ℕ Global) → Option (List ℕ)
+list_under w index = option_map (λ v. v.items) (lookup (is_at (watch_cmp w)) index)
+
 -- The numbers of a list that may be missing.
-abbrev pub listed : Option (Vec ℕ Global) → List ℕ
+abbrev pub listed : Option (List ℕ) → List ℕ
 listed None = []
-listed (Some v) = v.items
+listed (Some ns) = ns
 
 -- The numbers that an index has under what is watched.
 abbrev pub numbers_under : Watch → List (Watch × Vec ℕ Global) → List ℕ
-numbers_under w index = listed (lookup (is_at (watch_cmp w)) index)
+numbers_under w index = listed (list_under w index)
+
+-- A list, if it has a number.
+abbrev pub if_any : List ℕ → Option (List ℕ)
+if_any [] = None
+if_any (n ∷ ns) = Some (n ∷ ns)
+
+-- Is there a list without a number?
+abbrev pub is_empty_list : Option (List ℕ) → Bool
+is_empty_list None = false
+is_empty_list (Some []) = true
+is_empty_list (Some (n ∷ ns)) = false
 
 -- All numbers but this one.
 abbrev pub without_number : ℕ → List ℕ → List ℕ
-without_number n ns = filter (λ m. not (nat_eq m n)) ns
+without_number n ns = filter (λ m. not (m == n)) ns
 
 module _ {B : Type 0} where
   -- Does an entry watch this?
@@ -43,6 +58,7 @@ module _ {B : Type 0} where
   abbrev pub watchers : Watch → List (ℕ × Live B) → List ℕ
   watchers w es = map (λ e. e.0) (filter (watches w) es)
 
-  -- The index has exactly these, whatever is watched.
+  -- Whatever is watched, the index has the list of exactly these under it where there are some, and
+  -- none where there are none.
   abbrev pub Indexes : List (Watch × Vec ℕ Global) → List (ℕ × Live B) → Type 0
-  Indexes index es = (w : Watch) → numbers_under w index ≡ watchers w es
+  Indexes index es = (w : Watch) → list_under w index ≡ if_any (watchers w es)

@@ -1,7 +1,7 @@
-ghost use Rattle.std.specs.Prelude.{◌≡◌, ◌++◌, ◌∷◌, [], if◌then◌else◌, true, not, nat_eq, length, is_some, OnOk, OnErr};
-ghost use Rattle.std.specs.Bool.{OnTrue};
+ghost use Rattle.std.specs.Prelude.{◌≡◌, ◌++◌, ◌∷◌, ◌==◌, [], if◌then◌else◌, true, not, length, is_some, Some, OnOk, OnErr};
+ghost use Rattle.std.specs.Option.{option_map};
 ghost use Rattle.std.specs.BTreeMap.{is_at, get};
-ghost use Rattle.vh_callbacks.specs.Watching.{watch, watch_cmp, numbers_under, without_number};
+ghost use Rattle.vh_callbacks.specs.Watching.{watch, watch_cmp, list_under, numbers_under, without_number, if_any, is_empty_list};
 
 use std::alloc::Global;
 use std::collections::BTreeMap;
@@ -16,7 +16,7 @@ pub(crate) struct Watch {
     pub(crate) word: Option<u32>,
 }
 
-/// The live callbacks by what they watch, each list by rising number.
+/// The live callbacks by what they watch, each list by rising number and none without a number.
 pub(crate) type Index = BTreeMap<Watch, Vec<CbNumber>, Global>;
 
 /// What a callback with this reason and this object watches.
@@ -45,8 +45,9 @@ pub(crate) fn add(
     w: Watch,
     number: CbNumber,
 ) -> Result<(), NoMemory>
-    ensures ok { OnOk result ((q : Watch) → numbers_under q index.new.entries ≡ numbers_under q index.old.entries ++ (if is_at (watch_cmp w) q then number ∷ [] else [])) }
-    ensures kept { OnErr result ((q : Watch) → numbers_under q index.new.entries ≡ numbers_under q index.old.entries) }
+    ensures ok { OnOk result ((q : Watch) → list_under q index.new.entries
+        ≡ (if is_at (watch_cmp w) q then Some (numbers_under w index.old.entries ++ number ∷ []) else list_under q index.old.entries)) }
+    ensures kept { OnErr result ((q : Watch) → list_under q index.new.entries ≡ list_under q index.old.entries) }
 {
     if index.contains_key(&w) {
         return push_at(index, w, number);
@@ -60,8 +61,9 @@ pub(crate) fn add(
 // Puts a number at the end of those that watch this, of which there are some.
 fn push_at(index: &mut Index, w: Watch, number: CbNumber) -> Result<(), NoMemory>
     requires { is_some (get watch_cmp index.old w) ≡ true }
-    ensures ok { OnOk result ((q : Watch) → numbers_under q index.new.entries ≡ numbers_under q index.old.entries ++ (if is_at (watch_cmp w) q then number ∷ [] else [])) }
-    ensures kept { OnErr result ((q : Watch) → numbers_under q index.new.entries ≡ numbers_under q index.old.entries) }
+    ensures ok { OnOk result ((q : Watch) → list_under q index.new.entries
+        ≡ (if is_at (watch_cmp w) q then Some (numbers_under w index.old.entries ++ number ∷ []) else list_under q index.old.entries)) }
+    ensures kept { OnErr result ((q : Watch) → list_under q index.new.entries ≡ list_under q index.old.entries) }
 {
     let Some(numbers) = index.get_mut(&w) else {
         unreachable!();
@@ -70,9 +72,10 @@ fn push_at(index: &mut Index, w: Watch, number: CbNumber) -> Result<(), NoMemory
     Ok(())
 }
 
-/// Takes a number out of those that watch this. It walks these.
+/// Takes a number out of those that watch this, and their list where none are left. It walks these.
 pub(crate) fn take(index: &mut Index, w: Watch, number: CbNumber)
-    ensures { (q : Watch) → numbers_under q index.new.entries ≡ (if is_at (watch_cmp w) q then without_number number (numbers_under q index.old.entries) else numbers_under q index.old.entries) }
+    ensures { (q : Watch) → list_under q index.new.entries
+        ≡ (if is_at (watch_cmp w) q then if_any (without_number number (numbers_under w index.old.entries)) else list_under q index.old.entries) }
 {
     if !drop_at(index, w, number) {
         return;
@@ -80,10 +83,11 @@ pub(crate) fn take(index: &mut Index, w: Watch, number: CbNumber)
     index.remove(&w);
 }
 
-// Takes a number out of those that watch this. Are none left?
+// Takes a number out of those that watch this. Are there some of whom none are left?
 fn drop_at(index: &mut Index, w: Watch, number: CbNumber) -> bool
-    ensures taken { (q : Watch) → numbers_under q index.new.entries ≡ (if is_at (watch_cmp w) q then without_number number (numbers_under q index.old.entries) else numbers_under q index.old.entries) }
-    ensures empty { OnTrue result (numbers_under w index.new.entries ≡ []) }
+    ensures taken { (q : Watch) → list_under q index.new.entries
+        ≡ (if is_at (watch_cmp w) q then option_map (without_number number) (list_under w index.old.entries) else list_under q index.old.entries) }
+    ensures empty { result ≡ is_empty_list (option_map (without_number number) (list_under w index.old.entries)) }
 {
     let Some(numbers) = index.get_mut(&w) else {
         return false;
@@ -111,7 +115,7 @@ pub(crate) fn numbers_for<'a>(index: &'a Index, w: Watch) -> &'a [CbNumber]
 
 /// Is there one that watches this?
 pub(crate) fn is_watched(index: &Index, w: Watch) -> bool
-    ensures { result ≡ not (nat_eq (length (numbers_under w index.now.entries)) 0) }
+    ensures { result ≡ not (length (numbers_under w index.now.entries) == 0) }
 {
     !numbers_for(index, w).is_empty()
 }

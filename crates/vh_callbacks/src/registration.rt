@@ -1,3 +1,4 @@
+use thiserror::Error;
 use vh_base::{HandleNo, Object, Reason, Serial};
 
 /// What a callback was registered with (IEEE 1364-2005, 27.33).
@@ -18,11 +19,11 @@ pub struct Registration {
 }
 
 /// Why a callback wasn't registered. Both hand the body back, and the registry is as before.
-#[derive(Drop)]
+#[derive(Debug, Drop, Error)]
 pub enum RegisterFault<B> {
-    /// 65,536 callbacks are live, or the numbers are used up.
+    #[error("65,536 callbacks are live, or the numbers are used up")]
     Full(B),
-    /// Memory was refused.
+    #[error("out of memory")]
     NoMemory(B),
 }
 

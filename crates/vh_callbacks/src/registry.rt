@@ -1,5 +1,5 @@
 ghost use Rattle.std.specs.Prelude.{◌≡◌, ◌≤◌, ◌+◌, ◌++◌, ◌∷◌, [], length, false, IfOk, IfErr, OnOk, OnErr};
-ghost use Rattle.std.specs.Option.{option_copied};
+ghost use Rattle.std.specs.Option.{option_copied, option_map};
 ghost use Rattle.vh_callbacks.specs.Watching.{Indexes};
 ghost use Rattle.vh_callbacks.specs.Callbacks.{opening, is_full, registered, removed, info_of, body_of, matching, matches, HandsBack, gone_of, Rise, IsRising, IsSound};
 
@@ -8,7 +8,7 @@ use crate::registration::{RegisterFault, Registration, Removed};
 use std::alloc::Global;
 use std::collections::BTreeMap;
 use std::marker::Model;
-use vh_base::{CbNumber, NoMemory, Object, Reason};
+use vh_base::{CbNumber, MOST_CALLBACKS, MOST_NUMBERS, NoMemory, Object, Reason};
 
 /// A callback that is live.
 #[derive(Drop)]
@@ -93,7 +93,7 @@ impl<B: Drop> Registry<B> {
     pub fn info(&self, c: CbNumber) -> Option<Registration>
         ensures { result ≡ info_of c self.now }
     {
-        let live = self.callbacks.get(&c.number())?;
+        let live = self.callback(c)?;
         Some(live.registration)
     }
 
@@ -101,8 +101,17 @@ impl<B: Drop> Registry<B> {
     pub fn body(&self, c: CbNumber) -> Option<&B>
         ensures { option_copied result ≡ body_of c self.now }
     {
-        let live = self.callbacks.get(&c.number())?;
+        let live = self.callback(c)?;
         Some(&live.body)
+    }
+
+    /// The callback of this number, with what it was registered with and what it calls; none
+    /// where it isn't live.
+    pub fn callback(&self, c: CbNumber) -> Option<&Live<B>>
+        ensures info { option_map (λ live. live.now.registration) result ≡ info_of c self.now }
+        ensures body { option_map (λ live. live.now.body) result ≡ body_of c self.now }
+    {
+        self.callbacks.get(&c.number())
     }
 
     /// The number that the next registration gets.
@@ -113,7 +122,7 @@ impl<B: Drop> Registry<B> {
         CbNumber::new(self.next)
     }
 
-    /// How many callbacks are live: 65,536 at most.
+    /// How many callbacks are live: [`MOST_CALLBACKS`] at most.
     pub fn live(&self) -> u32
         ensures { result ≡ length self.now.live }
     {
@@ -124,7 +133,7 @@ impl<B: Drop> Registry<B> {
     pub fn is_full(&self) -> bool
         ensures { result ≡ is_full self.now }
     {
-        self.callbacks.len() >= 65_536 || self.next > 9_223_372_036_854_775_808
+        self.callbacks.len() >= MOST_CALLBACKS || self.next > MOST_NUMBERS
     }
 
     /// Has a live callback this reason and this object? Callbacks of others are not walked.
@@ -144,7 +153,7 @@ impl<B: Drop> Registry<B> {
     ) -> Result<Vec<CbNumber>, NoMemory>
         ensures numbers { IfOk result (λ numbers. numbers.items ≡ matching reason o self.now) }
         ensures rising { IfOk result (λ numbers. IsRising 0 numbers.items) }
-        ensures bound { IfOk result (λ numbers. length numbers.items ≤ 65536) }
+        ensures bound { IfOk result (λ numbers. length numbers.items ≤ MOST_CALLBACKS) }
     {
         let numbers = numbers_for(&self.index, watch_of(reason, &o));
         Ok(Vec::from_slice(alloc, numbers)?)

@@ -181,6 +181,11 @@ fn tells_what_was_registered(rt: HostRuntime) -> Result<(), Fail> {
     assert_eq!(rt; info.object, object(7, Some(3)));
     assert_eq!(rt; info.user_data, 2);
     assert_eq!(rt; registry.body(CbNumber::new(1)).copied(), Some(101));
+    let live = registry
+        .callback(CbNumber::new(1))
+        .expect(&rt, "it is live");
+    assert_eq!(rt; live.body, 101);
+    assert_eq!(rt; live.registration.user_data, 2);
     assert!(rt; registry.info(CbNumber::new(2)).is_none());
     assert!(rt; registry.body(CbNumber::new(2)).is_none());
     callbacks_laws::<u64>();

@@ -13,7 +13,7 @@ use Rattle.vh_host.specs.Acceptance.{File, limit_of, files_with, is_too_long, fi
 use Rattle.vh_host.specs.Words.{Reading, reading, texts, numbered}
 use Rattle.vh_host.specs.declared.file.TextFile.{TextFile}
 use Rattle.vh_host.specs.Headline.{Holds, WereAnswered, Tells, text_by}
-use Rattle.vh_host.specs.Reading.{words_of, contents_of, MeetsLong, file_seen, files_seen}
+use Rattle.vh_host.specs.Reading.{words_of, contents_of, MeetsLong, MeetsNoneLong, file_seen, files_seen}
 
 -- The words and the contents of files give the files again.
 pub files_back : (files : List File) → files_with (words_of files) (contents_of files) ≡ files
@@ -168,12 +168,44 @@ meets_long holds words i files word bytes below here answered long before =
     let P : List (List ℕ) → Type 0 = λ ws. WereAnswered holds ws (contents_of files ++ bytes ∷ more.0) in
     let files_are : files_with words (contents_of files ++ bytes ∷ more.0) ≡ files ++ record { word = word; bytes = bytes } ∷ files_with rest more.0 =
     ap (λ (ws : List (List ℕ)). files_with ws (contents_of files ++ bytes ∷ more.0)) (split ∙ ap (λ (ws : List (List ℕ)). ws ++ word ∷ rest) (sym before.named))
-    ∙ files_front files (word ∷ rest) (bytes ∷ more.0) in (
-      contents_of files ++ bytes ∷ more.0,
-      subst P (sym split) whole,
-      ap (λ (fs : List File). first_too_long 1 fs) files_are ∙ before.short (record { word = word; bytes = bytes } ∷ files_with rest more.0)
-          ∙ ap (λ (b : Bool). cond b (Some (i + 1)) (first_too_long (i + 1 + 1) (files_with rest more.0))) long,
-    )
+    ∙ files_front files (word ∷ rest) (bytes ∷ more.0) in record {
+      contents = contents_of files ++ bytes ∷ more.0;
+      answered = subst P (sym split) whole;
+      first =
+          ap (λ (fs : List File). first_too_long 1 fs) files_are ∙ before.short (record { word = word; bytes = bytes } ∷ files_with rest more.0)
+          ∙ ap (λ (b : Bool). cond b (Some (i + 1)) (first_too_long (i + 1 + 1) (files_with rest more.0))) long;
+    }
+
+-- The first that is too long has a number from that of the first on.
+long_head : (b : Bool) (n k : ℕ) (more : Option ℕ) → (more ≡ Some k → n + 1 ≤ k) → cond b (Some n) more ≡ Some k → n ≤ k
+long_head true n k more rest is = let same : n ≡ k = cc in omega arith
+long_head false n k more rest is = let above = rest is in omega arith
+
+long_from : (n k : ℕ) (files : List File) → first_too_long n files ≡ Some k → n ≤ k
+long_from n k [] is = absurd (cc)
+long_from n k (file ∷ files) is = long_head (is_too_long file) n k (first_too_long (n + 1) files) (long_from (n + 1) k files) is
+
+-- So none of the files that were read is too long, whatever the others are.
+pub meets_none_long : (holds : Holds) (words : List (List ℕ)) (i n : ℕ) (files : List File) → n ≡ i + 1
+    → ReadUpTo holds words i files → MeetsNoneLong holds words n
+meets_none_long holds words i n files at before =
+    let rest : List (List ℕ) = drop i words in
+    let more : (contents : List (List ℕ)) × WereAnswered holds rest contents = some_contents holds rest in
+    let split : words ≡ take i words ++ rest = sym (take-append-drop i words) in
+    let R : List ℕ → List ℕ → Type 0 = λ w b. IsAnswered (holds w) (limit_of w) b in
+    let whole : WereAnswered holds (take i words ++ rest) (contents_of files ++ more.0) =
+    all_zip_both R (take i words) (contents_of files) rest more.0 before.answered more.1 in
+    let P : List (List ℕ) → Type 0 = λ ws. WereAnswered holds ws (contents_of files ++ more.0) in
+    let files_are : files_with words (contents_of files ++ more.0) ≡ files ++ files_with rest more.0 =
+    ap (λ (ws : List (List ℕ)). files_with ws (contents_of files ++ more.0)) (split ∙ ap (λ (ws : List (List ℕ)). ws ++ rest) (sym before.named))
+    ∙ files_front files rest more.0 in record {
+      contents = contents_of files ++ more.0;
+      answered = subst P (sym split) whole;
+      none = λ k is.
+          let above = long_from (i + 1) k (files_with rest more.0)
+          (sym (ap (λ (fs : List File). first_too_long 1 fs) files_are ∙ before.short (files_with rest more.0)) ∙ is) in
+          omega arith;
+    }
 
 -- The files of the words so far, and those that are left.
 abbrev pub AreWith : List File → ℕ → List (List ℕ) → List (List ℕ) → Type 0

@@ -88,7 +88,8 @@ WroteFrom budget s st old new = (written : List ℕ) × (new ≡ appended old wr
 wrote_of : (s : State) (budget : ℕ) (st : Status) (moves : List Move) (written : List ℕ) (old new : Option (List ℕ))
     → Lawful fifo s → IsRun fifo s moves → length moves ≤ budget → new ≡ appended old written → WroteOf budget moves st written
     → WroteFrom budget s st old new
-wrote_of s budget st moves written old new lawful run few told is = (written, told, (moves, run, lawful moves run, few, is))
+wrote_of s budget st moves written old new lawful run few told is =
+    (written, told, record { moves = moves; run = run; laws = lawful moves run; in_budget = few; text = is })
 
 -- The labels with one more, but for that one.
 but_last_more : (moves : List Move) (m : Move) → but_last (moves ++ m ∷ []) ≡ moves
@@ -118,7 +119,7 @@ ends_with s t u n budget e old mid new f below turn =
       goes_last s t last f.moves f.goes turn.0,
       (let c = f.counted in omega (arith, length-append f.moves (last ∷ []))),
       told_more mid old new f.moves last f.told turn.1,
-      (f.moves, u, refl, refl),
+      record { before = f.moves; last = u; ends = refl; whole = refl },
     )
 
 -- A turn that is cut short leaves a front of the text with its line.
@@ -135,19 +136,19 @@ cut_short s t n budget old mid new f below turn =
       goes_last s t last f.moves f.goes turn.1,
       (let c = f.counted in omega (arith, length-append f.moves (last ∷ []))),
       cut.1 ∙ ap (λ (w : Option (List ℕ)). appended w part) f.told ∙ appended_twice old before part,
-      (
-        length before + cut.0,
-        sym (ap (λ (w : List ℕ). take (length before + cut.0) w) (text_more f.moves last) ∙ take-append-add before (line_of_move last) cut.0),
-        (
+      record {
+        part = length before + cut.0;
+        front = sym (ap (λ (w : List ℕ). take (length before + cut.0) w) (text_more f.moves last) ∙ take-append-add before (line_of_move last) cut.0);
+        but_last_line =
             let same : length (text_of (but_last (f.moves ++ last ∷ []))) ≡ length before = ap (λ (ms : List Move). length (text_of ms)) (but_last_more f.moves last) in
-            omega (arith, length-append before part)
-            ),
-      ),
+            omega (arith, length-append before part);
+      },
     )
 
 -- A turn that makes no label leaves the text so far.
 cut_before : (moves : List Move) → WroteFront moves (text_of moves)
-cut_before moves = (length (text_of moves), sym (take-length (text_of moves)), but_last_shorter moves)
+cut_before moves =
+    record { part = length (text_of moves); front = sym (take-length (text_of moves)); but_last_line = but_last_shorter moves }
 
 -- A turn that answers a status ends the run with it.
 pub so_far_ends : (s t u : State) (n budget : ℕ) (st : Status) (old mid new : Option (List ℕ))
@@ -181,7 +182,8 @@ pub so_far_spent : (s t : State) (n budget : ℕ) (old new : Option (List ℕ))
     → Lawful fifo s → SoFar s t n old new → n ≡ budget → WroteFrom budget s status.BudgetSpent old new
 so_far_spent s t n budget old new lawful f all =
     wrote_of s budget status.BudgetSpent f.moves (text_of f.moves) old new lawful (goes_run s t f.moves f.goes)
-    (let c = f.counted in omega arith) f.told (f.counted ∙ all, goes_none s t f.moves f.goes, refl)
+    (let c = f.counted in omega arith) f.told
+    (record { spent = f.counted ∙ all; no_end = goes_none s t f.moves f.goes; whole = refl })
 
 -- The source is read before the run, so that no turn answers its fault.
 pub turned_calm : (s t : State) (st : Status) (n : ℕ) (old new : Option (List ℕ))

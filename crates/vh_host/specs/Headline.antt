@@ -1,5 +1,5 @@
 -- The headline: what `run` writes is exactly the text of a run of the machine.
-use Rattle.std.specs.Prelude.{◌≡◌, ℕ, ◌++◌, List, [], map, Option, Some, ◌⊎◌}
+use Rattle.std.specs.Prelude.{◌≡◌, ◌≤◌, ℕ, ◌++◌, List, [], map, Option, Some, ◌⊎◌}
 use Rattle.std.specs.List.{AllZip}
 use Rattle.vh_base.specs.declared.first.First.{First}
 use Rattle.vh_base.specs.Outside.{IsAnswered, appended}
@@ -20,23 +20,40 @@ default_budget = 100000000
 abbrev pub Holds : Type 0
 Holds = List ℕ → Option (List ℕ)
 
--- Is a status one of the two that an outside fault or want of memory gives before the run begins?
-abbrev pub IsCutShort : Status → Type 0
-IsCutShort (status.ReadFault n) = Unit {0}
-IsCutShort status.NoMemory = Unit {0}
-IsCutShort (status.Done cause) = ⊥
-IsCutShort status.Usage = ⊥
-IsCutShort (status.TooLong n) = ⊥
-IsCutShort (status.DesignRefused f p) = ⊥
-IsCutShort (status.AppRefused n f p) = ⊥
-IsCutShort (status.RunFault f) = ⊥
-IsCutShort status.BudgetSpent = ⊥
-IsCutShort status.WriteFault = ⊥
+-- May the read of the m-th file fail before a refusal is found? That a file is too long is found when it
+-- is read, and before any later file is; what else is refused, when all were read.
+abbrev pub FailsBefore : ℕ → Status → Type 0
+FailsBefore m (status.TooLong n) = m ≤ n
+FailsBefore m (status.DesignRefused f p) = Unit {0}
+FailsBefore m (status.AppRefused n f p) = Unit {0}
+-- words without a reading name no file
+FailsBefore m status.Usage = ⊥
+-- no refusals
+FailsBefore m (status.Done cause) = ⊥
+FailsBefore m (status.ReadFault n) = ⊥
+FailsBefore m (status.RunFault f) = ⊥
+FailsBefore m status.BudgetSpent = ⊥
+FailsBefore m status.WriteFault = ⊥
+FailsBefore m status.NoMemory = ⊥
+
+-- May a status come in place of a refusal? One of the two that an outside fault or want of memory gives
+-- before the refusal is found.
+abbrev pub ComesBefore : Status → Status → Type 0
+ComesBefore refusal (status.ReadFault m) = FailsBefore m refusal
+ComesBefore refusal status.NoMemory = Unit {0}
+ComesBefore refusal (status.Done cause) = ⊥
+ComesBefore refusal status.Usage = ⊥
+ComesBefore refusal (status.TooLong n) = ⊥
+ComesBefore refusal (status.DesignRefused f p) = ⊥
+ComesBefore refusal (status.AppRefused n f p) = ⊥
+ComesBefore refusal (status.RunFault f) = ⊥
+ComesBefore refusal status.BudgetSpent = ⊥
+ComesBefore refusal status.WriteFault = ⊥
 
 -- What a call answers and writes, by the verdict: a refused input gets its refusal and nothing is
--- written, unless the source failed or memory was refused before; an accepted one gets a run.
+-- written, unless the source failed or memory was refused before that was found; an accepted one gets a run.
 abbrev pub Answers : Verdict → Status → List ℕ → Type 0
-Answers (refuses refusal) s written = ((s ≡ refusal) ⊎ IsCutShort s) × (written ≡ [])
+Answers (refuses refusal) s written = ((s ≡ refusal) ⊎ ComesBefore refusal s) × (written ≡ [])
 Answers (accepts design scripts) s written = Wrote fifo default_budget (opening design scripts) s written
 
 -- The contents are those that the source may have answered for the files, in word order.
@@ -48,14 +65,17 @@ abbrev pub Tells : Holds → List (List ℕ) → List (List ℕ) → Type 0
 Tells holds files contents = map holds files ≡ map Some contents
 
 -- What is written once the files' contents are there: nothing, or a run's text.
-abbrev pub AnswersWith : Verdict → Status → Option (List ℕ) → Option (List ℕ) → Type 0
-AnswersWith v s old new = (written : List ℕ) × (new ≡ appended old written) × Answers v s written
+pub record AnswersWith (v : Verdict) (s : Status) (old new : Option (List ℕ)) : Type 0 where
+  pub written : List ℕ
+  pub appends : new ≡ appended old written
+  pub answers : Answers v s written
 
 -- The whole account of a call: on the contents that the source answered, whatever it tells, the status
 -- and the written bytes are those of the verdict.
-abbrev pub Accounts : List (List ℕ) → Holds → Status → Option (List ℕ) → Option (List ℕ) → Type 0
-Accounts words holds s old new =
-    (contents : List (List ℕ)) × WereAnswered holds (file_words words) contents × AnswersWith (verdict words contents) s old new
+pub record Accounts (words : List (List ℕ)) (holds : Holds) (s : Status) (old new : Option (List ℕ)) : Type 0 where
+  pub contents : List (List ℕ)
+  pub answered : WereAnswered holds (file_words words) contents
+  pub answers : AnswersWith (verdict words contents) s old new
 
 -- The headline. For accepted words, texts and scripts, where the source tells the files' contents and the
 -- sink tells its own, the bytes written are exactly the text of a run of the machine from the opening
@@ -68,12 +88,12 @@ Transcribes words holds s old new =
     (written : List ℕ) × (new ≡ Some (before ++ written)) × Wrote fifo default_budget (opening design scripts) s written
 
 -- A refused input gets its refusal, and nothing is written, unless the source failed or memory was
--- refused before; where the source tells the files' contents.
+-- refused before that was found; where the source tells the files' contents.
 abbrev pub Refuses : List (List ℕ) → Holds → Status → Option (List ℕ) → Option (List ℕ) → Type 0
 Refuses words holds s old new =
     (contents : List (List ℕ)) (refusal : Status) →
     Tells holds (file_words words) contents → verdict words contents ≡ refuses refusal →
-    ((s ≡ refusal) ⊎ IsCutShort s) × (new ≡ old)
+    ((s ≡ refusal) ⊎ ComesBefore refusal s) × (new ≡ old)
 
 -- A status comes exactly where a fact holds, unless memory was refused.
 abbrev pub Exactly : Status → Status → Type 0 → Type 0

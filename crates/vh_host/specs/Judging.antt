@@ -15,10 +15,10 @@ status_of (refusal.Script n fault at) = status.AppRefused n fault at
 status_of refusal.NoMemory = status.NoMemory
 
 -- A refusal says that it is the verdict; want of memory says nothing of it.
-abbrev pub Refuses : Refusal → Verdict → Type 0
-Refuses (refusal.Design fault at) v = v ≡ refuses (status.DesignRefused fault at)
-Refuses (refusal.Script n fault at) v = v ≡ refuses (status.AppRefused n fault at)
-Refuses refusal.NoMemory v = Unit {0}
+abbrev pub RefusesTexts : Refusal → Verdict → Type 0
+RefusesTexts (refusal.Design fault at) v = v ≡ refuses (status.DesignRefused fault at)
+RefusesTexts (refusal.Script n fault at) v = v ≡ refuses (status.AppRefused n fault at)
+RefusesTexts refusal.NoMemory v = Unit {0}
 
 -- The same of scripts, where no Verilog text is refused.
 abbrev pub RefusesScript : Refusal → Result (List ScriptData) Status → Type 0

@@ -1,5 +1,5 @@
 -- The files that are read. (own)
-use Rattle.std.specs.Prelude.{◌≡◌, ℕ, List, map, Some}
+use Rattle.std.specs.Prelude.{◌≡◌, ◌≤◌, ℕ, List, map, Some}
 use Rattle.vh_host.specs.declared.file.TextFile.{TextFile}
 use Rattle.vh_host.specs.Acceptance.{File, first_too_long, files_with}
 use Rattle.vh_host.specs.Headline.{Holds, WereAnswered}
@@ -23,6 +23,13 @@ abbrev pub AreRead : Holds → List (List ℕ) → List File → Type 0
 AreRead holds words files = (words_of files ≡ words) × WereAnswered holds words (contents_of files)
 
 -- The source may have answered contents of which the file of this number is the first that is too long.
-abbrev pub MeetsLong : Holds → List (List ℕ) → ℕ → Type 0
-MeetsLong holds words n =
-    (contents : List (List ℕ)) × WereAnswered holds words contents × (first_too_long 1 (files_with words contents) ≡ Some n)
+pub record MeetsLong (holds : Holds) (words : List (List ℕ)) (n : ℕ) : Type 0 where
+  pub contents : List (List ℕ)
+  pub answered : WereAnswered holds words contents
+  pub first : first_too_long 1 (files_with words contents) ≡ Some n
+
+-- The source may have answered contents of which no file before that of this number is too long.
+pub record MeetsNoneLong (holds : Holds) (words : List (List ℕ)) (n : ℕ) : Type 0 where
+  pub contents : List (List ℕ)
+  pub answered : WereAnswered holds words contents
+  pub none : (k : ℕ) → first_too_long 1 (files_with words contents) ≡ Some k → n ≤ k

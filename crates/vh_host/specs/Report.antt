@@ -1,50 +1,10 @@
 -- What is told of a status: a line, and the exit number. (own)
 use Rattle.std.specs.Prelude.{ℕ, ◌++◌, List, [], unwrap_or, codes}
 use Rattle.std.specs.Fmt.{decimal}
-use Rattle.vh_base.specs.declared.faults.DesignFault.{DesignFault}
-use Rattle.vh_base.specs.declared.faults.DesignFault.TheVariants as design
-use Rattle.vh_base.specs.declared.faults.AppFault.{AppFault}
-use Rattle.vh_base.specs.declared.faults.AppFault.TheVariants as app
-use Rattle.vh_base.specs.declared.faults.Fault.{Fault}
-use Rattle.vh_base.specs.declared.faults.Fault.TheVariants as fault
+use Rattle.vh_base.specs.Faults.{design_fault_name, app_fault_name, fault_name}
 use Rattle.vh_host.specs.declared.status.Status.{Status}
 use Rattle.vh_host.specs.declared.status.Status.TheVariants as status
 use Rattle.vh_host.specs.Words.{file_word}
-
-abbrev pub design_fault_name : DesignFault → List ℕ
-design_fault_name design.L1 = codes "L1"
-design_fault_name design.L2 = codes "L2"
-design_fault_name design.L3 = codes "L3"
-design_fault_name design.L4 = codes "L4"
-design_fault_name design.L5 = codes "L5"
-design_fault_name design.L6 = codes "L6"
-design_fault_name design.S1 = codes "S1"
-design_fault_name design.S2 = codes "S2"
-design_fault_name design.S3 = codes "S3"
-design_fault_name design.N1 = codes "N1"
-design_fault_name design.N2 = codes "N2"
-design_fault_name design.N3 = codes "N3"
-design_fault_name design.N4 = codes "N4"
-design_fault_name design.N5 = codes "N5"
-design_fault_name design.N6 = codes "N6"
-design_fault_name design.N7 = codes "N7"
-design_fault_name design.N8 = codes "N8"
-design_fault_name design.N9 = codes "N9"
-design_fault_name design.N10 = codes "N10"
-design_fault_name design.N11 = codes "N11"
-
-abbrev pub app_fault_name : AppFault → List ℕ
-app_fault_name app.A1 = codes "A1"
-app_fault_name app.A2 = codes "A2"
-app_fault_name app.A3 = codes "A3"
-app_fault_name app.A4 = codes "A4"
-app_fault_name app.A5 = codes "A5"
-
-abbrev pub fault_name : Fault → List ℕ
-fault_name fault.F1 = codes "F1"
-fault_name fault.F2 = codes "F2"
-fault_name fault.F3 = codes "F3"
-fault_name fault.F4 = codes "F4"
 
 -- The word of a file by its number, or nothing where the words don't have it.
 abbrev pub name_of_file : List (List ℕ) → ℕ → List ℕ

@@ -22,18 +22,23 @@ but_last (m ∷ []) = []
 but_last (m ∷ n ∷ moves) = m ∷ but_last (n ∷ moves)
 
 -- The last label is that end, and the whole text of the labels was written.
-abbrev pub WroteEnded : List Move → Ending → List ℕ → Type 0
-WroteEnded moves e written =
-    (before : List Move) × (t : State) × (moves ≡ before ++ (label.End e, t) ∷ []) × (written ≡ text_of moves)
+pub record WroteEnded (moves : List Move) (e : Ending) (written : List ℕ) : Type 0 where
+  pub before : List Move
+  pub last : State
+  pub ends : moves ≡ before ++ (label.End e, last) ∷ []
+  pub whole : written ≡ text_of moves
 
 -- There are as many labels as the budget, no end among them, and their whole text was written.
-abbrev pub WroteBudget : ℕ → List Move → List ℕ → Type 0
-WroteBudget budget moves written = (length moves ≡ budget) × (none_ends moves ≡ true) × (written ≡ text_of moves)
+pub record WroteBudget (budget : ℕ) (moves : List Move) (written : List ℕ) : Type 0 where
+  pub spent : length moves ≡ budget
+  pub no_end : none_ends moves ≡ true
+  pub whole : written ≡ text_of moves
 
 -- A front of the text of the labels was written, with the whole text of all of them but the last.
-abbrev pub WroteFront : List Move → List ℕ → Type 0
-WroteFront moves written =
-    (part : ℕ) × (written ≡ take part (text_of moves)) × (length (text_of (but_last moves)) ≤ length written)
+pub record WroteFront (moves : List Move) (written : List ℕ) : Type 0 where
+  pub part : ℕ
+  pub front : written ≡ take part (text_of moves)
+  pub but_last_line : length (text_of (but_last moves)) ≤ length written
 
 -- What was written of the text of these labels, by the status: a row for each.
 abbrev pub WroteOf : ℕ → List Move → Status → List ℕ → Type 0
@@ -52,6 +57,9 @@ WroteOf budget moves (status.AppRefused n f p) written = ⊥
 
 -- Labels of one run from a state under an order, no more than the budget, which keep the laws; and
 -- what was written is of their text.
-abbrev pub Wrote : Chooser → ℕ → State → Status → List ℕ → Type 0
-Wrote order budget s st written =
-    (moves : List Move) × IsRun order s moves × KeepsLaws s moves × (length moves ≤ budget) × WroteOf budget moves st written
+pub record Wrote (order : Chooser) (budget : ℕ) (s : State) (st : Status) (written : List ℕ) : Type 0 where
+  pub moves : List Move
+  pub run : IsRun order s moves
+  pub laws : KeepsLaws s moves
+  pub in_budget : length moves ≤ budget
+  pub text : WroteOf budget moves st written

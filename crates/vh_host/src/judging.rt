@@ -3,24 +3,27 @@ ghost use Rattle.vh_base.specs.First.{are_declared};
 ghost use Rattle.vh_app.specs.Meaning.{script_of};
 ghost use Rattle.vh_host.specs.Acceptance.{by_texts, scripts_of, design_text, accepts};
 ghost use Rattle.vh_host.specs.Reading.{files_seen};
-ghost use Rattle.vh_host.specs.Judging.{Refuses, RefusesScript, RefusesFile, status_of};
+ghost use Rattle.vh_host.specs.Judging.{RefusesTexts, RefusesScript, RefusesFile, status_of};
 
 use crate::file::TextFile;
 use crate::status::Status;
 use crate::words::{is_design_word, is_script_word};
 use std::alloc::{AllocError, AllocFailed, Global};
+use thiserror::Error;
 use vh_app::{Script, ScriptFault, read_app};
 use vh_base::{AppFault, DesignFault, First, Place, Short};
 use vh_parse::{FirstFault, parse_first};
 
 /// Why texts can't be run.
-#[derive(Clone, Copy, Debug, PartialEq, Eq)]
+#[derive(Clone, Copy, Debug, PartialEq, Eq, Error)]
 pub enum Refusal {
     /// The Verilog text is refused.
+    #[error("design refused: {0}")]
     Design(DesignFault, Place),
     /// The script of this file, by its number from 1, is refused.
+    #[error("script of file {0} refused: {1}")]
     Script(u32, AppFault, Place),
-    /// Memory was refused.
+    #[error("out of memory")]
     NoMemory,
 }
 
@@ -62,7 +65,7 @@ pub fn judge(alloc: Global, files: &[TextFile<'_>]) -> Result<(First, Vec<Script
     ensures accepted { IfOk result (λ parts. by_texts (files_seen files.now) ≡ accepts parts.0 parts.1.items) }
     ensures declared { IfOk result (λ parts. IsTrue (are_declared parts.0)) }
     ensures few { IfOk result (λ parts. length parts.1.items ≤ 8) }
-    ensures refused { IfErr result (λ refusal. Refuses refusal (by_texts (files_seen files.now))) }
+    ensures refused { IfErr result (λ refusal. RefusesTexts refusal (by_texts (files_seen files.now))) }
 {
     match parse_first(alloc, design_text(files)) {
         Ok(design) => {

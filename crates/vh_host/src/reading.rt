@@ -2,11 +2,12 @@ ghost use Rattle.std.specs.Prelude.{◌≡◌, ◌≢◌, ◌<◌, ◌≤◌, �
 ghost use Rattle.vh_base.specs.Outside.{Rose, IsAnswered};
 ghost use Rattle.vh_host.specs.Words.{texts, numbered};
 ghost use Rattle.vh_host.specs.Acceptance.{limit_of, first_too_long, is_too_long};
-ghost use Rattle.vh_host.specs.Reading.{file_seen, files_seen, AreRead, MeetsLong};
+ghost use Rattle.vh_host.specs.Reading.{file_seen, files_seen, AreRead, MeetsLong, MeetsNoneLong};
 
 use crate::file::TextFile;
 use crate::words::is_script_word;
 use std::alloc::{AllocFailed, Global};
+use thiserror::Error;
 use vh_base::{FetchFault, Files};
 
 // How many bytes a Verilog file may have.
@@ -16,13 +17,13 @@ const DESIGN_LIMIT: usize = 4_194_304;
 const SCRIPT_LIMIT: usize = 1_048_576;
 
 /// Why files weren't read. A file goes by its number among the file words, from 1.
-#[derive(Clone, Copy, Debug, PartialEq, Eq)]
+#[derive(Clone, Copy, Debug, PartialEq, Eq, Error)]
 pub enum Unread {
-    /// The source failed at this file.
+    #[error("the source failed at file {0}")]
     Failed(u32),
-    /// This file has more bytes than it may have.
+    #[error("file {0} has more bytes than it may have")]
     TooLong(u32),
-    /// Memory was refused.
+    #[error("out of memory")]
     NoMemory,
 }
 
@@ -47,6 +48,7 @@ pub fn read_files<'a, F: Files>(
     ensures short { IfOk result (λ found. first_too_long 1 (files_seen found.items) ≡ None) }
     ensures long { (n : ℕ) → result ≡ Err (Unread.TooLong n) → MeetsLong (F.holds files.old) (texts words.now) n }
     ensures failed { (n : ℕ) → result ≡ Err (Unread.Failed n) → Rose (F.faults files.old) (F.faults files.new) }
+    ensures in_order { (n : ℕ) → result ≡ Err (Unread.Failed n) → MeetsNoneLong (F.holds files.old) (texts words.now) n }
     ensures blamed { (n : ℕ) → result ≡ Err (Unread.Failed n) → numbered (texts words.now) n ≡ Some (F.blamed files.new) }
     ensures calm { ((n : ℕ) → result ≢ Err (Unread.Failed n)) → F.faults files.new ≡ F.faults files.old }
 {

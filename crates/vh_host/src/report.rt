@@ -2,12 +2,12 @@ ghost use Rattle.std.specs.Prelude.{◌≡◌, ◌++◌, codes, string_bytes, If
 ghost use Rattle.std.specs.Option.{option_map};
 ghost use Rattle.std.specs.Fmt.{decimal};
 ghost use Rattle.vh_host.specs.Words.{texts, file_word, numbered};
-ghost use Rattle.vh_host.specs.Report.{line_of_status, exit_of, design_fault_name, app_fault_name, fault_name, name_of_file};
+ghost use Rattle.vh_host.specs.Report.{line_of_status, exit_of, name_of_file};
 
 use crate::status::Status;
 use crate::words::files_to_run;
 use std::alloc::{AllocError, Global};
-use vh_base::{AppFault, DesignFault, Fault, NoMemory, Place};
+use vh_base::{NoMemory, Place};
 
 /// The line that is told of a status, without a newline; it is empty for a run that came to
 /// its end. A file goes by its word among `words`, which don't hold the program's name.
@@ -34,12 +34,12 @@ fn line_of(alloc: Global, words: &[String], status: &Status) -> Result<String, A
             let name = file_name(words, *n);
             format!(in alloc; "too long: {name}")
         }
-        Status::DesignRefused(fault, place) => line_of_design(alloc, design_fault(fault), place),
+        Status::DesignRefused(fault, place) => line_of_design(alloc, fault.name(), place),
         Status::AppRefused(n, fault, place) => {
-            line_of_app(alloc, file_name(words, *n), app_fault(fault), place)
+            line_of_app(alloc, file_name(words, *n), fault.name(), place)
         }
         Status::RunFault(fault) => {
-            let name = run_fault(fault);
+            let name = fault.name();
             format!(in alloc; "run fault: {name}")
         }
         Status::BudgetSpent => String::from_str(alloc, "budget spent"),
@@ -113,55 +113,5 @@ pub fn exit_number(status: &Status) -> u8
         Status::ReadFault(_) | Status::TooLong(_) => 6,
         Status::WriteFault => 7,
         Status::NoMemory => 8,
-    }
-}
-
-fn design_fault(fault: &DesignFault) -> &'static str
-    ensures { result.now ≡ design_fault_name fault.now }
-{
-    match fault {
-        DesignFault::L1 => "L1",
-        DesignFault::L2 => "L2",
-        DesignFault::L3 => "L3",
-        DesignFault::L4 => "L4",
-        DesignFault::L5 => "L5",
-        DesignFault::L6 => "L6",
-        DesignFault::S1 => "S1",
-        DesignFault::S2 => "S2",
-        DesignFault::S3 => "S3",
-        DesignFault::N1 => "N1",
-        DesignFault::N2 => "N2",
-        DesignFault::N3 => "N3",
-        DesignFault::N4 => "N4",
-        DesignFault::N5 => "N5",
-        DesignFault::N6 => "N6",
-        DesignFault::N7 => "N7",
-        DesignFault::N8 => "N8",
-        DesignFault::N9 => "N9",
-        DesignFault::N10 => "N10",
-        DesignFault::N11 => "N11",
-    }
-}
-
-fn app_fault(fault: &AppFault) -> &'static str
-    ensures { result.now ≡ app_fault_name fault.now }
-{
-    match fault {
-        AppFault::A1 => "A1",
-        AppFault::A2 => "A2",
-        AppFault::A3 => "A3",
-        AppFault::A4 => "A4",
-        AppFault::A5 => "A5",
-    }
-}
-
-fn run_fault(fault: &Fault) -> &'static str
-    ensures { result.now ≡ fault_name fault.now }
-{
-    match fault {
-        Fault::F1 => "F1",
-        Fault::F2 => "F2",
-        Fault::F3 => "F3",
-        Fault::F4 => "F4",
     }
 }

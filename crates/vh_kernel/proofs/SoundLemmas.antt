@@ -1,5 +1,6 @@
 -- Serials rise from the opening on, and each is given once.
 use Rattle.std.proofs.Common.{◌≡◌, ℕ, zero, suc, ◌+◌, ◌-◌, ◌<◌, ◌≤◌, List, [], ◌∷◌, ◌++◌, map, filter, length, Bool, true, false, not, cond, nat_eq, nat_lt, nat_le, Option, Some, None, Result, Ok, Err, slice_get, bytes_eq, refl, sym, ap, subst, ◌∙◌, arith, inl, inr}
+use Rattle.vh_base.specs.declared.limits.TheConstants.{MOST_FRAMES, MOST_NUMBERS, MOST_TIME}
 use Rattle.vh_base.specs.declared.faults.Cause.{Cause}
 use Rattle.vh_base.specs.declared.faults.Fault.TheVariants as fault
 use Rattle.vh_base.specs.declared.first.First.{First}
@@ -10,9 +11,7 @@ use Rattle.vh_base.proofs.ChecksLemmas.{unless-holds}
 use Rattle.vh_app.specs.Script.{ScriptData}
 use Rattle.vh_callbacks.specs.Callbacks.{info_of, body_of}
 use Rattle.vh_kernel.specs.declared.control.Control.TheVariants as top
-use Rattle.vh_kernel.specs.declared.control.TheConstants.{MOST_FRAMES, MOST_OCCURRENCES}
 use Rattle.vh_kernel.specs.declared.events.Entry.{Entry}
-use Rattle.vh_kernel.specs.declared.events.TheConstants.{MOST_TIME}
 use Rattle.vh_kernel.specs.declared.events.Work.{Work}
 use Rattle.vh_kernel.specs.declared.events.Work.TheVariants as work
 use Rattle.vh_kernel.specs.declared.label.Ending.TheVariants as ending
@@ -99,7 +98,7 @@ statement-sound p (Some code.Finish) s sound = sound
 telling-sound : (o : Occurrence) (s : State) → IsSound s → AllMade LeavesSound (telling_outcome o s)
 telling-sound o s sound =
     unless-holds (AllMade LeavesSound) (nat_le MOST_FRAMES (frames s.control)) fault.F1 _ (λ _. tt)
-    (λ _. unless-holds (AllMade LeavesSound) (nat_lt MOST_OCCURRENCES s.occurrence) fault.F3 _ (λ _. tt) (λ _. sound))
+    (λ _. unless-holds (AllMade LeavesSound) (nat_lt MOST_NUMBERS s.occurrence) fault.F3 _ (λ _. tt) (λ _. sound))
 
 work-sound : (w : Work) (s : State) → IsSound s → AllMade LeavesSound (work_outcome w s)
 work-sound (work.Evaluation p) s sound = sound

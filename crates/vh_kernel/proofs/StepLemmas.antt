@@ -1,6 +1,7 @@
 -- What a step leaves: which outcomes keep the queue and the phase, and that the machine goes on after a
 -- label that is no end.
 use Rattle.std.proofs.Common.{◌≡◌, ◌<◌, ◌+◌, ◌-◌, nat_le, ℕ, List, [], ◌∷◌, length, max, Bool, true, false, cond, Option, Some, None, Result, Ok, Err, nat_lt, slice_get, slice_set, bytes_eq, refl, sym, ap, subst, ◌∙◌, arith}
+use Rattle.vh_base.specs.declared.limits.TheConstants.{MOST_FRAMES, MOST_NUMBERS, MOST_TIME}
 use Rattle.vh_base.specs.declared.faults.Fault.{Fault}
 use Rattle.vh_base.specs.declared.faults.Fault.TheVariants as fault
 use Rattle.vh_base.specs.declared.first.First.{First}
@@ -19,9 +20,7 @@ use Rattle.vh_kernel.specs.declared.activation.Activation.{Activation}
 use Rattle.vh_kernel.specs.declared.activation.Body.{Body}
 use Rattle.vh_kernel.specs.declared.control.Control.{Control}
 use Rattle.vh_kernel.specs.declared.control.Control.TheVariants as top
-use Rattle.vh_kernel.specs.declared.control.TheConstants.{MOST_FRAMES, MOST_OCCURRENCES}
 use Rattle.vh_kernel.specs.declared.events.Entry.{Entry}
-use Rattle.vh_kernel.specs.declared.events.TheConstants.{MOST_TIME}
 use Rattle.vh_kernel.specs.declared.events.Work.{Work}
 use Rattle.vh_kernel.specs.declared.events.Work.TheVariants as work
 use Rattle.vh_kernel.specs.declared.label.Label.{Label}
@@ -140,7 +139,7 @@ statement-phase p (Some code.Finish) s = refl
 telling-phase : (o : Occurrence) (s : State) → AllMade (HasPhase s.phase) (telling_outcome o s)
 telling-phase o s =
     unless-holds (AllMade (HasPhase s.phase)) (nat_le MOST_FRAMES (frames s.control)) fault.F1 _ (λ _. tt)
-    (λ _. unless-holds (AllMade (HasPhase s.phase)) (nat_lt MOST_OCCURRENCES s.occurrence) fault.F3 _ (λ _. tt) (λ _. refl))
+    (λ _. unless-holds (AllMade (HasPhase s.phase)) (nat_lt MOST_NUMBERS s.occurrence) fault.F3 _ (λ _. tt) (λ _. refl))
 
 work-phase : (w : Work) (s : State) → AllMade (HasPhase s.phase) (work_outcome w s)
 work-phase (work.Evaluation p) s = refl

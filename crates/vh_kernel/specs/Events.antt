@@ -2,7 +2,7 @@
 -- serial, with the next serial and the present time. (IEEE 1364-2005, 11.3 and 11.4)
 use Rattle.std.specs.Prelude.{ℕ, zero, suc, ◌+◌, ◌++◌, List, [], ◌∷◌, length, map, filter, min, Bool, true, false, if◌then◌else◌, not, ◌&&◌, ◌||◌, ◌==◌, nat_le, nat_lt, Option, Some, None}
 use Rattle.std.specs.List.{list_any}
-use Rattle.vh_kernel.specs.declared.events.TheConstants.{MOST_ENTRIES, MOST_SERIALS}
+use Rattle.vh_base.specs.declared.limits.TheConstants.{MOST_ENTRIES, MOST_NUMBERS}
 use Rattle.vh_kernel.specs.declared.label.Region.{Region}
 use Rattle.vh_kernel.specs.declared.label.Region.TheVariants as region
 use Rattle.vh_kernel.specs.declared.events.Entry.{Entry}
@@ -48,7 +48,7 @@ without_serial serial entries = filter (λ e. not (e.serial == serial)) entries
 
 -- No entry may be added where 1,048,576 stand, or where 2^63 serials were given. (own)
 abbrev pub is_full : Events → Bool
-is_full q = nat_le MOST_ENTRIES (length q.entries) || nat_lt MOST_SERIALS q.next
+is_full q = nat_le MOST_ENTRIES (length q.entries) || nat_lt MOST_NUMBERS q.next
 
 -- One entry more, by the next serial.
 abbrev pub added : Option ℕ → Region → Work → Events → Events

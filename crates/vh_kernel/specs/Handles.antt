@@ -5,8 +5,8 @@ use Rattle.std.specs.Prelude.{ℕ, ◌+◌, List, [], ◌∷◌, length, Bool, f
 use Rattle.std.specs.BTreeMap.{is_at, insert_entry}
 use Rattle.std.specs.Map.{lookup, remove_entry}
 use Rattle.std.specs.Ordering.{nat_cmp}
+use Rattle.vh_base.specs.declared.limits.TheConstants.{MOST_HANDLES, MOST_NUMBERS}
 use Rattle.vh_kernel.specs.declared.handles.Thing.{Thing}
-use Rattle.vh_kernel.specs.declared.handles.TheConstants.{MOST_HANDLES, MOST_GIVEN}
 
 pub record Handles : Type 0 where
   pub live : List (ℕ × Thing)
@@ -23,7 +23,7 @@ thing_at h s = lookup (is_at (nat_cmp h)) s.live
 
 -- No handle may be given where 65,536 are live, or where 2^63 numbers were given. (own)
 abbrev pub is_full : Handles → Bool
-is_full s = nat_le MOST_HANDLES (length s.live) || nat_le MOST_GIVEN s.count
+is_full s = nat_le MOST_HANDLES (length s.live) || nat_le MOST_NUMBERS s.count
 
 -- The number names the thing from now on.
 abbrev pub opened : ℕ → Thing → Handles → Handles

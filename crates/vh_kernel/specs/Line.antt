@@ -2,9 +2,9 @@
 use Rattle.std.specs.Prelude.{ℕ, ◌-◌, ◌++◌, List, [], ◌∷◌, Option, Some, None, codes, slice_get, unwrap_or}
 use Rattle.std.specs.Fmt.{decimal}
 use Rattle.std.specs.Option.{option_map}
-use Rattle.vh_base.specs.declared.faults.Cause.TheVariants as cause
-use Rattle.vh_base.specs.declared.faults.Fault.TheVariants as fault
 use Rattle.vh_base.specs.declared.orders.Object.{Object}
+use Rattle.vh_base.specs.Faults.{cause_name, fault_name}
+use Rattle.vh_base.specs.Words.{reason_text}
 use Rattle.vh_kernel.specs.declared.activation.Who.{Who}
 use Rattle.vh_kernel.specs.declared.activation.Who.TheVariants as who_is
 use Rattle.vh_kernel.specs.declared.label.Ending.{Ending}
@@ -12,19 +12,14 @@ use Rattle.vh_kernel.specs.declared.label.Ending.TheVariants as ending
 use Rattle.vh_kernel.specs.declared.label.Label.{Label}
 use Rattle.vh_kernel.specs.declared.label.Label.TheVariants as label
 use Rattle.vh_kernel.specs.Names.{name_of}
-use Rattle.vh_kernel.specs.OrderText.{order_text, answer_text, reason_text}
+use Rattle.vh_kernel.specs.OrderText.{order_text, answer_text}
 use Rattle.vh_kernel.specs.Quoted.{quoted, plain_text}
 use Rattle.vh_kernel.specs.State.{State}
 
 -- The name of an end.
 abbrev pub ending_name : Ending → List ℕ
-ending_name (ending.Cause cause.Finish) = codes "finish"
-ending_name (ending.Cause cause.Stop) = codes "stop"
-ending_name (ending.Cause cause.Nothing) = codes "none"
-ending_name (ending.Fault fault.F1) = codes "F1"
-ending_name (ending.Fault fault.F2) = codes "F2"
-ending_name (ending.Fault fault.F3) = codes "F3"
-ending_name (ending.Fault fault.F4) = codes "F4"
+ending_name (ending.Cause c) = cause_name c
+ending_name (ending.Fault f) = fault_name f
 
 -- A line at the present time, with its newline.
 abbrev pub stamped : List ℕ → State → List ℕ

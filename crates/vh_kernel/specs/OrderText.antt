@@ -3,6 +3,7 @@ use Rattle.std.specs.Prelude.{ℕ, ◌++◌, List, [], ◌∷◌, Bool, true, fa
 use Rattle.std.specs.List.{list_all}
 use Rattle.std.specs.Fmt.{decimal}
 use Rattle.vh_base.specs.Classes.{is_name_start, is_digit}
+use Rattle.vh_base.specs.Words.{reason_text, code_name}
 use Rattle.vh_base.specs.declared.format.Format.{Format}
 use Rattle.vh_base.specs.declared.format.Format.TheVariants as format
 use Rattle.vh_base.specs.declared.orders.Answer.{Answer}
@@ -12,33 +13,15 @@ use Rattle.vh_base.specs.declared.orders.BodyName.TheVariants as body
 use Rattle.vh_base.specs.declared.orders.Order.{Order}
 use Rattle.vh_base.specs.declared.orders.Order.TheVariants as order
 use Rattle.vh_base.specs.declared.orders.ProcName.{ProcName}
-use Rattle.vh_base.specs.declared.words.Code.{Code}
-use Rattle.vh_base.specs.declared.words.Code.TheVariants as code
 use Rattle.vh_base.specs.declared.words.Mode.{Mode}
 use Rattle.vh_base.specs.declared.words.Mode.TheVariants as mode
 use Rattle.vh_base.specs.declared.words.Property.{Property}
 use Rattle.vh_base.specs.declared.words.Property.TheVariants as property
-use Rattle.vh_base.specs.declared.words.Reason.{Reason}
-use Rattle.vh_base.specs.declared.words.Reason.TheVariants as reason
 use Rattle.vh_base.specs.declared.words.Relation.{Relation}
 use Rattle.vh_base.specs.declared.words.Relation.TheVariants as relation
 use Rattle.vh_base.specs.declared.words.SystfKind.{SystfKind}
 use Rattle.vh_base.specs.declared.words.SystfKind.TheVariants as kind
 use Rattle.vh_kernel.specs.Quoted.{quoted}
-
--- The word of a reason (IEEE 1364-2005, 27.33 and Annex G).
-abbrev pub reason_text : Reason → List ℕ
-reason_text reason.CbValueChange = codes "cbValueChange"
-reason_text reason.CbForce = codes "cbForce"
-reason_text reason.CbRelease = codes "cbRelease"
-reason_text reason.CbAtStartOfSimTime = codes "cbAtStartOfSimTime"
-reason_text reason.CbAfterDelay = codes "cbAfterDelay"
-reason_text reason.CbNextSimTime = codes "cbNextSimTime"
-reason_text reason.CbReadWriteSynch = codes "cbReadWriteSynch"
-reason_text reason.CbReadOnlySynch = codes "cbReadOnlySynch"
-reason_text reason.CbEndOfCompile = codes "cbEndOfCompile"
-reason_text reason.CbStartOfSimulation = codes "cbStartOfSimulation"
-reason_text reason.CbEndOfSimulation = codes "cbEndOfSimulation"
 
 -- The word of a relation (IEEE 1364-2005, 26.6 and Annex G).
 abbrev pub relation_text : Relation → List ℕ
@@ -96,25 +79,6 @@ mode_text mode.VpiReleaseFlag = codes "vpiReleaseFlag"
 abbrev pub kind_text : SystfKind → List ℕ
 kind_text kind.Task = codes "task"
 kind_text kind.Func = codes "func"
-
--- The name of an error (own).
-abbrev pub code_text : Code → List ℕ
-code_text code.E1 = codes "E1"
-code_text code.E2 = codes "E2"
-code_text code.E3 = codes "E3"
-code_text code.E4 = codes "E4"
-code_text code.E5 = codes "E5"
-code_text code.E6 = codes "E6"
-code_text code.E7 = codes "E7"
-code_text code.E8 = codes "E8"
-code_text code.E9 = codes "E9"
-code_text code.E10 = codes "E10"
-code_text code.E11 = codes "E11"
-code_text code.E12 = codes "E12"
-code_text code.E13 = codes "E13"
-code_text code.E14 = codes "E14"
-code_text code.E15 = codes "E15"
-code_text code.E16 = codes "E16"
 
 -- A handle: `h` and its number, or `null`. (own)
 abbrev pub handle_text : Option ℕ → List ℕ
@@ -205,7 +169,7 @@ answer_text answer.Null = codes "null"
 answer_text (answer.Handle number) = handle_text (Some number)
 answer_text (answer.Number n) = decimal n
 answer_text (answer.Text text) = quoted text
-answer_text (answer.Refused code) = code_text code
+answer_text (answer.Refused code) = code_name code
 
 -- Callback n, as who gives an order. (own)
 abbrev pub callback_text : ℕ → List ℕ

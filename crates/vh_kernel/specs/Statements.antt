@@ -1,6 +1,7 @@
 -- What each statement comes to, a row for each. (IEEE 1364-2005, 9.2.1 assignments, 9.7.1 delays, 17.1
 -- display, 17.4.1 finish)
 use Rattle.std.specs.Prelude.{ℕ, ◌+◌, ◌++◌, List, [], ◌∷◌, drop, if◌then◌else◌, bytes_eq, nat_lt, Option, Some, None, Ok, slice_get, slice_set, unwrap_or}
+use Rattle.vh_base.specs.declared.limits.TheConstants.{MOST_TIME}
 use Rattle.vh_base.specs.declared.faults.Cause.TheVariants as cause
 use Rattle.vh_base.specs.declared.faults.Fault.TheVariants as fault
 use Rattle.vh_base.specs.declared.first.FirstBit.{FirstBit}
@@ -8,7 +9,6 @@ use Rattle.vh_base.specs.declared.first.FirstCode.{FirstCode}
 use Rattle.vh_base.specs.declared.first.FirstCode.TheVariants as code
 use Rattle.vh_base.specs.declared.words.Reason.TheVariants as reason
 use Rattle.vh_base.specs.Checks.{unless}
-use Rattle.vh_kernel.specs.declared.events.TheConstants.{MOST_TIME}
 use Rattle.vh_kernel.specs.declared.events.Work.TheVariants as work
 use Rattle.vh_kernel.specs.declared.label.Region.TheVariants as region
 use Rattle.vh_kernel.specs.declared.control.Control.TheVariants as top

@@ -1,6 +1,7 @@
 -- The machine's step: a state, a choice and what is given besides it make the label and the state after
 -- it. (IEEE 1364-2005, 11.4 and 27.33; the numbers that end a run are own.)
 use Rattle.std.specs.Prelude.{◌≡◌, ⊤, ℕ, ◌+◌, ◌-◌, List, [], ◌∷◌, length, max, min, Bool, true, false, if◌then◌else◌, nat_le, nat_lt, Option, Some, None, Result, Ok, Err, slice_get, slice_set}
+use Rattle.vh_base.specs.declared.limits.TheConstants.{MOST_ENTRIES, MOST_FRAMES, MOST_NUMBERS}
 use Rattle.vh_base.specs.declared.faults.Cause.{Cause}
 use Rattle.vh_base.specs.declared.faults.Cause.TheVariants as cause
 use Rattle.vh_base.specs.declared.faults.Fault.TheVariants as fault
@@ -19,10 +20,8 @@ use Rattle.vh_callbacks.specs.Callbacks.{info_of, body_of}
 use Rattle.vh_kernel.specs.declared.activation.Body.{Body}
 use Rattle.vh_kernel.specs.declared.activation.Who.TheVariants as who_is
 use Rattle.vh_kernel.specs.declared.events.Entry.{Entry}
-use Rattle.vh_kernel.specs.declared.events.TheConstants.{MOST_ENTRIES}
 use Rattle.vh_kernel.specs.declared.events.Work.{Work}
 use Rattle.vh_kernel.specs.declared.events.Work.TheVariants as work
-use Rattle.vh_kernel.specs.declared.control.TheConstants.{MOST_FRAMES, MOST_OCCURRENCES}
 use Rattle.vh_kernel.specs.declared.label.Ending.TheVariants as ending
 use Rattle.vh_kernel.specs.declared.label.Label.{Label}
 use Rattle.vh_kernel.specs.declared.label.Label.TheVariants as label
@@ -62,7 +61,7 @@ finish_move c s = (
 abbrev pub telling_outcome : Occurrence → State → Outcome
 telling_outcome o s =
     unless (nat_le MOST_FRAMES (frames s.control)) fault.F1
-    (unless (nat_lt MOST_OCCURRENCES s.occurrence) fault.F3
+    (unless (nat_lt MOST_NUMBERS s.occurrence) fault.F3
     (silently (with_top (top.Frame (record { number = s.occurrence; what = o; left = set_of o s.callbacks }))
         (record s { occurrence = s.occurrence + 1 }))))
 

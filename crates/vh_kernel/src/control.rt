@@ -3,17 +3,10 @@ ghost use Rattle.vh_kernel.specs.declared.control.Control.{Control};
 ghost use Rattle.vh_kernel.specs.Control.{is_frame, without_in, without_all, frames};
 
 use crate::activation::Activation;
-use crate::boxed::Boxed;
 use crate::occurrence::{Frame, Occurrence};
 use std::alloc::Global;
 use std::marker::Model;
-use vh_base::{Cause, CbNumber, NoMemory};
-
-/// So many frames may stand at most.
-pub const MOST_FRAMES: usize = 64;
-
-/// So many occurrences are told at most.
-pub const MOST_OCCURRENCES: u64 = 9_223_372_036_854_775_808;
+use vh_base::{Boxed, Cause, CbNumber, NoMemory};
 
 /// What may stand on control.
 #[derive(Drop)]

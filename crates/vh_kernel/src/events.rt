@@ -5,16 +5,7 @@ ghost use Rattle.vh_kernel.specs.Events.{Events, rank, is_due, is_ripe, any_due,
 use crate::label::Region;
 use std::alloc::Global;
 use std::marker::Model;
-use vh_base::NoMemory;
-
-/// So many entries may stand at most.
-pub const MOST_ENTRIES: usize = 1_048_576;
-
-/// So many serials are given at most.
-pub const MOST_SERIALS: u64 = 9_223_372_036_854_775_808;
-
-/// The last time, in units of the simulation's precision.
-pub const MOST_TIME: u64 = 9_223_372_036_854_775_807;
+use vh_base::{MOST_ENTRIES, MOST_NUMBERS, NoMemory};
 
 /// What an entry of the queue does when it is performed.
 #[derive(Clone, Copy)]
@@ -224,7 +215,7 @@ impl Queue {
     pub fn is_full(&self) -> bool
         ensures { result ≡ is_full self.now }
     {
-        self.entries.len() >= MOST_ENTRIES || self.next > MOST_SERIALS
+        self.entries.len() >= MOST_ENTRIES || self.next > MOST_NUMBERS
     }
 
     /// Adds an entry, by the next serial.

@@ -4,13 +4,7 @@ ghost use Rattle.vh_kernel.specs.Handles.{Numbered, no_handles, handles_of, thin
 use std::alloc::Global;
 use std::collections::BTreeMap;
 use std::marker::Model;
-use vh_base::{CbNumber, HandleNo, NoMemory, Object};
-
-/// So many handles may be live at most.
-pub const MOST_HANDLES: usize = 65_536;
-
-/// So many numbers are given at most.
-pub const MOST_GIVEN: u64 = 9_223_372_036_854_775_808;
+use vh_base::{CbNumber, HandleNo, MOST_HANDLES, MOST_NUMBERS, NoMemory, Object};
 
 /// What a handle names.
 #[derive(Clone, Copy)]
@@ -65,7 +59,7 @@ impl Handles {
     pub fn is_full(&self) -> bool
         ensures { result ≡ is_full (handles_of self.now) }
     {
-        self.live.len() >= MOST_HANDLES || self.next >= MOST_GIVEN
+        self.live.len() >= MOST_HANDLES || self.next >= MOST_NUMBERS
     }
 
     /// Gives the next number to a thing.

@@ -12,9 +12,8 @@ mod settling;
 pub(crate) use opening::joined;
 
 use crate::activation::{Activation, Body, Who};
-use crate::boxed::Boxed;
 use crate::control::{Control, Stack};
-use crate::events::{MOST_ENTRIES, Queue, Work};
+use crate::events::{Queue, Work};
 use crate::handles::Handles;
 use crate::label::{Ending, Label};
 use crate::occurrence::{Agendum, Occurrence};
@@ -24,7 +23,8 @@ use std::alloc::Global;
 use std::collections::VecDeque;
 use vh_app::{Script, Vars};
 use vh_base::{
-    Answer, Bytes, Cause, Code, Fault, First, FirstBit, NoMemory, ObjId, Reason, Seen, Serial,
+    Answer, Boxed, Bytes, Cause, Code, Fault, First, FirstBit, MOST_ENTRIES, NoMemory, ObjId,
+    Reason, Seen, Serial,
 };
 use vh_callbacks::Registry;
 

@@ -1,8 +1,9 @@
 ghost use Rattle.std.specs.Prelude.{◌≡◌};
 
 use crate::activation::Who;
-use crate::boxed::Boxed;
-use vh_base::{Answer, Bytes, Cause, CbNumber, Fault, Object, Order, ProcId, Reason, Serial};
+use vh_base::{
+    Answer, Boxed, Bytes, Cause, CbNumber, Fault, Object, Order, ProcId, Reason, Serial,
+};
 
 /// A region of the event queue (IEEE 1364-2005, 11.3).
 #[derive(Clone, Copy, Debug, PartialEq, Eq)]

@@ -8,7 +8,6 @@
 #![tactic(auto)]
 
 mod activation;
-mod boxed;
 mod control;
 mod events;
 mod halt;
@@ -25,7 +24,7 @@ mod quoted;
 mod thread;
 
 pub use activation::Who;
-pub use boxed::Boxed;
+pub use vh_base::Boxed;
 pub use kernel::Kernel;
 pub use label::{Ending, Label, Region};
 pub use laws::step_laws;

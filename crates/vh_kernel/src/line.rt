@@ -2,17 +2,18 @@ ghost use Rattle.std.specs.Prelude.{◌≡◌, ◌<◌, ◌++◌, ◌∷◌, Lis
 ghost use Rattle.std.specs.Option.{option_map};
 ghost use Rattle.std.specs.Fmt.{decimal};
 ghost use Rattle.vh_kernel.specs.Line.{ending_name, stamped, who_text, object_text, script_name, line_at, shown_text};
-ghost use Rattle.vh_kernel.specs.OrderText.{order_text, answer_text, reason_text};
+ghost use Rattle.vh_base.specs.Words.{reason_text};
+ghost use Rattle.vh_kernel.specs.OrderText.{order_text, answer_text};
 ghost use Rattle.vh_kernel.specs.Quoted.{plain_text};
 ghost use Rattle.vh_kernel.specs.Views.{state_of};
 
 use crate::activation::Who;
 use crate::kernel::Kernel;
 use crate::label::{Ending, Label};
-use crate::order_text::{push_answer, push_order, reason_name};
+use crate::order_text::{push_answer, push_order};
 use crate::quoted::{push_plain, push_quoted};
 use std::alloc::{AllocError, Global};
-use vh_base::{Answer, Bytes, Cause, Fault, NoMemory, Object, Order, Reason};
+use vh_base::{Answer, Bytes, NoMemory, Object, Order, Reason};
 
 /// The line of a label at the time that the kernel shows, with its newline; none for a
 /// label that is silent.
@@ -95,7 +96,7 @@ fn line_of_occurrence(
         ≡ stamped (codes "occ " ++ decimal n ++ 32 ∷ reason_text reason ++ 32 ∷ object_text object (state_of k.now)) (state_of k.now)) }
 {
     let time = k.time();
-    let name = reason_name(reason);
+    let name = reason.name();
     let mut line = format!(in alloc; "{time} occ {n} {name} ")?;
     push_object(&mut line, k, object)?;
     line.push('\n')?;
@@ -139,13 +140,8 @@ fn name_of(ending: &Ending) -> &'static str
     ensures { result.now ≡ ending_name ending.now }
 {
     match ending {
-        Ending::Cause(Cause::Finish) => "finish",
-        Ending::Cause(Cause::Stop) => "stop",
-        Ending::Cause(Cause::Nothing) => "none",
-        Ending::Fault(Fault::F1) => "F1",
-        Ending::Fault(Fault::F2) => "F2",
-        Ending::Fault(Fault::F3) => "F3",
-        Ending::Fault(Fault::F4) => "F4",
+        Ending::Cause(cause) => cause.name(),
+        Ending::Fault(fault) => fault.name(),
     }
 }
 

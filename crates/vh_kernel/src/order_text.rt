@@ -3,7 +3,8 @@ ghost use Rattle.std.specs.Prelude.{◌≡◌, ◌++◌, ◌∷◌, [], true, On
 ghost use Rattle.std.specs.List.{list_all};
 ghost use Rattle.std.specs.Fmt.{decimal};
 ghost use Rattle.vh_kernel.specs.Quoted.{quoted};
-ghost use Rattle.vh_kernel.specs.OrderText.{reason_text, relation_text, property_text, format_text, mode_text, kind_text, code_text, handle_text, is_name_byte as is_byte, begins_as_name as begins_so, is_name as is_name_of, name_text, proc_text, body_text, spaced, event_words, compiletf_words, control_text, order_text, answer_text};
+ghost use Rattle.vh_base.specs.Words.{reason_text};
+ghost use Rattle.vh_kernel.specs.OrderText.{relation_text, property_text, format_text, mode_text, kind_text, handle_text, is_name_byte as is_byte, begins_as_name as begins_so, is_name as is_name_of, name_text, proc_text, body_text, spaced, event_words, compiletf_words, control_text, order_text, answer_text};
 
 #[cfg(test)]
 mod tests;
@@ -11,8 +12,8 @@ mod tests;
 use crate::quoted::push_quoted;
 use std::alloc::AllocError;
 use vh_base::{
-    Answer, BodyName, Code, Format, HandleNo, Mode, Order, ProcName, Property, Reason, Relation,
-    Short, SystfKind, is_digit, is_name_start,
+    Answer, BodyName, Format, HandleNo, Mode, Order, ProcName, Property, Reason, Relation, Short,
+    SystfKind, is_digit, is_name_start,
 };
 
 /// Adds an order as a line shows it: its name and its arguments.
@@ -84,7 +85,7 @@ pub(crate) fn push_answer(line: &mut String, answer: &Answer) -> Result<(), Allo
         Answer::Handle(handle) => push_handle(line, Some(*handle)),
         Answer::Number(n) => push_number(line, *n),
         Answer::Text(text) => push_quoted(line, text.bytes()),
-        Answer::Refused(code) => line.push_str(code_name(*code)),
+        Answer::Refused(code) => line.push_str(code.name()),
     }
 }
 
@@ -232,7 +233,7 @@ fn push_register(
     ensures { OnOk result (string_bytes line.new ≡ string_bytes line.old ++ codes "register " ++ reason_text reason ++ codes " " ++ handle_text h ++ codes " " ++ decimal time ++ codes " ") }
 {
     line.push_str("register ")?;
-    line.push_str(reason_name(reason))?;
+    line.push_str(reason.name())?;
     push_with_handle(line, " ", h)?;
     line.push_str(" ")?;
     push_number(line, time)?;
@@ -394,25 +395,6 @@ fn push_set_data(line: &mut String, n: u64) -> Result<(), AllocError>
     push_number(line, n)
 }
 
-/// The word of a reason (IEEE 1364-2005, 27.33).
-pub(crate) fn reason_name(reason: Reason) -> &'static str
-    ensures { result.now ≡ reason_text reason }
-{
-    match reason {
-        Reason::CbValueChange => "cbValueChange",
-        Reason::CbForce => "cbForce",
-        Reason::CbRelease => "cbRelease",
-        Reason::CbAtStartOfSimTime => "cbAtStartOfSimTime",
-        Reason::CbAfterDelay => "cbAfterDelay",
-        Reason::CbNextSimTime => "cbNextSimTime",
-        Reason::CbReadWriteSynch => "cbReadWriteSynch",
-        Reason::CbReadOnlySynch => "cbReadOnlySynch",
-        Reason::CbEndOfCompile => "cbEndOfCompile",
-        Reason::CbStartOfSimulation => "cbStartOfSimulation",
-        Reason::CbEndOfSimulation => "cbEndOfSimulation",
-    }
-}
-
 // The word of a relation.
 fn relation_name(relation: Relation) -> &'static str
     ensures { result.now ≡ relation_text relation }
@@ -492,29 +474,5 @@ fn kind_name(kind: SystfKind) -> &'static str
     match kind {
         SystfKind::Task => "task",
         SystfKind::Func => "func",
-    }
-}
-
-// The name of an error.
-fn code_name(code: Code) -> &'static str
-    ensures { result.now ≡ code_text code }
-{
-    match code {
-        Code::E1 => "E1",
-        Code::E2 => "E2",
-        Code::E3 => "E3",
-        Code::E4 => "E4",
-        Code::E5 => "E5",
-        Code::E6 => "E6",
-        Code::E7 => "E7",
-        Code::E8 => "E8",
-        Code::E9 => "E9",
-        Code::E10 => "E10",
-        Code::E11 => "E11",
-        Code::E12 => "E12",
-        Code::E13 => "E13",
-        Code::E14 => "E14",
-        Code::E15 => "E15",
-        Code::E16 => "E16",
     }
 }

@@ -1,14 +1,16 @@
 ghost use Rattle.std.specs.Prelude.{◌≡◌};
 
 use std::alloc::AllocFailed;
+use thiserror::Error;
 use vh_base::{DesignFault, NoMemory, Place};
 
 /// Why the bytes of the files have no tokens.
-#[derive(Clone, Copy, Debug, PartialEq, Eq)]
+#[derive(Clone, Copy, Debug, PartialEq, Eq, Error)]
 pub enum LexFault {
     /// A lexical fault, `L1` to `L6`, and where it stands.
+    #[error("{0}, in file {file}, line {line}, column {column}", file = .1.file, line = .1.line, column = .1.column)]
     Refused(DesignFault, Place),
-    /// Memory was refused.
+    #[error("out of memory")]
     NoMemory,
 }
 

@@ -1,14 +1,16 @@
 ghost use Rattle.std.specs.Prelude.{◌≡◌};
 
 use std::alloc::{AllocError, AllocFailed};
+use thiserror::Error;
 use vh_grammar::Stop;
 
 /// Why a text has no design.
-#[derive(Clone, Copy, Debug, PartialEq, Eq)]
+#[derive(Clone, Copy, Debug, PartialEq, Eq, Error)]
 pub enum FirstFault {
-    /// The bytes are no text of the first subset.
+    #[error("the bytes are no text of the first subset")]
     NotBuilt,
     /// Memory was refused, or the number of a register would not fit 32 bits.
+    #[error("out of memory")]
     NoMemory,
 }
 

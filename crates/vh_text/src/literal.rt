@@ -12,15 +12,17 @@ use crate::number::{Number, read_number, unsigned_number};
 use crate::pattern::{Pattern, read_pattern, z_of_question};
 use crate::radix::Radix;
 use crate::scan::{after_white, is_sign_mark, is_x_letter, is_z_letter, number_len};
+use thiserror::Error;
 use vh_logic::{Digit, Vec4};
 
 /// Why the bytes of a literal have no value.
-#[derive(Clone, Copy, Debug, PartialEq, Eq)]
+#[derive(Clone, Copy, Debug, PartialEq, Eq, Error)]
 pub enum LiteralFault {
-    /// The bytes are no number (IEEE 1364-2005, 3.5.1).
+    /// As IEEE 1364-2005, 3.5.1 has it.
+    #[error("the bytes are no number")]
     Malformed,
-    /// The bytes are a number, but its size is above 64, or it has none and its value needs more
-    /// than 64 digits.
+    /// Its size is above 64, or it has none and its value needs more than 64 digits.
+    #[error("a number that 64 digits don't hold")]
     TooWide,
 }
 

@@ -4,15 +4,16 @@ ghost use Rattle.vh_kernel.specs.Control.{frames};
 ghost use Rattle.vh_kernel.specs.Step.{first_seen, seen_after};
 
 use crate::activation::{Activation, Who};
-use crate::boxed::Boxed;
-use crate::control::{Control, MOST_FRAMES, MOST_OCCURRENCES};
+use crate::control::Control;
 use crate::kernel::Kernel;
 use crate::kernel::orders::error_in;
 use crate::label::Label;
 use crate::numbers::Numbers;
 use crate::occurrence::{Frame, Occurrence};
 use std::alloc::Global;
-use vh_base::{Answer, CbNumber, Fault, NoMemory, Order, Seen};
+use vh_base::{
+    Answer, Boxed, CbNumber, Fault, MOST_FRAMES, MOST_NUMBERS, NoMemory, Order, Seen,
+};
 use vh_callbacks::Registration;
 
 // What a callback's activation sees at first.
@@ -58,7 +59,7 @@ impl Kernel {
             self.control.push(Control::Pending(what))?;
             return Ok(self.fail(Fault::F1));
         }
-        if self.occurrence > MOST_OCCURRENCES {
+        if self.occurrence > MOST_NUMBERS {
             self.control.push(Control::Pending(what))?;
             return Ok(self.fail(Fault::F3));
         }
@@ -74,7 +75,7 @@ impl Kernel {
         if self.control.frames() >= MOST_FRAMES {
             return Ok(self.fail(Fault::F1));
         }
-        if self.occurrence > MOST_OCCURRENCES {
+        if self.occurrence > MOST_NUMBERS {
             return Ok(self.fail(Fault::F3));
         }
         let _ = self.agenda.pop_front();
@@ -84,7 +85,7 @@ impl Kernel {
     // It gets the next number and a frame.
     fn tell(&mut self, alloc: Global, what: Occurrence) -> Result<Label, NoMemory>
         requires few { frames (state_of self.old).control < MOST_FRAMES }
-        requires few_told { (state_of self.old).occurrence ≤ MOST_OCCURRENCES }
+        requires few_told { (state_of self.old).occurrence ≤ MOST_NUMBERS }
         ensures {
             Moves (occurrence_move what (state_of self.old) (state_of self.old)) result self.new }
     {
@@ -119,17 +120,14 @@ impl Kernel {
             OnOk result (state_of self.new ≡ called (info_of c (state_of self.old).callbacks)
                 (body_of c (state_of self.old).callbacks) c what.now (state_of self.old)) }
     {
-        let Some(registration) = self.callbacks.info(c) else {
-            return Ok(());
-        };
-        let Some(body) = self.callbacks.body(c) else {
+        let Some(live) = self.callbacks.callback(c) else {
             return Ok(());
         };
         let activation = Activation {
             who: Who::Callback(c),
-            script: body.script,
-            at: body.start,
-            seen: first_seen(&registration, what, self.queue.time()),
+            script: live.body.script,
+            at: live.body.start,
+            seen: first_seen(&live.registration, what, self.queue.time()),
         };
         self.control
             .push(Control::Activation(Boxed::new(alloc, activation)?))

@@ -3,13 +3,13 @@ ghost use Rattle.vh_kernel.specs.Occurrences.{bit_text};
 ghost use Rattle.vh_kernel.specs.Statements.{value_change};
 
 use crate::control::Control;
-use crate::events::{MOST_TIME, Work};
+use crate::events::Work;
 use crate::kernel::Kernel;
 use crate::label::{Label, Region};
 use crate::occurrence::Occurrence;
 use std::alloc::Global;
 use vh_base::{
-    Bytes, Cause, Fault, FirstBit, FirstCode, NoMemory, ObjId, Object, ProcId, Sequence,
+    Bytes, Cause, Fault, FirstBit, FirstCode, MOST_TIME, NoMemory, ObjId, Object, ProcId, Sequence,
 };
 
 // A text with a newline behind it.

@@ -1,5 +1,7 @@
+use Rattle.std.proofs.Common.{ℕ, ◌++◌, ◌∷◌, [], subst}
 use Rattle.vh_callbacks.specs.Callbacks.{Rise}
-use Rattle.vh_callbacks.proofs.Watching.{undone}
+use Rattle.vh_callbacks.specs.Watching.{Indexes}
+use Rattle.vh_callbacks.proofs.Watching.{indexed_more, undone}
 use Rattle.vh_callbacks.proofs.registry.put.Goals as goal
 
 pub returns-in-Err-clause-indexed : goal.returns-in-Err-clause-indexed
@@ -8,3 +10,12 @@ returns-in-Err-clause-indexed g c =
     let rising : Rise 1 es c.new-c.result = rw c.new-c.ensures c.requires.rising in
     rw c.in-Err.ensures.kept
     (undone c.watch_of-w.result c.new-c.result es c.args.index.now.entries c.add.new.index.entries c.take.new.index.entries rising c.requires.indexed c.in-Ok.ensures.ok c.take.ensures)
+
+pub returns-in-Ok-put_last-clause-indexed : goal.returns-in-Ok-put_last-clause-indexed
+returns-in-Ok-put_last-clause-indexed g c =
+    let es = c.args.callbacks.now.entries in
+    let index = c.add.new.index.entries in
+    let P : ℕ → Type 0 = λ n. Indexes index (es ++ (n, c.args.live) ∷ []) in
+    rw c.in-Ok-put_last.ensures.ok
+    (subst P c.new-c.ensures
+    (indexed_more c.watch_of-w.result c.new-c.result c.args.live es c.args.index.now.entries index c.watch_of-w.ensures c.requires.indexed c.in-Ok.ensures.ok))

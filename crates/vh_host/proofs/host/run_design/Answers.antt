@@ -17,7 +17,9 @@ transcribe-requires-clause-lawful g c =
 pub returns-in-Ok-clause-answers : goal.returns-in-Ok-clause-answers
 returns-in-Ok-clause-answers g c =
     let P : State → Type 0 = λ s. WroteFrom default_budget s c.transcribe.result (g.K.Sink.written c.args.out.now) (g.K.Sink.written c.transcribe.new.out) in
-    subst P c.in-Ok.ensures.opens c.transcribe.ensures.wrote
+    let w : WroteFrom default_budget _ c.transcribe.result (g.K.Sink.written c.args.out.now) (g.K.Sink.written c.transcribe.new.out) =
+    subst P c.in-Ok.ensures.opens c.transcribe.ensures.wrote in
+    record { written = w.0; appends = w.1; answers = w.2 }
 
 pub returns-in-Err-clause-answers : goal.returns-in-Err-clause-answers
 returns-in-Err-clause-answers g c = no_memory (accepts c.args.design c.args.scripts.items) (g.K.Sink.written c.args.out.now)

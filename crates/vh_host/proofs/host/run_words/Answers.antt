@@ -1,7 +1,7 @@
 use Rattle.std.proofs.Common.{sym, refl}
 use Rattle.vh_host.specs.Words.{texts}
 use Rattle.vh_host.specs.Reading.{files_seen}
-use Rattle.vh_host.proofs.Verdicts.{accounts_usage, accounts_files, accounts_long, accounts_any, read_failed, no_memory}
+use Rattle.vh_host.proofs.Verdicts.{accounts_usage, accounts_files, accounts_long, accounts_failed, accounts_any, no_memory}
 use Rattle.vh_host.proofs.host.run_words.Goals as goal
 
 pub returns-in_default-clause-accounts : goal.returns-in_default-clause-accounts
@@ -22,8 +22,8 @@ returns-in-Err-TooLong-clause-accounts g c =
 
 pub returns-in-Err-Failed-clause-accounts : goal.returns-in-Err-Failed-clause-accounts
 returns-in-Err-Failed-clause-accounts g c =
-    accounts_any (texts c.args.words.now) (λ f. g.F.Files.holds c.args.files.now f) _ _ (texts c.in-Some.names.now)
-    c.in-Some.ensures.reading (λ v. read_failed v _ (g.K.Sink.written c.args.out.now))
+    accounts_failed (texts c.args.words.now) (λ f. g.F.Files.holds c.args.files.now f) (g.K.Sink.written c.args.out.now) (texts c.in-Some.names.now) _
+    c.in-Some.ensures.reading (c.in-Err-Failed.ensures.in_order _ (cc))
 
 pub returns-in-Err-Failed-clause-source_calm : goal.returns-in-Err-Failed-clause-source_calm
 returns-in-Err-Failed-clause-source_calm g c = λ other. absurd (other _ refl)

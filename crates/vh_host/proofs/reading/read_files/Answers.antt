@@ -5,7 +5,7 @@ use Rattle.vh_host.specs.declared.reading.Unread.{Unread}
 use Rattle.vh_host.specs.declared.reading.Unread.TheVariants as unread
 use Rattle.vh_host.specs.Words.{texts}
 use Rattle.vh_host.specs.Reading.{file_seen, files_seen}
-use Rattle.vh_host.proofs.Files.{read_more, read_all, meets_long, word_at, word_numbered, answered_same}
+use Rattle.vh_host.proofs.Files.{read_more, read_all, meets_long, meets_none_long, word_at, word_numbered, answered_same}
 use Rattle.vh_host.proofs.reading.read_files.Goals as goal
 
 pub returns-in-Err-clause-long : goal.returns-in-Err-clause-long
@@ -20,6 +20,13 @@ returns-in-Err-clause-long g c = λ n e.
     (answered_same (λ f. g.F.Files.holds c.args.files.now f) (λ f. g.F.Files.holds c.loop-word.files f) c.as_str.result.now c.as_str.result.now long.1.0
     c.loop-word.invariant.2 refl long.1.1)
     long.1.2 c.loop-word.invariant.0)
+
+pub returns-in-Err-clause-in_order : goal.returns-in-Err-clause-in_order
+returns-in-Err-clause-in_order g c = λ n e.
+    let same : c.in-Err.unread ≡ unread.Failed n = cc in
+    let failed = c.in-Err.ensures.failed n (ap (λ (u : Unread). Err u) same) in
+    meets_none_long (λ f. g.F.Files.holds c.args.files.now f) (texts c.args.words.now) c.loop-word.word-index n (files_seen c.loop-word.found.items)
+    (omega (arith, failed.0)) c.loop-word.invariant.0
 
 pub returns-in-Err-clause-blamed : goal.returns-in-Err-clause-blamed
 returns-in-Err-clause-blamed g c = λ n e.

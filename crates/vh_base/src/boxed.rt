@@ -1,8 +1,8 @@
 ghost use Rattle.std.specs.Prelude.{◌≡◌, IfOk};
 
+use crate::faults::NoMemory;
 use std::alloc::Global;
 use std::marker::Model;
-use vh_base::NoMemory;
 
 /// A value with memory of its own, which contracts see as the value: what contains it is small,
 /// however large the value is.
@@ -36,6 +36,7 @@ impl<T> Boxed<T> {
 }
 
 impl<T: Drop> Boxed<T> {
+    /// The value in memory of its own.
     pub fn new(alloc: Global, value: T) -> Result<Boxed<T>, NoMemory>
         ensures { IfOk result (λ b. b ≡ value) }
     {

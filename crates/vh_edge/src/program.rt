@@ -1,0 +1,88 @@
+ghost use Rattle.std.specs.Prelude.{◌≡◌, drop, IfOk};
+ghost use Rattle.std.specs.Process.{exit_status};
+ghost use Rattle.std.specs.Vec.Iter.{into_iter_items};
+ghost use Rattle.vh_host.specs.Report.{exit_of};
+
+use crate::output::Output;
+use crate::source::Source;
+use std::alloc::Global;
+use std::env::Args;
+use std::io::ErrorKind;
+use std::process::ExitCode;
+use std::rt::Env;
+use std::{env, rt};
+use thiserror::Error;
+use vh_base::NoMemory;
+use vh_host::{Status, exit_number, run, status_line};
+
+// Why there are no words.
+#[derive(Clone, Copy, Debug, PartialEq, Eq, Error)]
+enum WordsFault {
+    #[error("a word is no text")]
+    NoText,
+    #[error("out of memory")]
+    NoMemory,
+}
+
+/// Runs what the program's words ask for, writes the transcript to standard output and the
+/// status line to standard error, and gives the number to exit with.
+pub fn run_program<R: Env + rt::Files + Print + Eprint + AllocGlobal>(rt: &R) -> ExitCode {
+    match words_of(rt) {
+        Ok(words) => {
+            let mut files = Source::new(rt);
+            let mut out = Output::new(rt);
+            let status = run(rt.alloc(), &words, &mut files, &mut out);
+            tell(rt, &words, &status)
+        }
+        Err(WordsFault::NoText) => tell(rt, &Vec::new(rt.alloc()), &Status::Usage),
+        Err(WordsFault::NoMemory) => ExitCode::from(exit_number(&Status::NoMemory)),
+    }
+}
+
+// The words behind the program's own name.
+fn words_of<R: Env + AllocGlobal>(rt: &R) -> Result<Vec<String>, WordsFault> {
+    match env::args(rt) {
+        Ok(args) => match all_words(rt.alloc(), args) {
+            Ok(words) => Ok(without_name(words)),
+            Err(NoMemory) => Err(WordsFault::NoMemory),
+        },
+        Err(e) if e.kind() == ErrorKind::InvalidData => Err(WordsFault::NoText),
+        Err(_) => Err(WordsFault::NoMemory),
+    }
+}
+
+// All the words, the program's name first.
+fn all_words(alloc: Global, args: Args) -> Result<Vec<String>, NoMemory>
+    ensures { IfOk result (λ words. words.items ≡ into_iter_items args) }
+{
+    let mut words = Vec::new(alloc);
+    for word in args {
+        if words.push(word).is_err() {
+            return Err(NoMemory);
+        }
+    }
+    Ok(words)
+}
+
+// All words but the first, which is the program's name.
+fn without_name(words: Vec<String>) -> Vec<String>
+    ensures { result.items ≡ drop 1 words.items }
+{
+    let mut words = words;
+    if !words.is_empty() {
+        let _name = words.remove(0);
+    }
+    words
+}
+
+// Writes the status line to standard error where there is one, and gives the exit number.
+fn tell<R: Eprint + AllocGlobal>(rt: &R, words: &Vec<String>, status: &Status) -> ExitCode
+    ensures { exit_status result ≡ exit_of status.now }
+{
+    if let Ok(line) = status_line(rt.alloc(), words, status) {
+        if !line.is_empty() {
+            let _ = rt.eprintln(line.as_str());
+        }
+    }
+    ExitCode::from(exit_number(status))
+}
