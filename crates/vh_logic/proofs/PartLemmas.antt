@@ -93,7 +93,7 @@ digits_of-moved_down fill w a b n m k low high =
       | inr l ↦ get_or-moved_down_high fill (digits_of w a b) n i Zero (omega arith) (omega arith) ∙ sym (high i h l)
     ])
 
--- the number of places
+-- The number of places
 pub places_known : (w a b : ℕ) (s : Bool) (x : Vector) → Vector-of w a b s ≡ x → a < 2 ^ w → b ≡ 0 → known_number x.digits ≡ Some a
 places_known w a b s x e h z = rw (← e, z) (known_number-planes w a 0 h (pow_pos w))
 
@@ -127,7 +127,7 @@ digits_of-shr_all w a b n le = digits_of-moved_down Zero w a b n 0 0 (λ i h l. 
 pub highest-digits_of : (w a b : ℕ) → 1 ≤ w → highest (digits_of w a b) ≡ digit_at a b (w - 1)
 highest-digits_of w a b h = rw (length-digits_of w a b) (get_or-digits_of w a b (w - 1) Zero (omega arith))
 
--- with the highest digit above
+-- With the highest digit above
 pub digits_of-sshr : (w a b n k m p : ℕ) → 1 ≤ w → n ≡ min k (w - 1)
     → ((i : ℕ) → i < w → bit_at m i ≡ bit_at a (min (i + n) (w - 1)))
     → ((i : ℕ) → i < w → bit_at p i ≡ bit_at b (min (i + n) (w - 1)))
@@ -137,14 +137,14 @@ digits_of-sshr w a b n k m p one least ha hb =
     (λ i h l. let e : min (i + n) (w - 1) ≡ k + i = omega arith in rw (ha i h, hb i h, e) refl)
     (λ i h l. let e : min (i + n) (w - 1) ≡ w - 1 = omega arith in rw (ha i h, hb i h, e) refl))
 
--- the highest bit of a plane
+-- The highest bit of a plane
 pub top_set : (a k : ℕ) → a / 2 ^ k ≡ 1 → bit_at a k ≡ 1
 top_set a k h = ap (λ n. n % 2) h
 
 pub top_clear : (a k : ℕ) → a < 2 ^ (1 + k) → (a / 2 ^ k ≡ 1 → ⊥) → bit_at a k ≡ 0
 top_clear a k below n = let h = shr_below a 1 k below in let e : a / 2 ^ k ≡ 0 = omega (arith, n) in ap (λ m. m % 2) e
 
--- the code's plane with its highest bit above, where that is 1 and where it is 0
+-- The code's plane with its highest bit above, where that is 1 and where it is 0
 pub moved_down-set : (w a n i : ℕ) → 1 ≤ w → a < 2 ^ w → n < w → a / 2 ^ (w - 1) ≡ 1 → i < w
     → bit_at (bit_or (a / 2 ^ n) (bit_xor (2 ^ w - 1) ((2 ^ w - 1) / 2 ^ n))) i ≡ bit_at a (min (i + n) (w - 1))
 moved_down-set w a n i one below inside top h =
@@ -176,7 +176,7 @@ moved_down-below w a n h =
     let part : (2 ^ w - 1) / 2 ^ n < 2 ^ w = omega (arith, shr_le (2 ^ w - 1) n) in
     or_lt w _ _ some (xor_lt w _ _ ones part)
 
--- the code's plane extended by its highest bit
+-- The code's plane extended by its highest bit
 pub extended-set : (w a v i : ℕ) → 1 ≤ w → a < 2 ^ w → a / 2 ^ (w - 1) ≡ 1 → i < v
     → bit_at (bit_or a (bit_xor (2 ^ v - 1) (2 ^ w - 1))) i ≡ bit_at a (min i (w - 1))
 extended-set w a v i one below top h =
@@ -198,7 +198,7 @@ extended-clear w a i one below top =
           rw (bit_at_above a w i below l, e, top_clear a (w - 1) below' top) refl)
     ]
 
--- no digit is left
+-- No digit is left
 pub zeros-moved_up : (w a b n : ℕ) (s : Bool) (x : Vector) → Vector-of w a b s ≡ x → w ≤ n
     → digits_with (binary (width_of x) 0) x.signed ≡ digits_with (moved_up x.digits n) x.signed
 zeros-moved_up w a b n s x e le =
@@ -350,7 +350,7 @@ pub part-planes : (w a b v c d low : ℕ) (s t : Bool) (x y : Vector) → Vector
     → low + width_of y ≤ width_of x → low + v ≤ w
 part-planes w a b v c d low s t x y e g h = omega (arith, width-planes w a b s x e, width-planes v c d t y g)
 
--- an unsigned vector is filled with zeros
+-- An unsigned vector is filled with zeros
 pub shifted_right-unsigned : (x y : Vector) → x.signed ≡ false → shifted_right x y ≡ shifted_right_signed x y
 shifted_right-unsigned x y e = rw e refl
 

@@ -12,11 +12,11 @@ use Rattle.vh_logic.specs.Vector.{Vector, map_digits, zip_digits}
 use Rattle.vh_logic.specs.Planes.{digit_of, digits_of}
 use Rattle.vh_logic.specs.PlanesBack.{length-digits_of}
 
--- a bit is 1 at most
+-- A bit is 1 at most
 min_one : (a i : ℕ) → min (bit_at a i) 1 ≡ bit_at a i
 min_one a i = omega (arith, bit_at-lt a i)
 
--- digit `i` of two planes
+-- Digit `i` of two planes
 abbrev pub digit_at : ℕ → ℕ → ℕ → Digit
 digit_at a b i = digit_of (bit_at a i) (bit_at b i)
 
@@ -26,7 +26,7 @@ digit_at-zero a b = rw (bit_at_lowest a, bit_at_lowest b) refl
 pub digit_at-suc : (a b i : ℕ) → digit_at a b (suc i) ≡ digit_at (a / 2) (b / 2) i
 digit_at-suc a b i = rw (bit_at-suc a i, bit_at-suc b i) refl
 
--- what holds digit by digit holds of the lists
+-- What holds digit by digit holds of the lists
 pub zip_digits-digits_of : (f : Digit → Digit → Digit) (w a b c d m n : ℕ)
     → ((i : ℕ) → i < w → f (digit_at a b i) (digit_at c d i) ≡ digit_at m n i)
     → zip_digits f (digits_of w a b) (digits_of w c d) ≡ digits_of w m n
@@ -39,20 +39,20 @@ zip_digits-digits_of f (suc w) a b c d m n h =
     let first' = rw (digit_at-zero a b, digit_at-zero c d, digit_at-zero m n) at first in
     cc
 
--- two vectors of one width
+-- Two vectors of one width
 pub same_width : (w a b v c d : ℕ) (xs ys : List Digit) → digits_of w a b ≡ xs → digits_of v c d ≡ ys → length xs ≡ length ys → v ≡ w
 same_width w a b v c d xs ys e f g =
     sym (length-digits_of v c d) ∙ ap length f ∙ sym g ∙ sym (ap length e) ∙ length-digits_of w a b
 
--- a vector of these digits
+-- A vector of these digits
 abbrev pub digits_with : List Digit → Bool → Vector
 digits_with ds s = record { digits = ds; signed = s }
 
--- what contracts see of two planes
+-- What contracts see of two planes
 abbrev pub Vector-of : ℕ → ℕ → ℕ → Bool → Vector
 Vector-of w a b s = record { digits = digits_of w a b; signed = s }
 
--- a vector whose digits are made from those of two vectors
+-- A vector whose digits are made from those of two vectors
 pub zip_digits-vectors : (f : Digit → Digit → Digit) (w a b v c d m n : ℕ) (s t : Bool) (x y : Vector)
     → Vector-of w a b s ≡ x → Vector-of v c d t ≡ y → length x.digits ≡ length y.digits
     → ((i : ℕ) → i < w → f (digit_at a b i) (digit_at c d i) ≡ digit_at m n i)
@@ -82,14 +82,14 @@ map_digits-digits_of f (suc w) a b m n h =
     let first' = rw (digit_at-zero a b, digit_at-zero m n) at first in
     cc
 
--- a vector whose digits are made from those of another
+-- A vector whose digits are made from those of another
 pub map_digits-vector : (f : Digit → Digit) (w a b m n : ℕ) (s : Bool) (x : Vector)
     → Vector-of w a b s ≡ x → ((i : ℕ) → i < w → f (digit_at a b i) ≡ digit_at m n i)
     → Vector-of w m n s ≡ record { digits = map_digits f x.digits; signed = x.signed }
 map_digits-vector f w a b m n s x e h =
     rw (← e) (ap (λ ds. record { digits = ds; signed = s }) (sym (map_digits-digits_of f w a b m n h)))
 
--- a list is the digits of two planes if each of its places is
+-- A list is the digits of two planes if each of its places is
 pub digits_of-places : (w m n : ℕ) (xs : List Digit) (d : Digit) → length xs ≡ w
     → ((i : ℕ) → i < w → get_or xs i d ≡ digit_at m n i) → digits_of w m n ≡ xs
 unfolding digits_of
@@ -115,14 +115,14 @@ slice_get-digits_of zero a b i h = absurd (omega arith)
 slice_get-digits_of (suc w) a b zero h = ap Some (sym (digit_at-zero a b))
 slice_get-digits_of (suc w) a b (suc i) h = slice_get-digits_of w (a / 2) (b / 2) i (omega arith) ∙ ap Some (sym (digit_at-suc a b i))
 
--- what the code reads of a bit
+-- What the code reads of a bit
 pub bit_set : (a i : ℕ) → bit_and (a / 2 ^ i) 1 ≡ 1 → bit_at a i ≡ 1
 bit_set a i h = sym (shr_and_one a i) ∙ h
 
 pub bit_clear : (a i : ℕ) → (bit_and (a / 2 ^ i) 1 ≡ 1 → ⊥) → bit_at a i ≡ 0
 bit_clear a i h = let n : bit_at a i ≡ 1 → ⊥ = λ e. h (shr_and_one a i ∙ e) in omega (arith, bit_at-lt a i)
 
--- bits above the width do not count
+-- Bits above the width do not count
 pub digits_of-same : (w a b c d : ℕ) → ((i : ℕ) → i < w → digit_at a b i ≡ digit_at c d i) → digits_of w a b ≡ digits_of w c d
 digits_of-same w a b c d h =
     digits_of-places w a b (digits_of w c d) Zero (length-digits_of w c d)
@@ -132,7 +132,7 @@ pub digits_of-mask : (w a b : ℕ) → digits_of w (bit_and a (2 ^ w - 1)) (bit_
 digits_of-mask w a b =
     digits_of-same w _ _ _ _ (λ i below. simp (bit_at_and, bit_at_ones) (rw (min_one a i, min_one b i) refl))
 
--- the same digit at each place
+-- The same digit at each place
 pub digits_of-filled : (w m n : ℕ) (d : Digit) → ((i : ℕ) → i < w → digit_at m n i ≡ d) → digits_of w m n ≡ replicate w d
 digits_of-filled w m n d h =
     digits_of-places w m n (replicate w d) d (length-replicate w d) (λ i below. get_or-replicate w i d d below ∙ sym (h i below))

@@ -1,28 +1,29 @@
 -- That the texts of a value are read as its digits.
-use Rattle.std.proofs.Common.{◌≡◌, ℕ, zero, suc, ◌+◌, ◌*◌, ◌/◌, ◌%◌, ◌^◌, ◌<◌, ◌≤◌, List, [], ◌∷◌, ◌++◌, length, drop, replicate, get_or, refl, ap, arith, ◌∙◌, sym, Bool, true, false, cond, eqb, ltb, leb, Option, Some, None, inl, inr, append_assoc, append-nil}
-use Rattle.std.specs.Prelude.{◌&&◌, ◌||◌, not}
-use Rattle.std.specs.Char.{is_ascii_digit}
+use Rattle.std.proofs.Common.{◌≡◌, ℕ, suc, ◌+◌, ◌*◌, ◌/◌, ◌%◌, ◌^◌, ◌<◌, ◌≤◌, List, [], ◌∷◌, ◌++◌, length, drop, replicate, get_or, refl, ap, arith, ◌∙◌, sym, Bool, true, false, cond, eqb, ltb, Option, Some, None, inl, inr, append_assoc, append-nil}
+use Rattle.std.specs.Prelude.{◌&&◌, not}
 use Rattle.std.specs.List.{list_all, position, prefix_len}
-use Rattle.std.specs.Fmt.{digits, digits_onto, digit_glyph}
+use Rattle.std.specs.Fmt.{digits}
 use Rattle.std.specs.Str.Parse.{digits_value}
 use Rattle.std.proofs.lemmas.Fmt.{digits_is_IsNumeral}
 use Rattle.std.proofs.lemmas.List.{length-append, take_all, take-append-le, take_at, drop_at}
-use Rattle.std.proofs.lemmas.Bool.{lt-ltb, le-ltb, le-leb, eq-eqb, ne_eqb}
-use Rattle.std.proofs.lemmas.Bool.Decides.{eqb_tells, leb_tells}
+use Rattle.std.proofs.lemmas.Bool.{lt-ltb, ne_eqb}
+use Rattle.std.proofs.lemmas.Bool.Decides.{eqb_tells}
 use Rattle.std.proofs.Math.Nat.{pow-suc}
 use Rattle.std.proofs.Math.Pow.{pow_mono}
 use Rattle.vh_logic.specs.declared.digits.Digit.{Digit}
 use Rattle.vh_logic.specs.declared.digits.Digit.TheVariants.{Zero, One, X, Z}
 use Rattle.vh_logic.specs.Vector.{Vector}
+use Rattle.vh_logic.specs.declared.vector.TheConstants.{MAX_WIDTH}
 use Rattle.vh_logic.specs.Number.{binary, number_of}
 use Rattle.vh_logic.specs.Planes.{digit_of, digits_of, plane_of, aval_bit, bval_bit}
 use Rattle.vh_text.specs.Texts.{groups_text, group_count, character_text, digits_text, vector_text}
 use Rattle.vh_text.specs.Digits.{character_digits, joined, spelled_digits}
 use Rattle.vh_text.specs.Patterns.{digits_alone}
 use Rattle.vh_text.specs.Values.{string_value, cut_or_padded, is_lower_hex, has_plane_form, plane_value, planes_value, parted_value}
-use Rattle.vh_text.proofs.ValueLemmas.{string_value-is}
+use Rattle.vh_text.proofs.HexLemmas.{text-hex, text-length, text-first, text-zero}
+use Rattle.vh_text.proofs.ValueLemmas.{is_length-is, string_value-is}
 
--- joined parts, in any order of joining
+-- Joined parts, in any order of joining
 joined-assoc : (a b c : Option (List Digit)) → joined (joined a b) c ≡ joined a (joined b c)
 joined-assoc None b c = refl
 joined-assoc (Some a) None c = refl
@@ -40,7 +41,7 @@ spelled_digits-append k (x ∷ xs) ys =
     ap (λ (o : Option (List Digit)). joined o (character_digits k x)) (spelled_digits-append k xs ys)
     ∙ joined-assoc (spelled_digits k ys) (spelled_digits k xs) (character_digits k x)
 
--- one digit, written and read
+-- One digit, written and read
 spelled_digit : (d : Digit) → spelled_digits 1 (character_text (d ∷ [])) ≡ Some (d ∷ [])
 unfolding spelled_digits binary number_of
 spelled_digit Zero = refl
@@ -54,7 +55,7 @@ length-digit One = refl
 length-digit X = refl
 length-digit Z = refl
 
--- all digits, written and read
+-- All digits, written and read
 spelled_digits-binary : (ds : List Digit) → spelled_digits 1 (groups_text (length ds) 1 ds) ≡ Some ds
 unfolding groups_text spelled_digits
 spelled_digits-binary [] = refl
@@ -76,109 +77,24 @@ cut_or_padded-whole : (ds : List Digit) → cut_or_padded (length ds) ds ≡ dig
 cut_or_padded-whole ds =
     ap (λ (xs : List Digit). digits_alone xs) (take-append-le (length ds) ds (replicate (length ds) Zero) (omega arith) ∙ take_all (length ds) ds (omega arith))
 
-pub binary_back : (v : Vector) → 1 ≤ length v.digits → length v.digits ≤ 64
-    → string_value 1 64 (length v.digits) (digits_text 1 v) ≡ Some (digits_alone v.digits)
+pub binary_back : (v : Vector) → 1 ≤ length v.digits → length v.digits ≤ MAX_WIDTH
+    → string_value 1 (length v.digits) (digits_text 1 v) ≡ Some (digits_alone v.digits)
 binary_back v least most =
     let ds = v.digits in
-    let some : length (groups_text (length ds) 1 ds) ≡ 0 → ⊥ = λ e. omega (arith, e, length-binary ds) in
-    ap (λ (bs : List ℕ). string_value 1 64 (length ds) bs) (digits_text-binary v)
-    ∙ string_value-is 1 64 (length ds) (groups_text (length ds) 1 ds) ds some (omega (arith, length-binary ds)) (spelled_digits-binary ds)
+    let text : List ℕ = groups_text (length ds) 1 ds in
+    let fits = is_length-is 1 text (omega (arith, length-binary ds)) (omega (arith, length-binary ds)) in
+    ap (λ (bs : List ℕ). string_value 1 (length ds) bs) (digits_text-binary v)
+    ∙ string_value-is 1 (length ds) text ds fits (spelled_digits-binary ds)
     ∙ ap (λ (x : Vector). Some x) (cut_or_padded-whole ds)
 
--- the characters of hexadecimal digits
-or_right : (a b : Bool) → b ≡ true → (a || b) ≡ true
-or_right true b h = refl
-or_right false b h = h
-
-glyph-low : (n : ℕ) → n < 10 → digit_glyph false n ≡ 48 + n
-glyph-low n h = rw (lt-ltb n 10 h) refl
-
-glyph-high : (n : ℕ) → 10 ≤ n → digit_glyph false n ≡ 87 + n
-glyph-high n h = rw (le-ltb n 10 h) refl
-
-low-hex : (n : ℕ) → n < 10 → is_lower_hex (48 + n) ≡ true
-low-hex n h =
-    let least : 48 ≤ 48 + n = omega arith in
-    let most : 48 + n ≤ 57 = omega arith in
-    rw (le-leb 48 (48 + n) least, le-leb (48 + n) 57 most) refl
-
-high-hex : (n : ℕ) → 10 ≤ n → n < 16 → is_lower_hex (87 + n) ≡ true
-high-hex n h k =
-    let least : 97 ≤ 87 + n = omega arith in
-    let most : 87 + n ≤ 102 = omega arith in
-    let letter : (leb 97 (87 + n) && leb (87 + n) 102) ≡ true = rw (le-leb 97 (87 + n) least, le-leb (87 + n) 102 most) refl in
-    or_right (is_ascii_digit (87 + n)) (leb 97 (87 + n) && leb (87 + n) 102) letter
-
-glyph-hex : (n : ℕ) → n < 16 → is_lower_hex (digit_glyph false n) ≡ true
-glyph-hex n h =
-    elim (leb_tells 10 n) [
-      | inl e ↦ let large : 10 ≤ n = e.1 in ap is_lower_hex (glyph-high n large) ∙ high-hex n large h
-      | inr e ↦ let small : n < 10 = e.1 in ap is_lower_hex (glyph-low n small) ∙ low-hex n small
-    ]
-
-glyph-zero : (n : ℕ) → 0 < n → n < 16 → digit_glyph false n ≡ 48 → ⊥
-glyph-zero n some h e =
-    elim (leb_tells 10 n) [
-      | inl l ↦ let large : 10 ≤ n = l.1 in omega (arith, e, glyph-high n large)
-      | inr l ↦ let small : n < 10 = l.1 in omega (arith, e, glyph-low n small)
-    ]
-
-hex-all : (k n : ℕ) (acc : List ℕ) → list_all is_lower_hex acc ≡ true → list_all is_lower_hex (digits_onto k 16 false n acc) ≡ true
-hex-all zero n acc h = h
-hex-all (suc k) n acc h =
-    let first : list_all is_lower_hex (digit_glyph false (n % 16) ∷ acc) ≡ true = rw (glyph-hex (n % 16) (omega arith)) h in
-    elim (eqb_tells (n / 16) 0) [
-      | inl e ↦ rw e.0 first
-      | inr e ↦ rw e.0 (hex-all k (n / 16) (digit_glyph false (n % 16) ∷ acc) first)
-    ]
-
-hex-length : (k j n : ℕ) (acc : List ℕ) → j ≤ k → n < 16 ^ suc j → length (digits_onto (suc k) 16 false n acc) ≤ length acc + suc j
-hex-length k zero n acc h below = let e : n / 16 ≡ 0 = omega arith in rw (eq-eqb (n / 16) 0 e) (omega arith)
-hex-length zero (suc j) n acc h below = absurd (omega arith)
-hex-length (suc k) (suc j) n acc h below =
-    let power : 16 ^ suc (suc j) ≡ 16 * 16 ^ suc j = rw pow-suc (omega arith) in
-    elim (eqb_tells (n / 16) 0) [
-      | inl e ↦ rw e.0 (omega arith)
-      | inr e ↦
-          let rest = hex-length k j (n / 16) (digit_glyph false (n % 16) ∷ acc) (omega arith) (omega (arith, power)) in
-          rw e.0 (omega (arith, rest))
-    ]
-
-hex-first : (k n : ℕ) (acc : List ℕ) → 0 < n → n < 16 ^ suc k → get_or (digits_onto (suc k) 16 false n acc) 0 0 ≡ 48 → ⊥
-hex-first zero n acc some below =
-    let e : n / 16 ≡ 0 = omega arith in
-    rw (eq-eqb (n / 16) 0 e) (glyph-zero (n % 16) (omega arith) (omega arith))
-hex-first (suc k) n acc some below =
-    let power : 16 ^ suc (suc k) ≡ 16 * 16 ^ suc k = rw pow-suc (omega arith) in
-    elim (eqb_tells (n / 16) 0) [
-      | inl e ↦ let small : n / 16 ≡ 0 = e.1 in rw e.0 (glyph-zero (n % 16) (omega arith) (omega arith))
-      | inr e ↦ let large : n / 16 ≡ 0 → ⊥ = e.1 in rw e.0 (hex-first k (n / 16) (digit_glyph false (n % 16) ∷ acc) (omega arith) (omega (arith, power)))
-    ]
-
--- the hexadecimal text of a plane
-text-hex : (n : ℕ) → list_all is_lower_hex (digits 16 false n) ≡ true
-unfolding digits
-text-hex n = hex-all 64 n [] refl
-
-text-length : (n : ℕ) → n < 2 ^ 64 → length (digits 16 false n) ≤ 16
-unfolding digits
-text-length n h = hex-length 63 15 n [] (omega arith) (omega arith)
-
-text-first : (n : ℕ) → 0 < n → n < 2 ^ 64 → get_or (digits 16 false n) 0 0 ≡ 48 → ⊥
-unfolding digits
-text-first n some h = hex-first 63 n [] some (omega arith)
-
-text-zero : digits 16 false 0 ≡ 48 ∷ []
-unfolding digits
-text-zero = refl
-
-plane_form : (cs : List ℕ) → 0 < length cs → length cs ≤ 16 → (get_or cs 0 0 ≡ 48 → ⊥) → has_plane_form cs ≡ true
-plane_form cs some short first = rw (lt-ltb 0 (length cs) some, le-leb (length cs) 16 short, ne_eqb (get_or cs 0 0) 48 first) refl
+-- The text of a plane, read again
+plane_form : (cs : List ℕ) → 0 < length cs → length cs ≤ group_count 4 MAX_WIDTH → (get_or cs 0 0 ≡ 48 → ⊥) → has_plane_form cs ≡ true
+plane_form cs some short first = rw (is_length-is 4 cs some short, ne_eqb (get_or cs 0 0) 48 first) refl
 
 plane_value-is : (cs : List ℕ) → has_plane_form cs ≡ true → list_all is_lower_hex cs ≡ true → plane_value cs ≡ Some (digits_value 16 cs)
 plane_value-is cs form hex = rw (form, hex) refl
 
-plane_back : (n : ℕ) → n < 2 ^ 64 → plane_value (digits 16 false n) ≡ Some n
+plane_back : (n : ℕ) → n < 2 ^ MAX_WIDTH → plane_value (digits 16 false n) ≡ Some n
 plane_back n h =
     let numeral = digits_is_IsNumeral 16 false (omega arith) (omega arith) n (omega arith) in
     let form : has_plane_form (digits 16 false n) ≡ true =
@@ -188,7 +104,7 @@ plane_back n h =
     ] in
     plane_value-is (digits 16 false n) form (text-hex n) ∙ ap (λ m. Some m) numeral.1
 
--- the colon between two planes
+-- The colon between two planes
 no_colon : (c : ℕ) → is_lower_hex c ≡ true → eqb c 58 ≡ false
 no_colon c h =
     elim (eqb_tells c 58) [
@@ -220,7 +136,7 @@ after-colon xs ys =
     let front : length (xs ++ (58 ∷ [])) ≡ length xs + 1 = length-append xs (58 ∷ []) in
     ap (λ (zs : List ℕ). drop (length xs + 1) zs) (sym (append_assoc xs (58 ∷ []) ys)) ∙ drop_at (xs ++ (58 ∷ [])) ys (length xs + 1) front
 
--- two planes give the digits that they hold
+-- Two planes give the digits that they hold
 aval_bit-le : (d : Digit) → aval_bit d ≤ 1
 aval_bit-le Zero = omega arith
 aval_bit-le One = omega arith
@@ -257,8 +173,8 @@ plane_of-lt bit h (d ∷ ds) =
     let power : 2 ^ suc (length ds) ≡ 2 * 2 ^ length ds = rw pow-suc (omega arith) in
     omega (arith, power, h d, plane_of-lt bit h ds)
 
-plane-fits : (bit : Digit → ℕ) → ((d : Digit) → bit d ≤ 1) → (ds : List Digit) → length ds ≤ 64 → plane_of bit ds < 2 ^ 64
-plane-fits bit h ds short = let most : 2 ^ length ds ≤ 2 ^ 64 = pow_mono short in omega (arith, most, plane_of-lt bit h ds)
+plane-fits : (bit : Digit → ℕ) → ((d : Digit) → bit d ≤ 1) → (ds : List Digit) → length ds ≤ MAX_WIDTH → plane_of bit ds < 2 ^ MAX_WIDTH
+plane-fits bit h ds short = let most : 2 ^ length ds ≤ 2 ^ MAX_WIDTH = pow_mono short in omega (arith, most, plane_of-lt bit h ds)
 
 planes_at : (w : ℕ) (xs ys : List ℕ) (a b : ℕ) → list_all is_lower_hex xs ≡ true → plane_value xs ≡ Some a → plane_value ys ≡ Some b
     → parted_value w (xs ++ (58 ∷ ys)) (position (λ c. eqb c 58) (xs ++ (58 ∷ ys))) ≡ Some (digits_alone (digits_of w a b))
@@ -269,7 +185,7 @@ planes_at w xs ys a b hex e f =
     ∙ ap (λ (o : Option ℕ). planes_value w o (plane_value ys)) e
     ∙ ap (λ (o : Option ℕ). planes_value w (Some a) o) f
 
-pub planes_back : (v : Vector) → length v.digits ≤ 64
+pub planes_back : (v : Vector) → length v.digits ≤ MAX_WIDTH
     → parted_value (length v.digits) (vector_text v) (position (λ b. eqb b 58) (vector_text v)) ≡ Some (digits_alone v.digits)
 planes_back v short =
     let ds = v.digits in

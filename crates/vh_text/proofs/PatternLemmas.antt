@@ -14,6 +14,7 @@ use Rattle.vh_logic.specs.declared.digits.Digit.{Digit}
 use Rattle.vh_logic.specs.declared.digits.Digit.TheVariants.{Zero, One, X, Z}
 use Rattle.vh_logic.specs.Digit.{is_same}
 use Rattle.vh_logic.specs.Vector.{Vector, highest}
+use Rattle.vh_logic.specs.declared.vector.TheConstants.{MAX_WIDTH}
 use Rattle.vh_logic.specs.Number.{binary}
 use Rattle.vh_logic.specs.Planes.{digit_of, digits_of}
 use Rattle.vh_logic.specs.PlanesBack.{by_bit}
@@ -30,14 +31,14 @@ digits_of-binary (suc w) n =
     let rest = digits_of-binary w (n / 2) in
     cc
 
--- a group's base, as the code computes it
+-- A group's base, as the code computes it
 pub base_is : (k : ℕ) → 1 ≤ k → k ≤ 4 → (1 * 2 ^ k % 4294967296 ≡ 2 ^ k) × (2 ≤ 2 ^ k) × (2 ^ k ≤ 16)
 base_is k least most =
     let low : 2 ^ 1 ≤ 2 ^ k = pow_mono least in
     let high : 2 ^ k ≤ 2 ^ 4 = pow_mono most in
     (omega arith, omega arith, omega arith)
 
--- a character that is no letter
+-- A character that is no letter
 pub character_digits-number : (k c : ℕ) → is_x_letter c ≡ false → is_z_letter c ≡ false → digit_value c < 2 ^ k
     → character_digits k c ≡ Some (binary k (digit_value c))
 character_digits-number k c not_x not_z h = rw (not_x, not_z, lt-ltb (digit_value c) (2 ^ k) h) refl
@@ -45,7 +46,7 @@ character_digits-number k c not_x not_z h = rw (not_x, not_z, lt-ltb (digit_valu
 pub character_digits-none : (k c : ℕ) → is_x_letter c ≡ false → is_z_letter c ≡ false → 2 ^ k ≤ digit_value c → character_digits k c ≡ None
 character_digits-none k c not_x not_z h = rw (not_x, not_z, le-ltb (digit_value c) (2 ^ k) h) refl
 
--- filling a list that is no longer than the width
+-- Filling a list that is no longer than the width
 take-filled : (ds : List Digit) (w m : ℕ) (f : Digit) → length ds ≤ w → w ≤ length ds + m → take w (ds ++ replicate m f) ≡ ds ++ replicate (w - length ds) f
 take-filled [] w m f h k = let e : w ≡ w - 0 = omega arith in take-replicate w m f (omega arith) ∙ ap (λ n. replicate n f) e
 take-filled (d ∷ ds) zero m f h k = absurd (omega arith)
@@ -66,7 +67,7 @@ pub sized-same : (w : ℕ) (ds cs rest : List Digit) (f : Digit) → length ds �
     → take w (cs ++ rest) ≡ take w (ds ++ replicate w f)
 sized-same w ds cs rest f h e = ap (λ (xs : List Digit). take w (xs ++ rest)) e ∙ sized-filled w ds rest f h
 
--- underscores say nothing, and `?` is z
+-- Underscores say nothing, and `?` is z
 pub characters-mark : (b : ℕ) (bs : List ℕ) → b ≡ 95 → characters (b ∷ bs) ≡ characters bs
 characters-mark b bs e = rw (eq-eqb b 95 e) refl
 
@@ -76,7 +77,7 @@ characters-next b bs e = rw (ne_eqb b 95 e) refl
 pub spelled-first : (b : ℕ) (bs : List ℕ) → IsSome (spelled (b ∷ bs)) → b ≡ 95 → ⊥
 spelled-first b bs h e = let P : ℕ → Type 0 = λ n. IsSome (spelled (n ∷ bs)) in let f = subst P e h in cc
 
--- a text that begins with a digit, by its first byte
+-- A text that begins with a digit, by its first byte
 pub characters-first : (bs rest : List ℕ) (b : ℕ) → bs ≡ b ∷ rest → IsSome (spelled bs) → characters bs ≡ question_as_z b ∷ characters rest
 characters-first bs rest b e begun =
     let P : List ℕ → Type 0 = λ xs. IsSome (spelled xs) in
@@ -98,7 +99,7 @@ pub spelled_digits-nil : (k : ℕ) → spelled_digits k [] ≡ Some []
 unfolding spelled_digits
 spelled_digits-nil k = refl
 
--- one more character, which has no digits, or has these
+-- One more character, which has no digits, or has these
 pub spelled_digits-stop : (k c : ℕ) (cs : List ℕ) (more : Option (List Digit)) → character_digits k c ≡ None
     → joined (spelled_digits k (c ∷ cs)) more ≡ None
 unfolding spelled_digits
@@ -111,7 +112,7 @@ unfolding spelled_digits
 spelled_digits-more k c cs g ds e =
     ap (λ (g : Option (List Digit)). joined (joined (spelled_digits k cs) g) (Some ds)) e ∙ joined-some (spelled_digits k cs) g ds
 
--- what a call that reads one character tells of it
+-- What a call that reads one character tells of it
 pub from_some : (o : Option (List Digit)) (v : Vector) → Some v ≡ option_map digits_alone o → (o ≡ Some v.digits) × (v ≡ digits_alone v.digits)
 from_some None v h = cc
 from_some (Some ds) v h =
@@ -123,7 +124,7 @@ pub from_none : (o : Option (List Digit)) → None ≡ option_map digits_alone o
 from_none None h = refl
 from_none (Some ds) h = cc
 
--- the digit that fills goes on
+-- The digit that fills goes on
 fill-fill : (d : Digit) → fill_of (fill_of d) ≡ fill_of d
 fill-fill Zero = refl
 fill-fill One = refl
@@ -182,7 +183,7 @@ k_or k w h = elim (eqb_tells k w) [ inl e ↦ inl e.1 | inr n ↦ let ne : k ≡
 pub short_or : (n w : ℕ) → (n ≤ w) ⊎ (w < n)
 short_or n w = elim (leb_tells n w) [ inl h ↦ inl h.1 | inr h ↦ inr h.1 ]
 
--- where the digits up to `w` are filled from `k`, the same digit fills above them
+-- Where the digits up to `w` are filled from `k`, the same digit fills above them
 fills-same : (k w : ℕ) (ds : List Digit) → k ≤ w → w < length ds → is_held k (take w ds) ≡ true → fills k ds ≡ fills w ds
 fills-same k w ds le short held =
     elim (k_or k w le) [
@@ -202,7 +203,7 @@ held_cases true b false h = h refl
 held_cases false b true h = refl
 held_cases false b false h = refl
 
--- filling from fewer digits asks for more
+-- Filling from fewer digits asks for more
 pub is_held-take : (k w : ℕ) (ds : List Digit) → k ≤ w → is_held k ds ≡ (is_held w ds && is_held k (take w ds))
 is_held-take k w ds le =
     elim (short_or (length ds) w) [
@@ -220,7 +221,7 @@ is_held-take k w ds le =
           (λ held. ap (λ (f : Digit). list_all (is_same f) (drop w ds)) (same held))
     ]
 
--- digits below
+-- Digits below
 take-below : (g ds : List Digit) (w : ℕ) → length g ≤ w → take w (g ++ ds) ≡ g ++ take (w - length g) ds
 take-below g ds w h =
     let e : w ≡ length g + (w - length g) = omega arith in
@@ -242,29 +243,29 @@ is_held-below g ds w h some =
 
 pub pattern_of-pushed : (ds g : List Digit) → length g ≤ 4 → 0 < length ds → pattern_pushed (pattern_of ds) g ≡ pattern_of (g ++ ds)
 pattern_of-pushed ds g most some =
-    let kept : take (64 - length g) (take 64 ds) ≡ take (64 - length g) ds = take-take (64 - length g) 64 ds (omega arith) in
-    let value : g ++ take (64 - length g) (take 64 ds) ≡ take 64 (g ++ ds) =
-    ap (λ (xs : List Digit). g ++ xs) kept ∙ sym (take-below g ds 64 (omega arith)) in
-    let held : (is_held 64 ds && is_held (64 - length g) (take 64 ds)) ≡ is_held 64 (g ++ ds) =
-    sym (is_held-below g ds 64 (omega arith) some ∙ is_held-take (64 - length g) 64 ds (omega arith)) in
-    ap (λ (xs : List Digit). record { value = digits_alone xs; is_held = is_held 64 ds && is_held (64 - length g) (take 64 ds) }) value
-    ∙ ap (λ (b : Bool). record { value = digits_alone (take 64 (g ++ ds)); is_held = b }) held
+    let kept : take (MAX_WIDTH - length g) (take MAX_WIDTH ds) ≡ take (MAX_WIDTH - length g) ds = take-take (MAX_WIDTH - length g) MAX_WIDTH ds (omega arith) in
+    let value : g ++ take (MAX_WIDTH - length g) (take MAX_WIDTH ds) ≡ take MAX_WIDTH (g ++ ds) =
+    ap (λ (xs : List Digit). g ++ xs) kept ∙ sym (take-below g ds MAX_WIDTH (omega arith)) in
+    let held : (is_held MAX_WIDTH ds && is_held (MAX_WIDTH - length g) (take MAX_WIDTH ds)) ≡ is_held MAX_WIDTH (g ++ ds) =
+    sym (is_held-below g ds MAX_WIDTH (omega arith) some ∙ is_held-take (MAX_WIDTH - length g) MAX_WIDTH ds (omega arith)) in
+    ap (λ (xs : List Digit). record { value = digits_alone xs; is_held = is_held MAX_WIDTH ds && is_held (MAX_WIDTH - length g) (take MAX_WIDTH ds) }) value
+    ∙ ap (λ (b : Bool). record { value = digits_alone (take MAX_WIDTH (g ++ ds)); is_held = b }) held
 
--- the digits of one character
+-- The digits of one character
 pub pattern_of-short : (v : Vector) → v ≡ digits_alone v.digits → length v.digits ≤ 4 → record { value = v; is_held = true } ≡ pattern_of v.digits
 pattern_of-short v e h =
-    let all : take 64 v.digits ≡ v.digits = take_all 64 v.digits (omega arith) in
-    let held : is_held 64 v.digits ≡ true = is_held-short 64 v.digits (omega arith) in
-    let value : v ≡ digits_alone (take 64 v.digits) = e ∙ ap digits_alone (sym all) in
+    let all : take MAX_WIDTH v.digits ≡ v.digits = take_all MAX_WIDTH v.digits (omega arith) in
+    let held : is_held MAX_WIDTH v.digits ≡ true = is_held-short MAX_WIDTH v.digits (omega arith) in
+    let value : v ≡ digits_alone (take MAX_WIDTH v.digits) = e ∙ ap digits_alone (sym all) in
     let p : Pattern → Pattern = λ q. q in
     ap (λ (x : Vector). p (record { value = x; is_held = true })) value
-    ∙ ap (λ (b : Bool). p (record { value = digits_alone (take 64 v.digits); is_held = b })) (sym held)
+    ∙ ap (λ (b : Bool). p (record { value = digits_alone (take MAX_WIDTH v.digits); is_held = b })) (sym held)
 
--- a text of which one character has no digits
+-- A text of which one character has no digits
 pub spelled_digits-none : (k c : ℕ) (cs : List ℕ) → character_digits k c ≡ None → spelled_digits k (c ∷ cs) ≡ None
 spelled_digits-none k c cs e = sym (joined-nil (spelled_digits k (c ∷ cs))) ∙ spelled_digits-stop k c cs (Some []) e
 
--- a text by its first character
+-- A text by its first character
 pub spelled_digits-first : (k c : ℕ) (cs : List ℕ) (g : List Digit) → character_digits k c ≡ Some g
     → spelled_digits k (c ∷ cs) ≡ joined (spelled_digits k cs) (Some g)
 spelled_digits-first k c cs g e =

@@ -56,7 +56,7 @@ is_same-comm Z One = refl
 is_same-comm Z X = refl
 is_same-comm Z Z = refl
 
--- a comparison with one digit at each place
+-- A comparison with one digit at each place
 pub all_places-replicate : (d : Digit) (ds : List Digit) → all_places is_same ds (replicate (length ds) d) ≡ list_all (is_same d) ds
 unfolding all_places
 all_places-replicate d [] = refl
@@ -65,7 +65,7 @@ all_places-replicate d (e ∷ ds) =
     let rest = all_places-replicate d ds in
     cc
 
--- one more group below those that are written
+-- One more group below those that are written
 pub groups_text-more : (n left k : ℕ) (ds : List Digit) → left < n
     → groups_text (n - left) k (drop (left * k) ds)
     ≡ groups_text (n - suc left) k (drop (suc left * k) ds) ++ character_text (take k (drop (left * k) ds))
@@ -79,12 +79,12 @@ groups_text-zero : (k : ℕ) (ds : List Digit) → groups_text 0 k ds ≡ []
 unfolding groups_text
 groups_text-zero k ds = refl
 
--- no group is written yet
+-- No group is written yet
 pub groups_text-none : (n left k : ℕ) (ds : List Digit) → n ≤ left → groups_text (n - left) k (drop (left * k) ds) ≡ []
 groups_text-none n left k ds h =
     let none : n - left ≡ 0 = omega arith in ap (λ i. groups_text i k (drop (left * k) ds)) none ∙ groups_text-zero k (drop (left * k) ds)
 
--- what a derived comparison of digits answers
+-- What a derived comparison of digits answers
 pub sameb-same : (d e : Digit) → is_same e d ≡ sameb the_type d e
 sameb-same Zero Zero = refl
 sameb-same Zero One = refl
@@ -107,7 +107,7 @@ pub sameb-test : (b : Bool) → sameb the_type (test_digit b) One ≡ b
 sameb-test true = refl
 sameb-test false = refl
 
--- a test that passes at a place, or at none so far
+-- A test that passes at a place, or at none so far
 pub list_any-at : {A : Type 0} (p : A → Bool) (xs : List A) (i : ℕ) (x : A) → slice_get xs i ≡ Some x → p x ≡ true → list_any p xs ≡ true
 list_any-at p [] i x h k = cc
 list_any-at p (y ∷ ys) zero x h k = let e : y ≡ x = cc in rw (e, k) refl
@@ -121,7 +121,7 @@ list_any-none p (y ∷ ys) (suc i) x h k none =
     let parts = or_false (p y) (list_any p (take i ys)) none in
     rw (parts.0, list_any-none p ys i x h k parts.1) refl
 
--- the number of digits is below the power of their count
+-- The number of digits is below the power of their count
 pub number_of-lt : (ds : List Digit) → number_of ds < 2 ^ length ds
 unfolding number_of
 number_of-lt [] = omega arith
@@ -143,7 +143,7 @@ known_number-lt ds n h =
 pub integer_of-known : (v : Vector) (n : ℕ) → known_number v.digits ≡ Some n → integer_of v ≡ Some (integer_at (length v.digits) v.signed n)
 integer_of-known v n h = (known_parts (λ k. integer_at (length v.digits) v.signed k) (all_known v.digits) (number_of v.digits) n h).0
 
--- the highest bit tells the sign
+-- The highest bit tells the sign
 power_half : (w : ℕ) → 1 ≤ w → 2 ^ w ≡ 2 * 2 ^ (w - 1)
 power_half w h = let e : w ≡ suc (w - 1) = omega arith in ap (λ k. 2 ^ k) e ∙ rw pow-suc (omega arith)
 

@@ -1,5 +1,5 @@
 -- What the code of value texts owes its definitions.
-use Rattle.std.proofs.Common.{◌≡◌, ℕ, ◌+◌, ◌-◌, ◌*◌, ◌/◌, ◌%◌, ◌^◌, ◌<◌, ◌≤◌, List, [], ◌∷◌, length, take, replicate, refl, ap, arith, ◌∙◌, sym, Bool, true, false, cond, eqb, Option, Some, None, inl, inr}
+use Rattle.std.proofs.Common.{◌≡◌, ℕ, suc, ◌+◌, ◌-◌, ◌*◌, ◌/◌, ◌%◌, ◌^◌, ◌<◌, ◌≤◌, List, [], ◌∷◌, length, take, replicate, refl, ap, arith, ◌∙◌, sym, Bool, true, false, cond, eqb, Option, Some, None, inl, inr}
 use Rattle.std.specs.Prelude.{◌&&◌, ◌||◌, not, ℤ, pos, neg_ℤ, ◌+ℤ◌, unsigned_abs}
 use Rattle.std.specs.Char.{digit_value, is_ascii_digit}
 use Rattle.std.specs.List.{list_all, list_any}
@@ -11,19 +11,21 @@ use Rattle.std.proofs.lemmas.List.{length-take-le, take-take, take_all, take-app
 use Rattle.std.proofs.lemmas.Bool.{lt-ltb, le-leb, ltb-true}
 use Rattle.std.proofs.lemmas.Bool.Decides.{eqb_tells}
 use Rattle.std.proofs.lemmas.Nat.{pow_pos, pow-add, shr_split}
-use Rattle.std.proofs.Math.Nat.{mod-eq_of_lt, pow-le-pow_right}
+use Rattle.std.proofs.Math.Nat.{mod-eq_of_lt, pow-suc, pow-le-pow_right}
 use Rattle.vh_logic.specs.declared.digits.Digit.{Digit}
 use Rattle.vh_logic.specs.declared.digits.Digit.TheVariants.{Zero}
+use Rattle.vh_logic.specs.declared.vector.TheConstants.{MAX_WIDTH}
 use Rattle.vh_logic.specs.Number.{binary, wrapped, signed_integer, vector_of}
 use Rattle.vh_logic.specs.Planes.{digits_of}
 use Rattle.vh_text.specs.declared.number.Number.{Number}
 use Rattle.vh_text.specs.Digits.{character_digits, joined, spelled_digits, characters, decimal_number}
 use Rattle.vh_text.specs.Patterns.{number_kept, digits_alone}
-use Rattle.vh_text.specs.Values.{cut_or_padded, string_value, numeral, is_lower_hex, integer_value}
+use Rattle.vh_text.specs.Texts.{group_count}
+use Rattle.vh_text.specs.Values.{cut_or_padded, is_length, string_value, numeral, is_lower_hex, integer_value}
 use Rattle.vh_text.proofs.PatternLemmas.{base_is, digits_of-binary, character_digits-none, short_or}
 use Rattle.vh_text.proofs.LiteralLemmas.{binary-mod}
 
--- what literals alone may have
+-- What literals alone may have
 abbrev pub is_literal_mark : ℕ → Bool
 is_literal_mark b = eqb b 95 || eqb b 63
 
@@ -99,22 +101,23 @@ pub numeral-plain : (bs : List ℕ) → (length bs ≡ 0 → ⊥) → list_any i
 numeral-plain [] h k = absurd (h refl)
 numeral-plain (b ∷ bs) h k = ap (λ (xs : List ℕ). decimal_number xs) (sym (characters-plain (b ∷ bs) k))
 
--- what is kept of digits is enough to cut or pad them
-pub cut_or_padded-take : (w : ℕ) (ds : List Digit) → w ≤ 64 → cut_or_padded w (take 64 ds) ≡ cut_or_padded w ds
+-- What is kept of digits is enough to cut or pad them
+pub cut_or_padded-take : (w : ℕ) (ds : List Digit) → w ≤ MAX_WIDTH → cut_or_padded w (take MAX_WIDTH ds) ≡ cut_or_padded w ds
 cut_or_padded-take w ds h =
-    elim (short_or (length ds) 64) [
-      | inl short ↦ ap (λ (xs : List Digit). cut_or_padded w xs) (take_all 64 ds short)
+    elim (short_or (length ds) MAX_WIDTH) [
+      | inl short ↦ ap (λ (xs : List Digit). cut_or_padded w xs) (take_all MAX_WIDTH ds short)
       | inr long ↦
-          let len : length (take 64 ds) ≡ 64 = length-take-le 64 ds (omega arith) in
+          let len : length (take MAX_WIDTH ds) ≡ MAX_WIDTH = length-take-le MAX_WIDTH ds (omega arith) in
           ap (λ (xs : List Digit). digits_alone xs)
-          (take-append-le w (take 64 ds) (replicate w Zero) (omega (arith, len)) ∙ take-take w 64 ds h ∙ sym (take-append-le w ds (replicate w Zero) (omega arith)))
+          (take-append-le w (take MAX_WIDTH ds) (replicate w Zero) (omega (arith, len)) ∙ take-take w MAX_WIDTH ds h ∙ sym (take-append-le w ds (replicate w Zero) (omega arith)))
     ]
 
-pub string_value-is : (k most w : ℕ) (bs : List ℕ) (ds : List Digit) → (length bs ≡ 0 → ⊥) → length bs ≤ most → spelled_digits k bs ≡ Some ds
-    → string_value k most w bs ≡ Some (cut_or_padded w ds)
-string_value-is k most w bs ds some short e =
-    let some' : 0 < length bs = omega arith in
-    rw (lt-ltb 0 (length bs) some', le-leb (length bs) most short, e) refl
+pub is_length-is : (k : ℕ) (bs : List ℕ) → 0 < length bs → length bs ≤ group_count k MAX_WIDTH → is_length k bs ≡ true
+is_length-is k bs some short = rw (lt-ltb 0 (length bs) some, le-leb (length bs) (group_count k MAX_WIDTH) short) refl
+
+pub string_value-is : (k w : ℕ) (bs : List ℕ) (ds : List Digit) → is_length k bs ≡ true → spelled_digits k bs ≡ Some ds
+    → string_value k w bs ≡ Some (cut_or_padded w ds)
+string_value-is k w bs ds fits e = rw (fits, e) refl
 
 pub from_number : (o : Option ℕ) (m : Number) → Some m ≡ option_map number_kept o → (n : ℕ) × (o ≡ Some n) × (m ≡ number_kept n)
 from_number None m h = cc
@@ -124,13 +127,13 @@ pub not_false : (b : Bool) → not b ≡ false → b ≡ true
 not_false true h = refl
 not_false false h = cc
 
--- a number that fits is kept
+-- A number that fits is kept
 pub kept-fits : (m : Number) (n : ℕ) → m ≡ number_kept n → m.fits ≡ true → m.low ≡ n
 kept-fits m n e fits =
-    let below : n < 2 ^ 64 = ltb-true n (2 ^ 64) (sym (ap (λ (x : Number). x.fits) e) ∙ fits) in
+    let below : n < 2 ^ MAX_WIDTH = ltb-true n (2 ^ MAX_WIDTH) (sym (ap (λ (x : Number). x.fits) e) ∙ fits) in
     ap (λ (x : Number). x.low) e ∙ mod-eq_of_lt below
 
--- an integer modulo 2 ^ w
+-- An integer modulo 2 ^ w
 wrapped_is : (w k m : ℕ) (z : ℤ) → z +ℤ pos (k * 2 ^ w) ≡ pos m → wrapped w z ≡ m % 2 ^ w
 wrapped_is w k m z e = ap (λ (y : ℤ). unsigned_abs y) (int_rem_euclid_is z (pos (2 ^ w)) (2 ^ w) k m (pow_pos w) refl e)
 
@@ -141,14 +144,14 @@ pub digits_of-positive : (w n : ℕ) → digits_of w n 0 ≡ binary w (wrapped w
 digits_of-positive w n =
     digits_of-binary w n ∙ sym (ap (λ m. binary w m) (wrapped_is w 0 n (pos n) (omega (arith, ints))) ∙ binary-mod w w n (omega arith))
 
-pub digits_of-negative : (w n word : ℕ) → w ≤ 64 → (word + n) % 2 ^ 64 ≡ 0 → digits_of w word 0 ≡ binary w (wrapped w (signed_integer true n))
+pub digits_of-negative : (w n word : ℕ) → w ≤ MAX_WIDTH → (word + n) % 2 ^ MAX_WIDTH ≡ 0 → digits_of w word 0 ≡ binary w (wrapped w (signed_integer true n))
 digits_of-negative w n word h none =
-    let q : ℕ = (word + n) / 2 ^ 64 in
-    let whole : q * (2 ^ (64 - w) * 2 ^ w) ≡ word + n = rw (← pow_multiple w 64 h) (let e = shr_split (word + n) 64 in omega arith) in
-    let same : wrapped w (neg_ℤ (pos n)) ≡ word % 2 ^ w = wrapped_is w (q * 2 ^ (64 - w)) word (neg_ℤ (pos n)) (omega (arith, ints, whole)) in
+    let q : ℕ = (word + n) / 2 ^ MAX_WIDTH in
+    let whole : q * (2 ^ (MAX_WIDTH - w) * 2 ^ w) ≡ word + n = rw (← pow_multiple w MAX_WIDTH h) (let e = shr_split (word + n) MAX_WIDTH in omega arith) in
+    let same : wrapped w (neg_ℤ (pos n)) ≡ word % 2 ^ w = wrapped_is w (q * 2 ^ (MAX_WIDTH - w)) word (neg_ℤ (pos n)) (omega (arith, ints, whole)) in
     digits_of-binary w word ∙ sym (ap (λ m. binary w m) same ∙ binary-mod w w word (omega arith))
 
--- the number that hexadecimal digits write when they follow those of n
+-- The number that hexadecimal digits write when they follow those of n
 abbrev pub hex_after : ℕ → List ℕ → Option ℕ
 hex_after n cs = cond (list_all is_lower_hex cs) (Some (digits_value_after 16 n cs)) None
 
@@ -172,9 +175,12 @@ no_choice false d h = refl
 pub from_no_hex : (c : ℕ) → None ≡ cond (is_lower_hex c) (Some (digit_value c)) None → is_lower_hex c ≡ false
 from_no_hex c h = no_choice (is_lower_hex c) (digit_value c) h
 
--- at most 15 digits leave room for one more
-pub room : (n i : ℕ) → n < 16 ^ i → i < 16 → n < 2 ^ 60
-room n i h k = let most : 16 ^ i ≤ 16 ^ 15 = pow-le-pow_right {n = 16} (omega arith) {i = i} {j = 15} (omega arith) in omega (arith, most)
+-- Fewer hexadecimal digits than a plane has leave room for one more
+pub room : (n i : ℕ) → n < 16 ^ i → i < group_count 4 MAX_WIDTH → 16 * n + 16 ≤ 2 ^ MAX_WIDTH
+room n i h k =
+    let power : 16 ^ suc i ≡ 16 * 16 ^ i = rw pow-suc (omega arith) in
+    let most : 16 ^ suc i ≤ 16 ^ group_count 4 MAX_WIDTH = pow-le-pow_right {n = 16} (omega arith) {i = suc i} {j = group_count 4 MAX_WIDTH} (omega arith) in
+    omega (arith, most, power)
 
 pub integer_value-is : (w : ℕ) (negative : Bool) (most n : ℕ) → n ≤ most
     → integer_value w negative most (Some n) ≡ Some (vector_of w false (Some (signed_integer negative n)))

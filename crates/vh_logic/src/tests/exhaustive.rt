@@ -12,8 +12,8 @@ use std::alloc::Global;
 use std::process::Abort;
 use std::test::Fail;
 
-/// Every operator on every two vectors of 1 to 4 digits, signed and not, is what the plain program
-/// makes of their digits.
+// Every operator on every two vectors of 1 to 4 digits, signed and not, is what the plain program
+// makes of their digits.
 #[test]
 fn agrees_with_the_plain_program(rt: HostRuntime) -> Result<(), Fail> {
     let alloc = rt.alloc();
@@ -145,7 +145,7 @@ fn check_comparisons(rt: &impl Abort, alloc: Global, a: &Vec4, b: &Vec4) -> Resu
     Ok(())
 }
 
-/// The operators whose right operand is free.
+// The operators whose right operand is free.
 fn check_free(rt: &impl Abort, alloc: Global, a: &Vec4, b: &Vec4) -> Result<(), Fail> {
     let left = digits(alloc, a)?;
     let right = digits(alloc, b)?;
@@ -185,7 +185,7 @@ fn check_free(rt: &impl Abort, alloc: Global, a: &Vec4, b: &Vec4) -> Result<(), 
     Ok(())
 }
 
-/// Every part of a vector, every part replaced by the lowest digits turned round, and every width.
+// Every part of a vector, every part replaced by the lowest digits turned round, and every width.
 fn check_parts(rt: &impl Abort, alloc: Global, a: &Vec4) -> Result<(), Fail> {
     let list = digits(alloc, a)?;
     for low in 0..a.width() {

@@ -10,7 +10,7 @@ use Rattle.vh_logic.proofs.ArithmeticLemmas.{widths-planes}
 use Rattle.vh_logic.proofs.CompareLemmas.{all_places-vectors}
 use Rattle.vh_logic.proofs.compare.case_equal.Goals as goal
 
--- the second operand is within the width of the first
+-- The second operand is within the width of the first
 below : (c : goal.After-from_test) → (c.b.inside.aval < 2 ^ c.a.inside.width) × (c.b.inside.bval < 2 ^ c.a.inside.width)
 below c = rw (← widths-planes _ _ _ _ _ _ _ _ _ _ c.a.view_is c.b.view_is c.requires) (c.b.invariant.2, c.b.invariant.3)
 

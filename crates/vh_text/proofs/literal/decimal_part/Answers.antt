@@ -7,7 +7,7 @@ use Rattle.vh_text.specs.Literals.{decimal_part}
 use Rattle.vh_text.specs.Patterns.{pattern_of}
 use Rattle.vh_text.proofs.literal.decimal_part.Goals as goal
 
--- one digit is kept whole
+-- One digit is kept whole
 one_digit : (v : Vector) (d : Digit) → v ≡ record { digits = d ∷ []; signed = false } → Some (record { value = v; is_held = true }) ≡ Some (pattern_of (d ∷ []))
 one_digit v d e = let p : Pattern → Option Pattern = λ q. Some q in ap (λ (x : Vector). p (record { value = x; is_held = true })) e
 

@@ -8,7 +8,7 @@ use Rattle.vh_text.proofs.PatternLemmas.{characters-first}
 use Rattle.vh_text.proofs.LiteralLemmas.{lone_letter-many, lone_letter-x, lone_letter-z, characters-none}
 use Rattle.vh_text.proofs.literal.lone_letter.Goals as goal
 
--- a text of one byte and underscores
+-- A text of one byte and underscores
 alone : (bs rest : List ℕ) (b letter : ℕ) → bs ≡ b ∷ rest → IsSome (spelled bs) → list_all (λ x. eqb x 95) rest ≡ true → letter ≡ question_as_z b
     → characters bs ≡ letter ∷ []
 alone bs rest b letter e begun marks is =

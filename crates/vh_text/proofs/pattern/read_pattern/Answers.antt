@@ -9,7 +9,7 @@ use Rattle.vh_text.proofs.PatternLemmas.{characters-first, characters-next, char
 use Rattle.vh_text.proofs.pattern.read_pattern.Goals as goal
 use Rattle.vh_text.proofs.pattern.read_pattern.Goals.{then-b-ne95+in_ok-digits, else-b-ne95}
 
--- what is left of a text, by its next byte
+-- What is left of a text, by its next byte
 left-digit : (rest : List ℕ) (i : ℕ) → i < length rest → (get_or rest i 0 ≡ 95 → ⊥)
     → characters (drop i rest) ≡ question_as_z (get_or rest i 0) ∷ characters (drop (i + 1) rest)
 left-digit rest i h n = ap (λ (xs : List ℕ). characters xs) (drop_more rest i 0 h) ∙ characters-next (get_or rest i 0) (drop (i + 1) rest) n

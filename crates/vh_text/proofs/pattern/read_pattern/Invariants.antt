@@ -4,7 +4,7 @@ use Rattle.vh_text.specs.Digits.{spelled_digits, characters, joined}
 use Rattle.vh_text.specs.Patterns.{pattern_of}
 use Rattle.vh_text.proofs.pattern.read_pattern.Given as goal
 
--- the digits that are read so far, and those of the whole text by what is left of it
+-- The digits that are read so far, and those of the whole text by what is left of it
 abbrev pub invariant-loop-b : goal.invariant-loop-b
 invariant-loop-b l =
     (ds : List Digit)
