@@ -4,7 +4,7 @@ ghost use Rattle.vh_logic.specs.Vector.{width_of};
 use super::plain;
 use super::plain::{Arithmetic, Bitwise, Shift, digits};
 use crate::{
-    Digit, Vec4, add, and, case_equal, casex_equal, casez_equal, concat, div, equal, invert, less,
+    Digit, Plane, Vec4, add, and, case_equal, casex_equal, casez_equal, concat, div, equal, invert, less,
     merge, mul, negate, or, pow, reduce_and, reduce_or, reduce_xor, rem, replace, resize, select,
     shl, shr, sshr, sub, truth, xnor, xor,
 };
@@ -18,7 +18,7 @@ use std::test::Fail;
 fn agrees_with_the_plain_program(rt: HostRuntime) -> Result<(), Fail> {
     let alloc = rt.alloc();
     for width in 1..5u32 {
-        let count: u64 = 1 << width;
+        let count: Plane = 1 << width;
         for aval in 0..count {
             for bval in 0..count {
                 for signed in [false, true] {
@@ -34,7 +34,7 @@ fn agrees_with_the_plain_program(rt: HostRuntime) -> Result<(), Fail> {
 }
 
 fn check_with_all(rt: &impl Abort, alloc: Global, a: &Vec4) -> Result<(), Fail> {
-    let count: u64 = if a.width() < 4 { 8 } else { 16 };
+    let count: Plane = if a.width() < 4 { 8 } else { 16 };
     for aval in 0..count {
         for bval in 0..count {
             let b = Vec4::from_planes(a.width(), aval, bval, a.is_signed());

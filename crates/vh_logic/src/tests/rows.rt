@@ -4,7 +4,7 @@ use crate::{
     replace, resize, select, shl, shr, sshr, sub, truth, xnor, xor,
 };
 
-const HALF: Plane = 0x8000_0000_0000_0000;
+const HALF: Plane = 1 << (MAX_WIDTH - 1);
 
 // How a row writes a vector.
 #[derive(Clone, Copy)]
@@ -28,7 +28,9 @@ fn vector(written: Written) -> Option<Vec4> {
             if width == 0 || width > MAX_WIDTH {
                 return None;
             }
-            Some(Vec4::from_planes(width, integer.cast_unsigned(), 0, true))
+            let size = Plane::from(integer.unsigned_abs());
+            let word = if integer < 0 { size.wrapping_neg() } else { size };
+            Some(Vec4::from_planes(width, word, 0, true))
         }
         Wide(number) => Some(Vec4::from_planes(MAX_WIDTH, number, 0, false)),
         SignedX(width) => {
