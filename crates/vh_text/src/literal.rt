@@ -171,7 +171,8 @@ fn digits_part(size: Size, signed: bool, base: Radix, bytes: &[u8]) -> Result<Ve
 fn decimal_part(size: Size, signed: bool, bytes: &[u8]) -> Result<Vec4, LiteralFault>
     requires width { HasWidth size }
     requires begun { IsSome (spelled bytes.now) }
-    ensures { result ≡ decimal_part size signed (characters bytes.now) (lone_letter (characters bytes.now)) }
+    ensures { result
+        ≡ decimal_part size signed (characters bytes.now) (lone_letter (characters bytes.now)) }
 {
     if let Some(digit) = lone_letter(bytes) {
         let pattern = Pattern {

@@ -4,9 +4,9 @@ ghost use Rattle.vh_logic.specs.Vector.{width_of};
 use super::plain;
 use super::plain::{Arithmetic, Bitwise, Shift, digits};
 use crate::{
-    Digit, Plane, Vec4, add, and, case_equal, casex_equal, casez_equal, concat, div, equal, invert, less,
-    merge, mul, negate, or, pow, reduce_and, reduce_or, reduce_xor, rem, replace, resize, select,
-    shl, shr, sshr, sub, truth, xnor, xor,
+    Digit, Plane, Vec4, add, and, case_equal, casex_equal, casez_equal, concat, div, equal, invert,
+    less, merge, mul, negate, or, pow, reduce_and, reduce_or, reduce_xor, rem, replace, resize,
+    select, shl, shr, sshr, sub, truth, xnor, xor,
 };
 use std::alloc::Global;
 use std::process::Abort;

@@ -29,7 +29,11 @@ fn vector(written: Written) -> Option<Vec4> {
                 return None;
             }
             let size = Plane::from(integer.unsigned_abs());
-            let word = if integer < 0 { size.wrapping_neg() } else { size };
+            let word = if integer < 0 {
+                size.wrapping_neg()
+            } else {
+                size
+            };
             Some(Vec4::from_planes(width, word, 0, true))
         }
         Wide(number) => Some(Vec4::from_planes(MAX_WIDTH, number, 0, false)),
