@@ -1,0 +1,4 @@
+-- Lists that are written at one place
+pub mod ListsLemmas
+-- Slots and a slab before and after each call
+pub mod KeptLemmas

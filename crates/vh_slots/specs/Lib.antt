@@ -1,0 +1,4 @@
+-- Slots as cells, and what each call makes of them
+pub mod Table
+-- How slots and a slab hold the cells
+pub mod Kept
