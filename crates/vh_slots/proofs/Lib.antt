@@ -2,3 +2,5 @@
 pub mod ListsLemmas
 -- Slots and a slab before and after each call
 pub mod KeptLemmas
+-- Runs of calls
+pub mod LawsLemmas

@@ -2,3 +2,5 @@
 pub mod Table
 -- How slots and a slab hold the cells
 pub mod Kept
+-- Runs of calls: a key is given once, and how many slots there are
+pub mod Laws

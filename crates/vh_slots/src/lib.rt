@@ -12,8 +12,10 @@
 //! It stands on `slab`, which holds the values.
 #![tactic(auto)]
 
+mod laws;
 mod slots;
 
+pub use laws::slots_laws;
 pub use slots::{GENERATIONS, GiveFault, Key, Slots};
 
 #[cfg(test)]
