@@ -1,6 +1,6 @@
 -- What links hold, and go on holding.
-use Rattle.std.proofs.Common.{◌≡◌, ℕ, zero, suc, ◌+◌, ◌-◌, ◌<◌, ◌≤◌, ◌^◌, List, [], ◌∷◌, ◌++◌, length, get_or, set, map, replicate, refl, ap, arith, ◌∙◌, sym, subst, Bool, true, false, eqb, Option, Some, None, ◌⊎◌, inl, inr, append-nil}
-use Rattle.std.specs.List.{slice_get, range_with_len, find}
+use Rattle.std.proofs.Common.{◌≡◌, ℕ, zero, suc, ◌+◌, ◌-◌, ◌<◌, ◌≤◌, ◌^◌, List, [], ◌∷◌, ◌++◌, length, get_or, set, replicate, refl, ap, arith, ◌∙◌, sym, subst, true, false, Option, ◌⊎◌, inl, inr, append-nil}
+use Rattle.std.specs.List.{slice_get}
 use Rattle.std.specs.Option.{option_and_then}
 use Rattle.std.proofs.lemmas.Bool.{lt-ltb, le-ltb, eq-eqb, ne_eqb}
 use Rattle.std.proofs.lemmas.Bool.Decides.{eqb_tells}
@@ -10,7 +10,7 @@ use Rattle.std.proofs.lemmas.Map.Steps.{length-le_from_distinct_below}
 use Rattle.vh_links.specs.declared.links.Link.{Link}
 use Rattle.vh_links.specs.Lists.{Lists, has, is_linked, list_of, with_list, after_add, after_push, after_unlink, after_move, without, behind, next_of}
 use Rattle.vh_links.specs.Rings.{next_at, prev_at, nodes_from, lists_in, Goes, IsApart, IsClosed, Holds, Joins, node_of, nowhere}
-use Rattle.vh_links.proofs.ListsLemmas.{has-head, has-right, has-left, has-parts, has-one, not_one, has-none, has-cases, has-without, apart-append, apart-left, apart-right, apart-both, apart-without, parted, without-none, without-at, behind-at, distinct, any-none, any-at, find-only, get_or-map, length-mapped, get_or-copies}
+use Rattle.vh_links.proofs.ListsLemmas.{has-head, has-right, has-left, has-parts, has-one, not_one, has-cases, has-without, apart-append, apart-left, apart-right, apart-both, apart-without, parted, without-none, without-at, behind-at, distinct, any-none, any-at, find-only, get_or-map, length-mapped, get_or-copies}
 use Rattle.vh_links.proofs.RingsLemmas.{next-same, prev-same, Misses, misses-anchor, misses-node, misses-head, misses-tail, last_place, last-other, prev-last, goes-on, goes-to, goes-append, goes-split, nodes-on_way}
 
 -- What contracts see of links that hold lists

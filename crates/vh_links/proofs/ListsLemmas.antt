@@ -1,6 +1,6 @@
 -- What holds of the nodes of a list.
-use Rattle.std.proofs.Common.{◌≡◌, ℕ, zero, suc, ◌<◌, List, [], ◌∷◌, ◌++◌, length, get_or, map, replicate, refl, ap, arith, ◌∙◌, sym, Bool, true, false, cond, eqb, Option, Some, None, inl, inr}
-use Rattle.std.specs.Prelude.{◌||◌, not, filter}
+use Rattle.std.proofs.Common.{◌≡◌, ℕ, zero, suc, ◌<◌, List, [], ◌∷◌, ◌++◌, length, get_or, map, replicate, refl, ap, arith, ◌∙◌, sym, Bool, true, false, cond, eqb, Some, inl, inr}
+use Rattle.std.specs.Prelude.{◌||◌, not}
 use Rattle.std.specs.List.{find, list_any, slice_get, IsDistinct, AllByRecursion}
 use Rattle.std.proofs.lemmas.Bool.{eq-eqb, ne_eqb}
 use Rattle.std.proofs.lemmas.Bool.Decides.{eqb_tells}

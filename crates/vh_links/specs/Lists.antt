@@ -1,5 +1,5 @@
 -- Lists of nodes, one for each anchor, and what each call makes of them (own).
-use Rattle.std.specs.Prelude.{ℕ, ◌+◌, ◌==◌, Bool, not, if◌then◌else◌, List, [], ◌∷◌, ◌++◌, map, filter, Option, Some, None, slice_index_or, slice_set}
+use Rattle.std.specs.Prelude.{ℕ, ◌+◌, ◌==◌, Bool, not, if◌then◌else◌, List, [], ◌∷◌, ◌++◌, map, filter, Option, None, slice_index_or, slice_set}
 use Rattle.std.specs.List.{find, list_any, slice_get}
 use Rattle.std.specs.Option.{option_and_then}
 

@@ -1,18 +1,17 @@
 -- What slots and a slab hold, before and after each call.
-use Rattle.std.proofs.Common.{◌≡◌, ℕ, zero, suc, ◌+◌, ◌-◌, ◌<◌, ◌≤◌, ◌^◌, List, [], ◌∷◌, ◌++◌, length, get_or, set, map, refl, ap, arith, ◌∙◌, sym, subst, Bool, true, false, cond, eqb, ltb, leb, Option, Some, None, inl, inr}
-use Rattle.std.specs.Prelude.{IsSome, is_some, count_by, not, ◌&&◌, nat_le, nat_lt}
+use Rattle.std.proofs.Common.{◌≡◌, ℕ, zero, suc, ◌+◌, ◌<◌, ◌≤◌, ◌^◌, List, [], ◌∷◌, ◌++◌, length, set, map, refl, ap, arith, ◌∙◌, sym, subst, Bool, true, false, cond, ltb, leb, Option, Some, None, inl, inr}
+use Rattle.std.specs.Prelude.{IsSome, is_some, count_by, not, ◌&&◌}
 use Rattle.std.specs.List.{list_any, slice_get}
 use Rattle.std.proofs.lemmas.Bool.{eq-eqb, ne_eqb, lt-ltb, ltb-true, le-leb, leb-true}
 use Rattle.std.proofs.lemmas.Bool.Decides.{eqb_tells, leb_tells}
 use Rattle.std.proofs.lemmas.List.{get_or-set_same, get_or-set_other, set-get_or, length-set, length-append}
-use Rattle.std.proofs.lemmas.List.Sums.{count_by-le-length}
 use Rattle.slab.specs.Slab.{Slab, get, slab_len, Updates}
 use Rattle.vh_slots.specs.declared.slots.TheConstants.{GENERATIONS}
 use Rattle.vh_slots.specs.declared.slots.Key.{Key}
 use Rattle.vh_slots.specs.declared.slots.Slot.{Slot}
-use Rattle.vh_slots.specs.Table.{Cell, Table, value_at, held, held_count, is_full, is_free, with_cell, after_take, after_replace, Reuses, Opens, Gives, GivesBy}
-use Rattle.vh_slots.specs.Kept.{nothing, slot_at, place_in, place_of, has, IsApart, Chains, is_over, value_in, cell_of, table_in, IsSound}
-use Rattle.vh_slots.proofs.ListsLemmas.{map-same, map-write, map-append, bit, count-write, count-append, count-same, has-head, has-tail, has-rest, any-none, any-mapped, get-mapped, at-before, at-end, at-past, default-other, length-mapped}
+use Rattle.vh_slots.specs.Table.{Cell, value_at, held_count, is_full, is_free, with_cell, Gives, GivesBy}
+use Rattle.vh_slots.specs.Kept.{nothing, slot_at, place_in, has, IsApart, Chains, is_over, value_in, cell_of, table_in, IsSound}
+use Rattle.vh_slots.proofs.ListsLemmas.{map-same, map-write, map-append, bit, count-write, count-append, count-same, has-head, has-tail, has-rest, any-none, any-mapped, get-mapped, at-before, at-end, at-past, length-mapped}
 
 -- A key that is found, by its slot
 pub place-found : (g : ℕ) (slots : List Slot) (i k : ℕ) → place_in g (slice_get slots i) ≡ Some k

@@ -1,14 +1,14 @@
 -- That a key is given once, and how many slots there are.
-use Rattle.std.proofs.Common.{◌≡◌, ℕ, zero, suc, ◌+◌, ◌-◌, ◌*◌, ◌<◌, ◌≤◌, List, [], ◌∷◌, ◌++◌, length, set, refl, ap, arith, ◌∙◌, sym, subst, Bool, true, false, cond, eqb, ltb, Option, Some, None, inl, inr}
+use Rattle.std.proofs.Common.{◌≡◌, ℕ, zero, suc, ◌+◌, ◌-◌, ◌*◌, ◌^◌, ◌<◌, ◌≤◌, List, [], ◌∷◌, ◌++◌, length, set, refl, ap, arith, ◌∙◌, sym, subst, Bool, true, false, cond, ltb, leb, Option, Some, None, inl, inr}
 use Rattle.std.specs.Prelude.{IsSome, is_some, count_by, not, ◌&&◌, ◌||◌}
 use Rattle.std.specs.List.{list_any, slice_get, sum_by}
 use Rattle.std.proofs.lemmas.Bool.{eq-eqb, ne_eqb, lt-ltb}
-use Rattle.std.proofs.lemmas.Bool.Decides.{eqb_tells}
+use Rattle.std.proofs.lemmas.Bool.Decides.{eqb_tells, leb_tells}
 use Rattle.std.proofs.lemmas.List.{length-set, length-append}
 use Rattle.std.proofs.lemmas.List.Sums.{sum_by-cons, sum_by_push}
 use Rattle.vh_slots.specs.declared.slots.TheConstants.{GENERATIONS}
 use Rattle.vh_slots.specs.declared.slots.Key.{Key}
-use Rattle.vh_slots.specs.Table.{Cell, Table, value_at, held, held_count, is_retired, is_free, with_cell, after_take, after_replace, Reuses, Opens, Gives, GivesBy}
+use Rattle.vh_slots.specs.Table.{Cell, Table, value_at, held, held_count, is_full, is_retired, is_free, with_cell, after_take, GivesBy}
 use Rattle.vh_slots.specs.Laws.{Call, Give, Take, Replace, Makes, IsRun, end_of, GivesOther, NeverGiven, HoldAtMost, keys_of, given_count, IsOver, IsBounded, empty}
 use Rattle.vh_slots.proofs.ListsLemmas.{bit, count-cons}
 
@@ -61,6 +61,10 @@ sum-written f (z ∷ xs) (suc i) x y h =
     let old = sum_by-cons f z xs in
     let new = sum_by-cons f z (set xs i y) in
     omega (arith, old, new, sum-written f xs i x y h)
+
+below-limit : (limit n : ℕ) → leb limit n ≡ false → n < limit
+below-limit limit n h =
+    elim (leb_tells limit n) [ inl e ↦ let yes : leb limit n ≡ true = e.0 in cc | inr e ↦ e.1 ]
 
 module _ {T : Type 0} where
   -- The cell of a key that has a value
@@ -129,7 +133,7 @@ module _ {T : Type 0} where
   )
 
   spent-step : (key : Key) (call : Call T) (old new : Table T) → IsSpent key old → Makes call old new → GivesOther key call × IsSpent key new
-  spent-step key (Give k v) old new s m = spent-given key k v (list_any is_free old.cells) old new s m
+  spent-step key (Give k v) old new s m = spent-given key k v (list_any is_free old.cells) old new s m.1
   spent-step key (Take k) old new s m =
       let f = found old k m.0 in
       (tt, subst (λ (t : Table T). IsSpent key t) (sym m.1) (spent-write key old k.slot f.cell (record { generation = k.generation + 1; value = None }) s f.at (omega (arith, f.generation))))
@@ -196,18 +200,18 @@ module _ {T : Type 0} where
       by_bool (bit (has_value c) + bit (is_retired c) ≡ 1) (has_value c)
       (λ e. let a = ap bit e in let b = ap bit (ne_eqb c.generation GENERATIONS (λ q. omega (arith, q, f.used e))) in omega (arith, a, b))
       (λ e.
-          let a = ap bit e in
-          let left : ltb c.generation GENERATIONS ≡ false = sym (ap (λ (b : Bool). not b && ltb c.generation GENERATIONS) e) ∙ h in
-          let last : c.generation ≡ GENERATIONS =
-          elim (eqb_tells c.generation GENERATIONS) [
-            | inl q ↦ q.1
-            | inr q ↦
-                let ne : c.generation ≡ GENERATIONS → ⊥ = q.1 in
-                let yes : ltb c.generation GENERATIONS ≡ true = lt-ltb c.generation GENERATIONS (omega (arith, f.to)) in
-                cc
-          ] in
-          let b = ap bit (eq-eqb c.generation GENERATIONS last) in
-          omega (arith, a, b))
+      let a = ap bit e in
+      let left : ltb c.generation GENERATIONS ≡ false = sym (ap (λ (b : Bool). not b && ltb c.generation GENERATIONS) e) ∙ h in
+      let last : c.generation ≡ GENERATIONS =
+      elim (eqb_tells c.generation GENERATIONS) [
+        | inl q ↦ q.1
+        | inr q ↦
+            let ne : c.generation ≡ GENERATIONS → ⊥ = q.1 in
+            let yes : ltb c.generation GENERATIONS ≡ true = lt-ltb c.generation GENERATIONS (omega (arith, f.to)) in
+            cc
+      ] in
+      let b = ap bit (eq-eqb c.generation GENERATIONS last) in
+      omega (arith, a, b))
 
   none-free : (first : ℕ) (cs : List (Cell T)) → AllFit first cs → list_any is_free cs ≡ false → length cs ≡ count_by has_value cs + count_by is_retired cs
   none-free first [] a h = refl
@@ -286,7 +290,7 @@ module _ {T : Type 0} where
 
   kept-step : (first most given : ℕ) (call : Call T) (old new : Table T) → IsKept first most given old → held_count new ≤ most → Makes call old new
       → IsKept first most (given + keys_of call) new
-  kept-step first most given (Give k v) old new kept few m = kept-given first most given k v (list_any is_free old.cells) old new refl kept few m
+  kept-step first most given (Give k v) old new kept few m = kept-given first most given k v (list_any is_free old.cells) old new refl kept few m.1
   kept-step first most given (Take k) old new kept few m =
       let f = found old k m.0 in
       let was = fit-at first old.cells k.slot f.cell kept.fit f.at in
@@ -330,3 +334,46 @@ module _ {T : Type 0} where
       let keys = end.keys in
       let all = all-uses first (end_of (empty limit first) ms).cells in
       record { slots = end.slots; keys = omega (arith, keys, all) }
+
+  -- No more values are held than may be
+  record IsWithin (limit : ℕ) (t : Table T) : Type 0 where
+    same : t.limit ≡ limit
+    most : held_count t ≤ limit
+
+  within-given : (limit : ℕ) (k : Key) (v : T) (b : Bool) (old new : Table T) → IsWithin limit old → is_full old ≡ false → GivesBy b k v old new → IsWithin limit new
+  within-given limit k v true old new w room g =
+      let c : Cell T = record { generation = k.generation; value = Some v } in
+      let gain = sum-written (λ x. bit (is_some x.value)) old.cells k.slot _ c g.free in
+      let less = below-limit old.limit (held_count old) room in
+      subst (λ (t : Table T). IsWithin limit t) (sym g.after) (record { same = w.same; most = omega (arith, gain, less, w.same) })
+  within-given limit k v false old new w room g =
+      let gain = sum_by_push (λ (x : Cell T). bit (is_some x.value)) old.cells (record { generation = old.first; value = Some v }) in
+      let less = below-limit old.limit (held_count old) room in
+      subst (λ (t : Table T). IsWithin limit t) (sym g.after) (record { same = w.same; most = omega (arith, gain, less, w.same) })
+
+  within-write : (limit i : ℕ) (t : Table T) (was c : Cell T) → IsWithin limit t → slice_get t.cells i ≡ Some was → is_some was.value ≡ true → IsWithin limit (with_cell i c t)
+  within-write limit i t was c w at some =
+      let gain = sum-written (λ x. bit (is_some x.value)) t.cells i was c at in
+      let one = ap bit some in
+      let most : bit (is_some c.value) ≤ 1 = by_bool (bit (is_some c.value) ≤ 1) (is_some c.value) (λ e. let b = ap bit e in omega (arith, b)) (λ e. let b = ap bit e in omega (arith, b)) in
+      record { same = w.same; most = omega (arith, gain, one, most, w.most) }
+
+  within-step : (limit : ℕ) (call : Call T) (old new : Table T) → IsWithin limit old → Makes call old new → IsWithin limit new
+  within-step limit (Give k v) old new w m = within-given limit k v (list_any is_free old.cells) old new w m.0 m.1
+  within-step limit (Take k) old new w m =
+      let f = found old k m.0 in
+      subst (λ (t : Table T). IsWithin limit t) (sym m.1) (within-write limit k.slot old f.cell (record { generation = k.generation + 1; value = None }) w f.at f.some)
+  within-step limit (Replace k v) old new w m =
+      let f = found old k m.0 in
+      subst (λ (t : Table T). IsWithin limit t) (sym m.1) (within-write limit k.slot old f.cell (record { generation = k.generation; value = Some v }) w f.at f.some)
+
+  within-run : (limit : ℕ) (t : Table T) (ms : List (Call T × Table T)) → IsWithin limit t → IsRun t ms → HoldAtMost limit ms
+  within-run limit t [] w r = tt
+  within-run limit t (m ∷ ms) w r = let step = within-step limit m.0 t m.1 w r.0 in (step.most, within-run limit m.1 ms step r.1)
+
+  -- Slots never run out, where they begin with generation 0
+  pub room : (limit : ℕ) (ms : List (Call T × Table T)) → limit < 2 ^ 31 → IsRun (empty limit 0) ms → given_count ms < 2 ^ 63
+      → length (end_of (empty limit 0) ms).cells < 2 ^ 32 - 1
+  room limit ms small run given =
+      let b = bounded limit 0 limit ms (omega arith) run (within-run limit (empty limit 0) ms (record { same = refl; most = omega arith }) run) in
+      omega (arith, b.slots, b.keys)

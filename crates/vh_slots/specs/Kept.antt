@@ -1,5 +1,5 @@
 -- How slots and a slab hold the cells (own). A slot knows its generation, where its value is, and the free slot behind it.
-use Rattle.std.specs.Prelude.{ℕ, ◌≡◌, ◌<◌, ◌≤◌, ◌^◌, ◌==◌, Bool, true, false, if◌then◌else◌, List, [], ◌∷◌, map, length, Option, Some, None, IsSome, is_some, slice_index_or, count_by}
+use Rattle.std.specs.Prelude.{ℕ, ◌≡◌, ◌<◌, ◌^◌, ◌==◌, Bool, true, false, if◌then◌else◌, List, [], ◌∷◌, map, length, Option, Some, None, IsSome, is_some, slice_index_or, count_by}
 use Rattle.std.specs.List.{list_any, slice_get}
 use Rattle.slab.specs.Slab.{Slab, get, slab_len}
 use Rattle.vh_slots.specs.declared.slots.TheConstants.{GENERATIONS}

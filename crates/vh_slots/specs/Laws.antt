@@ -1,8 +1,8 @@
 -- What holds of slots over whole runs of calls.
-use Rattle.std.specs.Prelude.{ℕ, ◌≡◌, ◌≢◌, ◌+◌, ◌-◌, ◌*◌, ◌<◌, ◌≤◌, ◌^◌, List, [], ◌∷◌, length, Option, Some, None, IsSome, count_by}
+use Rattle.std.specs.Prelude.{ℕ, ◌≡◌, ◌≢◌, ◌+◌, ◌-◌, ◌*◌, ◌≤◌, false, List, [], ◌∷◌, length, None, IsSome, count_by}
 use Rattle.vh_slots.specs.declared.slots.TheConstants.{GENERATIONS}
 use Rattle.vh_slots.specs.declared.slots.Key.{Key}
-use Rattle.vh_slots.specs.Table.{Table, held, held_count, is_retired, after_take, after_replace, Gives}
+use Rattle.vh_slots.specs.Table.{Table, held, held_count, is_full, is_retired, after_take, after_replace, Gives}
 
 -- A call that changes the table
 pub data Call (T : Type 0) : Type 0 where
@@ -13,7 +13,7 @@ pub data Call (T : Type 0) : Type 0 where
 module _ {T : Type 0} where
   -- What a call that is answered makes of the table: the contracts of `give`, `take` and `replace`
   abbrev pub Makes : Call T → Table T → Table T → Type 0
-  Makes (Give key v) old new = Gives key v old new
+  Makes (Give key v) old new = (is_full old ≡ false) × Gives key v old new
   Makes (Take key) old new = IsSome (held key old) × (new ≡ after_take key old)
   Makes (Replace key v) old new = IsSome (held key old) × (new ≡ after_replace key v old)
 

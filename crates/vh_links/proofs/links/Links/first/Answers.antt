@@ -1,4 +1,4 @@
-use Rattle.std.proofs.Common.{◌≡◌, ℕ, ◌<◌, List, ap, arith, ◌∙◌, subst}
+use Rattle.std.proofs.Common.{ℕ, ◌<◌, List, ap, arith, ◌∙◌, subst}
 use Rattle.vh_links.specs.declared.links.Link.{Link}
 use Rattle.vh_links.specs.Lists.{Lists, list_of}
 use Rattle.vh_links.specs.Rings.{Holds, node_of}

@@ -1,5 +1,4 @@
 use Rattle.std.proofs.Common.{[], replicate}
-use Rattle.vh_links.specs.Lists.{Lists}
 use Rattle.vh_links.specs.Rings.{Holds}
 use Rattle.vh_links.proofs.HoldsLemmas.{lists_in-is, holds-seen, holds-new}
 use Rattle.vh_links.proofs.links.Links.new.Goals as goal

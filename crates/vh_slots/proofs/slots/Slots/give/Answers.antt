@@ -1,12 +1,9 @@
 use Rattle.std.proofs.Common.{◌≡◌, ℕ, ◌+◌, ◌-◌, ◌<◌, ◌^◌, List, [], ◌∷◌, ◌++◌, length, get_or, set, refl, ap, arith, ◌∙◌, sym, subst, true, false, rules, Option, Some, None}
 use Rattle.slab.specs.Slab.{Slab, get, slab_len, Updates}
 use Rattle.vh_slots.specs.declared.slots.TheConstants.{GENERATIONS}
-use Rattle.vh_slots.specs.declared.slots.Key.{Key}
 use Rattle.vh_slots.specs.declared.slots.Slot.{Slot}
-use Rattle.vh_slots.specs.Table.{Table, held, is_full, with_cell, after_take, after_replace, Gives}
-use Rattle.vh_slots.specs.Kept.{slot_at, place_of, value_in, table_in, IsSound, nothing}
-use Rattle.std.proofs.lemmas.List.Sums.{count_by-le-length}
-use Rattle.vh_slots.specs.Kept.{is_over}
+use Rattle.vh_slots.specs.Table.{Table, is_full, Gives}
+use Rattle.vh_slots.specs.Kept.{slot_at, table_in, IsSound, nothing}
 use Rattle.vh_slots.proofs.ListsLemmas.{default-other, length-mapped}
 use Rattle.vh_slots.proofs.KeptLemmas.{full-true, full-false, head-free, sound-open, sound-reuse, gives-open, gives-reuse}
 use Rattle.vh_slots.proofs.slots.Slots.give.Goals as goal

@@ -1,13 +1,6 @@
-use Rattle.std.proofs.Common.{◌≡◌, ℕ, ◌+◌, ◌-◌, ◌<◌, ◌^◌, List, [], ◌∷◌, ◌++◌, length, set, refl, ap, arith, ◌∙◌, sym, subst, true, false, rules, Option, Some, None}
-use Rattle.slab.specs.Slab.{Slab, get, slab_len, Updates}
-use Rattle.vh_slots.specs.declared.slots.TheConstants.{GENERATIONS}
-use Rattle.vh_slots.specs.declared.slots.Key.{Key}
-use Rattle.vh_slots.specs.declared.slots.Slot.{Slot}
-use Rattle.vh_slots.specs.Table.{Table, held, is_full, with_cell, after_take, after_replace, Gives}
-use Rattle.vh_slots.specs.Kept.{slot_at, place_of, value_in, table_in, IsSound, nothing}
-use Rattle.std.proofs.lemmas.List.Sums.{count_by-le-length}
-use Rattle.vh_slots.specs.Kept.{is_over}
-use Rattle.vh_slots.proofs.ListsLemmas.{default-other, length-mapped}
+use Rattle.std.proofs.Common.{ap, ◌∙◌, sym}
+use Rattle.vh_slots.specs.Table.{Table, held, after_replace}
+use Rattle.vh_slots.specs.Kept.{value_in}
 use Rattle.vh_slots.proofs.KeptLemmas.{place-found, held-is, replaced-is}
 use Rattle.vh_slots.proofs.slots.Slots.replace.Goals as goal
 
