@@ -17,29 +17,29 @@ use Rattle.vh_logic.specs.declared.vector.TheConstants.{MAX_WIDTH}
 use Rattle.vh_logic.specs.Number.{binary, number_of}
 use Rattle.vh_logic.specs.Planes.{digit_of, digits_of, plane_of, aval_bit, bval_bit}
 use Rattle.vh_text.specs.Texts.{groups_text, group_count, character_text, digits_text, vector_text}
-use Rattle.vh_text.specs.Digits.{character_digits, joined, spelled_digits}
+use Rattle.vh_text.specs.Digits.{character_digits, joined_digits, spelled_digits}
 use Rattle.vh_text.specs.Patterns.{digits_alone}
 use Rattle.vh_text.specs.Values.{string_value, cut_or_padded, is_lower_hex, has_plane_form, plane_value, planes_value, parted_value}
 use Rattle.vh_text.proofs.HexLemmas.{text-hex, text-length, text-first, text-zero}
 use Rattle.vh_text.proofs.ValueLemmas.{is_length-is, string_value-is}
 
 -- Joined parts, in any order of joining
-joined-assoc : (a b c : Option (List Digit)) → joined (joined a b) c ≡ joined a (joined b c)
-joined-assoc None b c = refl
-joined-assoc (Some a) None c = refl
-joined-assoc (Some a) (Some b) None = refl
-joined-assoc (Some a) (Some b) (Some c) = ap Some (append_assoc a b c)
+joined_digits-assoc : (a b c : Option (List Digit)) → joined_digits (joined_digits a b) c ≡ joined_digits a (joined_digits b c)
+joined_digits-assoc None b c = refl
+joined_digits-assoc (Some a) None c = refl
+joined_digits-assoc (Some a) (Some b) None = refl
+joined_digits-assoc (Some a) (Some b) (Some c) = ap Some (append_assoc a b c)
 
-joined-end : (a : Option (List Digit)) → joined a (Some []) ≡ a
-joined-end None = refl
-joined-end (Some a) = ap Some (append-nil a)
+joined_digits-end : (a : Option (List Digit)) → joined_digits a (Some []) ≡ a
+joined_digits-end None = refl
+joined_digits-end (Some a) = ap Some (append-nil a)
 
-spelled_digits-append : (k : ℕ) (xs ys : List ℕ) → spelled_digits k (xs ++ ys) ≡ joined (spelled_digits k ys) (spelled_digits k xs)
+spelled_digits-append : (k : ℕ) (xs ys : List ℕ) → spelled_digits k (xs ++ ys) ≡ joined_digits (spelled_digits k ys) (spelled_digits k xs)
 unfolding spelled_digits
-spelled_digits-append k [] ys = sym (joined-end (spelled_digits k ys))
+spelled_digits-append k [] ys = sym (joined_digits-end (spelled_digits k ys))
 spelled_digits-append k (x ∷ xs) ys =
-    ap (λ (o : Option (List Digit)). joined o (character_digits k x)) (spelled_digits-append k xs ys)
-    ∙ joined-assoc (spelled_digits k ys) (spelled_digits k xs) (character_digits k x)
+    ap (λ (o : Option (List Digit)). joined_digits o (character_digits k x)) (spelled_digits-append k xs ys)
+    ∙ joined_digits-assoc (spelled_digits k ys) (spelled_digits k xs) (character_digits k x)
 
 -- One digit, written and read
 spelled_digit : (d : Digit) → spelled_digits 1 (character_text (d ∷ [])) ≡ Some (d ∷ [])
@@ -61,8 +61,8 @@ unfolding groups_text spelled_digits
 spelled_digits-binary [] = refl
 spelled_digits-binary (d ∷ ds) =
     spelled_digits-append 1 (groups_text (length ds) 1 ds) (character_text (d ∷ []))
-    ∙ ap (λ (o : Option (List Digit)). joined o (spelled_digits 1 (groups_text (length ds) 1 ds))) (spelled_digit d)
-    ∙ ap (λ (o : Option (List Digit)). joined (Some (d ∷ [])) o) (spelled_digits-binary ds)
+    ∙ ap (λ (o : Option (List Digit)). joined_digits o (spelled_digits 1 (groups_text (length ds) 1 ds))) (spelled_digit d)
+    ∙ ap (λ (o : Option (List Digit)). joined_digits (Some (d ∷ [])) o) (spelled_digits-binary ds)
 
 length-binary : (ds : List Digit) → length (groups_text (length ds) 1 ds) ≡ length ds
 unfolding groups_text

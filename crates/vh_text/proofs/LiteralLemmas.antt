@@ -18,7 +18,7 @@ use Rattle.vh_logic.specs.declared.vector.TheConstants.{MAX_WIDTH, NATURAL_WIDTH
 use Rattle.vh_logic.specs.Number.{binary}
 use Rattle.vh_logic.specs.Planes.{digits_of}
 use Rattle.vh_text.specs.declared.pattern.Pattern.{Pattern}
-use Rattle.vh_text.specs.Digits.{question_as_z, characters, sized, is_held}
+use Rattle.vh_text.specs.Digits.{question_as_z, characters, sized_digits, is_held}
 use Rattle.vh_text.specs.Marks.{is_x_letter, is_z_letter}
 use Rattle.vh_text.specs.Literals.{natural_width, lone_letter, by_front, behind_size, after_white, size_of_number, unsigned_number}
 use Rattle.vh_text.specs.Patterns.{pattern_of, pattern_held, IsWidth}
@@ -81,10 +81,10 @@ pub digits_of-kept : (w n : ℕ) → w ≤ MAX_WIDTH → digits_of w (n % 2 ^ MA
 digits_of-kept w n h = digits_of-binary w (n % 2 ^ MAX_WIDTH) ∙ binary-mod w MAX_WIDTH n h
 
 -- What is kept of digits is enough to size them
-pub sized-take : (w : ℕ) (ds : List Digit) → w ≤ MAX_WIDTH → sized w (take MAX_WIDTH ds) ≡ sized w ds
-sized-take w ds h =
+pub sized_digits-take : (w : ℕ) (ds : List Digit) → w ≤ MAX_WIDTH → sized_digits w (take MAX_WIDTH ds) ≡ sized_digits w ds
+sized_digits-take w ds h =
     elim (short_or (length ds) MAX_WIDTH) [
-      | inl short ↦ ap (λ (xs : List Digit). sized w xs) (take_all MAX_WIDTH ds short)
+      | inl short ↦ ap (λ (xs : List Digit). sized_digits w xs) (take_all MAX_WIDTH ds short)
       | inr long ↦
           let len : length (take MAX_WIDTH ds) ≡ MAX_WIDTH = length-take-le MAX_WIDTH ds (omega arith) in
           take-append-le w (take MAX_WIDTH ds) _ (omega (arith, len)) ∙ take-take w MAX_WIDTH ds h ∙ sym (take-append-le w ds _ (omega arith))

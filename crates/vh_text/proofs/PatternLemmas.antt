@@ -20,7 +20,7 @@ use Rattle.vh_logic.specs.Planes.{digit_of, digits_of}
 use Rattle.vh_logic.specs.PlanesBack.{by_bit}
 use Rattle.vh_text.specs.declared.pattern.Pattern.{Pattern}
 use Rattle.vh_text.specs.Marks.{is_x_letter, is_z_letter}
-use Rattle.vh_text.specs.Digits.{character_digits, joined, spelled_digits, question_as_z, characters, spelled, fill_of, is_held}
+use Rattle.vh_text.specs.Digits.{character_digits, joined_digits, spelled_digits, question_as_z, characters, spelled_characters, fill_of, is_held}
 use Rattle.vh_text.specs.Patterns.{digits_alone, pattern_of, pattern_pushed}
 
 pub digits_of-binary : (w n : ℕ) → digits_of w n 0 ≡ binary w n
@@ -57,15 +57,15 @@ take-filled (d ∷ ds) (suc w) m f h k =
 filled-length : (w : ℕ) (ds : List Digit) (f : Digit) → length ds ≤ w → length (ds ++ replicate (w - length ds) f) ≡ w
 filled-length w ds f h = omega (arith, length-append ds (replicate (w - length ds) f), length-replicate (w - length ds) f)
 
-pub sized-filled : (w : ℕ) (ds rest : List Digit) (f : Digit) → length ds ≤ w
+pub sized_digits-filled : (w : ℕ) (ds rest : List Digit) (f : Digit) → length ds ≤ w
     → take w ((ds ++ replicate (w - length ds) f) ++ rest) ≡ take w (ds ++ replicate w f)
-sized-filled w ds rest f h =
+sized_digits-filled w ds rest f h =
     let len : length (ds ++ replicate (w - length ds) f) ≡ w = filled-length w ds f h in
     take-append-le w _ rest (omega (arith, len)) ∙ take_all w _ (omega (arith, len)) ∙ sym (take-filled ds w w f h (omega arith))
 
-pub sized-same : (w : ℕ) (ds cs rest : List Digit) (f : Digit) → length ds ≤ w → cs ≡ ds ++ replicate (w - length ds) f
+pub sized_digits-same : (w : ℕ) (ds cs rest : List Digit) (f : Digit) → length ds ≤ w → cs ≡ ds ++ replicate (w - length ds) f
     → take w (cs ++ rest) ≡ take w (ds ++ replicate w f)
-sized-same w ds cs rest f h e = ap (λ (xs : List Digit). take w (xs ++ rest)) e ∙ sized-filled w ds rest f h
+sized_digits-same w ds cs rest f h e = ap (λ (xs : List Digit). take w (xs ++ rest)) e ∙ sized_digits-filled w ds rest f h
 
 -- Underscores say nothing, and `?` is z
 pub characters-mark : (b : ℕ) (bs : List ℕ) → b ≡ 95 → characters (b ∷ bs) ≡ characters bs
@@ -74,26 +74,26 @@ characters-mark b bs e = rw (eq-eqb b 95 e) refl
 pub characters-next : (b : ℕ) (bs : List ℕ) → (b ≡ 95 → ⊥) → characters (b ∷ bs) ≡ question_as_z b ∷ characters bs
 characters-next b bs e = rw (ne_eqb b 95 e) refl
 
-pub spelled-first : (b : ℕ) (bs : List ℕ) → IsSome (spelled (b ∷ bs)) → b ≡ 95 → ⊥
-spelled-first b bs h e = let P : ℕ → Type 0 = λ n. IsSome (spelled (n ∷ bs)) in let f = subst P e h in cc
+pub spelled_characters-first : (b : ℕ) (bs : List ℕ) → IsSome (spelled_characters (b ∷ bs)) → b ≡ 95 → ⊥
+spelled_characters-first b bs h e = let P : ℕ → Type 0 = λ n. IsSome (spelled_characters (n ∷ bs)) in let f = subst P e h in cc
 
 -- A text that begins with a digit, by its first byte
-pub characters-first : (bs rest : List ℕ) (b : ℕ) → bs ≡ b ∷ rest → IsSome (spelled bs) → characters bs ≡ question_as_z b ∷ characters rest
+pub characters-first : (bs rest : List ℕ) (b : ℕ) → bs ≡ b ∷ rest → IsSome (spelled_characters bs) → characters bs ≡ question_as_z b ∷ characters rest
 characters-first bs rest b e begun =
-    let P : List ℕ → Type 0 = λ xs. IsSome (spelled xs) in
-    ap (λ (xs : List ℕ). characters xs) e ∙ characters-next b rest (spelled-first b rest (subst P e begun))
+    let P : List ℕ → Type 0 = λ xs. IsSome (spelled_characters xs) in
+    ap (λ (xs : List ℕ). characters xs) e ∙ characters-next b rest (spelled_characters-first b rest (subst P e begun))
 
-joined-none : (a b : Option (List Digit)) → joined (joined a None) b ≡ None
-joined-none None b = refl
-joined-none (Some a) b = refl
+joined_digits-none : (a b : Option (List Digit)) → joined_digits (joined_digits a None) b ≡ None
+joined_digits-none None b = refl
+joined_digits-none (Some a) b = refl
 
-joined-some : (a : Option (List Digit)) (g ds : List Digit) → joined (joined a (Some g)) (Some ds) ≡ joined a (Some (g ++ ds))
-joined-some None g ds = refl
-joined-some (Some a) g ds = ap Some (append_assoc a g ds)
+joined_digits-some : (a : Option (List Digit)) (g ds : List Digit) → joined_digits (joined_digits a (Some g)) (Some ds) ≡ joined_digits a (Some (g ++ ds))
+joined_digits-some None g ds = refl
+joined_digits-some (Some a) g ds = ap Some (append_assoc a g ds)
 
-pub joined-nil : (a : Option (List Digit)) → joined a (Some []) ≡ a
-joined-nil None = refl
-joined-nil (Some a) = ap Some (append-nil a)
+pub joined_digits-nil : (a : Option (List Digit)) → joined_digits a (Some []) ≡ a
+joined_digits-nil None = refl
+joined_digits-nil (Some a) = ap Some (append-nil a)
 
 pub spelled_digits-nil : (k : ℕ) → spelled_digits k [] ≡ Some []
 unfolding spelled_digits
@@ -101,16 +101,16 @@ spelled_digits-nil k = refl
 
 -- One more character, which has no digits, or has these
 pub spelled_digits-stop : (k c : ℕ) (cs : List ℕ) (more : Option (List Digit)) → character_digits k c ≡ None
-    → joined (spelled_digits k (c ∷ cs)) more ≡ None
+    → joined_digits (spelled_digits k (c ∷ cs)) more ≡ None
 unfolding spelled_digits
 spelled_digits-stop k c cs more e =
-    ap (λ (g : Option (List Digit)). joined (joined (spelled_digits k cs) g) more) e ∙ joined-none (spelled_digits k cs) more
+    ap (λ (g : Option (List Digit)). joined_digits (joined_digits (spelled_digits k cs) g) more) e ∙ joined_digits-none (spelled_digits k cs) more
 
 pub spelled_digits-more : (k c : ℕ) (cs : List ℕ) (g ds : List Digit) → character_digits k c ≡ Some g
-    → joined (spelled_digits k (c ∷ cs)) (Some ds) ≡ joined (spelled_digits k cs) (Some (g ++ ds))
+    → joined_digits (spelled_digits k (c ∷ cs)) (Some ds) ≡ joined_digits (spelled_digits k cs) (Some (g ++ ds))
 unfolding spelled_digits
 spelled_digits-more k c cs g ds e =
-    ap (λ (g : Option (List Digit)). joined (joined (spelled_digits k cs) g) (Some ds)) e ∙ joined-some (spelled_digits k cs) g ds
+    ap (λ (g : Option (List Digit)). joined_digits (joined_digits (spelled_digits k cs) g) (Some ds)) e ∙ joined_digits-some (spelled_digits k cs) g ds
 
 -- What a call that reads one character tells of it
 pub from_some : (o : Option (List Digit)) (v : Vector) → Some v ≡ option_map digits_alone o → (o ≡ Some v.digits) × (v ≡ digits_alone v.digits)
@@ -263,10 +263,10 @@ pattern_of-short v e h =
 
 -- A text of which one character has no digits
 pub spelled_digits-none : (k c : ℕ) (cs : List ℕ) → character_digits k c ≡ None → spelled_digits k (c ∷ cs) ≡ None
-spelled_digits-none k c cs e = sym (joined-nil (spelled_digits k (c ∷ cs))) ∙ spelled_digits-stop k c cs (Some []) e
+spelled_digits-none k c cs e = sym (joined_digits-nil (spelled_digits k (c ∷ cs))) ∙ spelled_digits-stop k c cs (Some []) e
 
 -- A text by its first character
 pub spelled_digits-first : (k c : ℕ) (cs : List ℕ) (g : List Digit) → character_digits k c ≡ Some g
-    → spelled_digits k (c ∷ cs) ≡ joined (spelled_digits k cs) (Some g)
+    → spelled_digits k (c ∷ cs) ≡ joined_digits (spelled_digits k cs) (Some g)
 spelled_digits-first k c cs g e =
-    sym (joined-nil (spelled_digits k (c ∷ cs))) ∙ spelled_digits-more k c cs g [] e ∙ ap (λ (xs : List Digit). joined (spelled_digits k cs) (Some xs)) (append-nil g)
+    sym (joined_digits-nil (spelled_digits k (c ∷ cs))) ∙ spelled_digits-more k c cs g [] e ∙ ap (λ (xs : List Digit). joined_digits (spelled_digits k cs) (Some xs)) (append-nil g)

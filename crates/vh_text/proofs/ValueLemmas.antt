@@ -18,7 +18,7 @@ use Rattle.vh_logic.specs.declared.vector.TheConstants.{MAX_WIDTH}
 use Rattle.vh_logic.specs.Number.{binary, wrapped, signed_integer, vector_of}
 use Rattle.vh_logic.specs.Planes.{digits_of}
 use Rattle.vh_text.specs.declared.number.Number.{Number}
-use Rattle.vh_text.specs.Digits.{character_digits, joined, spelled_digits, characters, decimal_number}
+use Rattle.vh_text.specs.Digits.{character_digits, joined_digits, spelled_digits, characters, decimal_number}
 use Rattle.vh_text.specs.Patterns.{number_kept, digits_alone}
 use Rattle.vh_text.specs.Texts.{group_count}
 use Rattle.vh_text.specs.Values.{cut_or_padded, is_length, string_value, numeral, is_lower_hex, integer_value}
@@ -52,12 +52,12 @@ mark_digits k b least most h =
           ]
     ]
 
-joined-none_left : (b : Option (List Digit)) → joined None b ≡ None
-joined-none_left b = refl
+joined_digits-none_left : (b : Option (List Digit)) → joined_digits None b ≡ None
+joined_digits-none_left b = refl
 
-joined-none_right : (a : Option (List Digit)) → joined a None ≡ None
-joined-none_right None = refl
-joined-none_right (Some a) = refl
+joined_digits-none_right : (a : Option (List Digit)) → joined_digits a None ≡ None
+joined_digits-none_right None = refl
+joined_digits-none_right (Some a) = refl
 
 or_cases : (P : Type 0) (a b : Bool) → (a || b) ≡ true → (a ≡ true → P) → (b ≡ true → P) → P
 or_cases P true b h p q = p refl
@@ -67,9 +67,9 @@ pub spelled_digits-marks : (k : ℕ) (bs : List ℕ) → 1 ≤ k → k ≤ 4 →
 unfolding spelled_digits
 spelled_digits-marks k [] least most h = cc
 spelled_digits-marks k (b ∷ bs) least most h =
-    or_cases (joined (spelled_digits k bs) (character_digits k b) ≡ None) (is_literal_mark b) (list_any is_literal_mark bs) h
-    (λ e. ap (λ (o : Option (List Digit)). joined (spelled_digits k bs) o) (mark_digits k b least most e) ∙ joined-none_right (spelled_digits k bs))
-    (λ e. ap (λ (o : Option (List Digit)). joined o (character_digits k b)) (spelled_digits-marks k bs least most e))
+    or_cases (joined_digits (spelled_digits k bs) (character_digits k b) ≡ None) (is_literal_mark b) (list_any is_literal_mark bs) h
+    (λ e. ap (λ (o : Option (List Digit)). joined_digits (spelled_digits k bs) o) (mark_digits k b least most e) ∙ joined_digits-none_right (spelled_digits k bs))
+    (λ e. ap (λ (o : Option (List Digit)). joined_digits o (character_digits k b)) (spelled_digits-marks k bs least most e))
 
 and_false : (a b : Bool) → b ≡ false → (a && b) ≡ false
 and_false true b h = h

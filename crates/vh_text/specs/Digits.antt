@@ -19,15 +19,15 @@ character_digits k c =
     (if nat_lt (digit_value c) (2 ^ k) then Some (binary k (digit_value c)) else None))
 
 -- Two parts of a number, where both are digits
-abbrev pub joined : Option (List Digit) → Option (List Digit) → Option (List Digit)
-joined None high = None
-joined (Some low) None = None
-joined (Some low) (Some high) = Some (low ++ high)
+abbrev pub joined_digits : Option (List Digit) → Option (List Digit) → Option (List Digit)
+joined_digits None high = None
+joined_digits (Some low) None = None
+joined_digits (Some low) (Some high) = Some (low ++ high)
 
 -- The binary digits, lowest first, of a text of characters, highest first (3.5.1)
 unfoldable pub spelled_digits : ℕ → List ℕ → Option (List Digit)
 spelled_digits k [] = Some []
-spelled_digits k (c ∷ cs) = joined (spelled_digits k cs) (character_digits k c)
+spelled_digits k (c ∷ cs) = joined_digits (spelled_digits k cs) (character_digits k c)
 
 -- The number of a text of decimal digits (3.5.1)
 abbrev pub decimal_number : List ℕ → Option ℕ
@@ -42,9 +42,9 @@ abbrev pub characters : List ℕ → List ℕ
 characters bs = map question_as_z (filter (λ b. not (b == underscore)) bs)
 
 -- The digit characters of a part of a literal, which begins with a digit (3.5.1)
-abbrev pub spelled : List ℕ → Option (List ℕ)
-spelled [] = None
-spelled (b ∷ bs) = if b == underscore then None else Some (characters (b ∷ bs))
+abbrev pub spelled_characters : List ℕ → Option (List ℕ)
+spelled_characters [] = None
+spelled_characters (b ∷ bs) = if b == underscore then None else Some (characters (b ∷ bs))
 
 -- The digit that fills the places above a highest digit: x and z go on, else 0 (3.5.1)
 abbrev pub fill_of : Digit → Digit
@@ -54,8 +54,8 @@ fill_of X = X
 fill_of Z = Z
 
 -- Digits cut at the left, or filled, to a size (3.5.1)
-abbrev pub sized : ℕ → List Digit → List Digit
-sized w ds = take w (ds ++ replicate w (fill_of (highest ds)))
+abbrev pub sized_digits : ℕ → List Digit → List Digit
+sized_digits w ds = take w (ds ++ replicate w (fill_of (highest ds)))
 
 -- Filling gives the digits back from their `w` lowest: each one above is the digit that fills (own)
 abbrev pub is_held : ℕ → List Digit → Bool

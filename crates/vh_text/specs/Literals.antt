@@ -16,7 +16,7 @@ use Rattle.vh_text.specs.declared.literal.Size.{Size}
 use Rattle.vh_text.specs.declared.literal.Size.TheVariants.{Absent, Given, Beyond}
 use Rattle.vh_base.specs.Classes.{is_space}
 use Rattle.vh_text.specs.Marks.{apostrophe, is_x_letter, is_z_letter, is_sign_mark, is_number_byte, base_of}
-use Rattle.vh_text.specs.Digits.{spelled_digits, decimal_number, spelled, sized, is_held}
+use Rattle.vh_text.specs.Digits.{spelled_digits, decimal_number, spelled_characters, sized_digits, is_held}
 
 -- A literal's value
 abbrev pub Reading : Type 0
@@ -24,7 +24,7 @@ Reading = Result Vector LiteralFault
 
 -- The number of a text of decimal digits and underscores that begins with a digit (3.5.1)
 abbrev pub unsigned_number : List ℕ → Option ℕ
-unsigned_number bs = option_and_then decimal_number (spelled bs)
+unsigned_number bs = option_and_then decimal_number (spelled_characters bs)
 
 -- The size that a number gives: from 1 to the greatest width (own; 3.5.1 names no greatest one)
 abbrev pub size_of_number : Option ℕ → Result Size LiteralFault
@@ -57,23 +57,23 @@ of_number s n w = record { digits = binary w n; signed = s }
 
 -- The value of digits, cut or filled (3.5.1)
 abbrev pub of_digits : Bool → List Digit → ℕ → Vector
-of_digits s ds w = record { digits = sized w ds; signed = s }
+of_digits s ds w = record { digits = sized_digits w ds; signed = s }
 
 -- A number without base, which is signed (3.5.1)
-abbrev pub plain : Option ℕ → Reading
-plain None = Err Malformed
-plain (Some n) = at_width (of_number true n) (natural_width (λ w. nat_lt n (2 ^ plain_digits w)))
+abbrev pub plain_value : Option ℕ → Reading
+plain_value None = Err Malformed
+plain_value (Some n) = at_width (of_number true n) (natural_width (λ w. nat_lt n (2 ^ plain_digits w)))
 
 -- A decimal number behind a base (3.5.1)
-abbrev pub numbered : Size → Bool → Option ℕ → Reading
-numbered size s None = Err Malformed
-numbered size s (Some n) =
+abbrev pub number_value : Size → Bool → Option ℕ → Reading
+number_value size s None = Err Malformed
+number_value size s (Some n) =
     at_width (of_number s n) (width_by size (natural_width (λ w. nat_lt n (2 ^ w))))
 
 -- Digits behind a base (3.5.1)
-abbrev pub patterned : Size → Bool → Option (List Digit) → Reading
-patterned size s None = Err Malformed
-patterned size s (Some ds) =
+abbrev pub pattern_value : Size → Bool → Option (List Digit) → Reading
+pattern_value size s None = Err Malformed
+pattern_value size s (Some ds) =
     at_width (of_digits s ds) (width_by size (natural_width (λ w. is_held w ds)))
 
 -- The one x or z that base d may have for all digits (3.5.1)
@@ -84,16 +84,16 @@ lone_letter (c ∷ d ∷ cs) = None
 
 -- The characters of base d: one letter, or else a number (3.5.1)
 abbrev pub decimal_part : Size → Bool → List ℕ → Option Digit → Reading
-decimal_part size s cs (Some d) = patterned size s (Some (d ∷ []))
-decimal_part size s cs None = numbered size s (decimal_number cs)
+decimal_part size s cs (Some d) = pattern_value size s (Some (d ∷ []))
+decimal_part size s cs None = number_value size s (decimal_number cs)
 
 -- The characters behind a base letter: 1, 3 or 4 binary digits each in bases b, o and h (3.5.1)
 abbrev pub digits_part : Size → Bool → Option Radix → Option (List ℕ) → Reading
 digits_part size s None cs = Err Malformed
 digits_part size s (Some base) None = Err Malformed
-digits_part size s (Some Binary) (Some cs) = patterned size s (spelled_digits 1 cs)
-digits_part size s (Some Octal) (Some cs) = patterned size s (spelled_digits 3 cs)
-digits_part size s (Some Hex) (Some cs) = patterned size s (spelled_digits 4 cs)
+digits_part size s (Some Binary) (Some cs) = pattern_value size s (spelled_digits 1 cs)
+digits_part size s (Some Octal) (Some cs) = pattern_value size s (spelled_digits 3 cs)
+digits_part size s (Some Hex) (Some cs) = pattern_value size s (spelled_digits 4 cs)
 digits_part size s (Some Decimal) (Some cs) = decimal_part size s cs (lone_letter cs)
 
 -- A text without the white space that it begins with (3.2)
@@ -103,7 +103,7 @@ after_white bs = drop (prefix_len is_space bs) bs
 -- A base letter, white space, digits (3.5.1)
 abbrev pub base_part : Size → Bool → List ℕ → Reading
 base_part size s [] = Err Malformed
-base_part size s (b ∷ bs) = digits_part size s (base_of b) (spelled (after_white bs))
+base_part size s (b ∷ bs) = digits_part size s (base_of b) (spelled_characters (after_white bs))
 
 -- The mark of a signed number, if any, and what stands behind it (3.5.1)
 abbrev pub signed_part : Size → List ℕ → Reading
@@ -111,19 +111,19 @@ signed_part size [] = Err Malformed
 signed_part size (b ∷ bs) = if is_sign_mark b then base_part size true bs else base_part size false (b ∷ bs)
 
 -- The apostrophe, and what stands behind it (3.5.1)
-abbrev pub based : List ℕ → Size → Reading
-based [] size = Err Malformed
-based (b ∷ bs) size = if b == apostrophe then signed_part size bs else Err Malformed
+abbrev pub based_value : List ℕ → Size → Reading
+based_value [] size = Err Malformed
+based_value (b ∷ bs) size = if b == apostrophe then signed_part size bs else Err Malformed
 
 -- What stands behind a size that is one
 abbrev pub behind_size : List ℕ → Result Size LiteralFault → Reading
 behind_size bs (Err fault) = Err fault
-behind_size bs (Ok size) = based bs size
+behind_size bs (Ok size) = based_value bs size
 
 -- A literal by its leading digits and what stands behind them: a plain number, or a size, white space and the rest (3.5.1)
 abbrev pub by_front : List ℕ → List ℕ → Reading
-by_front [] bs = based bs Absent
-by_front (c ∷ cs) [] = plain (unsigned_number (c ∷ cs))
+by_front [] bs = based_value bs Absent
+by_front (c ∷ cs) [] = plain_value (unsigned_number (c ∷ cs))
 by_front (c ∷ cs) (b ∷ bs) = behind_size (after_white (b ∷ bs)) (size_of_number (unsigned_number (c ∷ cs)))
 
 -- The value of a literal, or its fault (3.5.1)

@@ -2,7 +2,7 @@ ghost use Rattle.std.specs.Prelude.{◌≡◌, ◌≤◌, ◌<◌, length};
 ghost use Rattle.std.specs.List.{list_all, list_any};
 ghost use Rattle.vh_logic.specs.Digit.{is_same};
 ghost use Rattle.vh_logic.specs.Vector.{width_of};
-ghost use Rattle.vh_text.specs.Digits.{fill_of, is_held, sized};
+ghost use Rattle.vh_text.specs.Digits.{fill_of, is_held, sized_digits};
 ghost use Rattle.vh_text.specs.Literals.{of_digits};
 
 use vh_logic::{Digit, MAX_WIDTH, Vec4, case_equal, concat, resize, select};
@@ -52,7 +52,7 @@ pub(crate) fn is_held(v: &Vec4, width: u32) -> bool
 }
 
 // The digits cut at the left, or filled, to a width, with a sign mark.
-pub(crate) fn sized(v: &Vec4, width: u32, signed: bool) -> Vec4
+pub(crate) fn sized_digits(v: &Vec4, width: u32, signed: bool) -> Vec4
     requires least { 1 ≤ width }
     requires most { width ≤ MAX_WIDTH }
     ensures { result ≡ of_digits signed v.now.digits width }

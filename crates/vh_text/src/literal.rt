@@ -2,12 +2,12 @@ ghost use Rattle.std.specs.Prelude.{◌≡◌, ◌==◌, ℕ, List, Option, IsSo
 ghost use Rattle.std.specs.List.{list_all};
 ghost use Rattle.std.specs.Option.{option_map};
 ghost use Rattle.vh_logic.specs.declared.digits.Digit.{Digit};
-ghost use Rattle.vh_text.specs.Digits.{characters, spelled};
-ghost use Rattle.vh_text.specs.Literals.{literal, plain, size_of_number, natural_width, plain_digits, width_by, at_width, of_number, numbered, patterned, lone_letter, decimal_part, digits_part, base_part, signed_part, based};
+ghost use Rattle.vh_text.specs.Digits.{characters, spelled_characters};
+ghost use Rattle.vh_text.specs.Literals.{literal, plain_value, size_of_number, natural_width, plain_digits, width_by, at_width, of_number, number_value, pattern_value, lone_letter, decimal_part, digits_part, base_part, signed_part, based_value};
 ghost use Rattle.vh_text.specs.Marks.{base_of};
 ghost use Rattle.vh_text.specs.Patterns.{pattern_of, pattern_held, number_kept, number_held, IsWidthIfSome, HasWidth};
 
-use crate::digits::{is_held, sized};
+use crate::digits::{is_held, sized_digits};
 use crate::number::{INTEGER_WIDTH, Number, read_number, unsigned_number};
 use crate::pattern::{Pattern, read_pattern, z_of_question};
 use crate::radix::Radix;
@@ -42,14 +42,14 @@ pub fn read_literal(bytes: &[u8]) -> Result<Vec4, LiteralFault>
 {
     let (front, rest) = bytes.split_at(number_len(bytes));
     if front.is_empty() {
-        return based(rest, Size::Absent);
+        return based_value(rest, Size::Absent);
     }
     let number = unsigned_number(front);
     if rest.is_empty() {
-        return plain(number);
+        return plain_value(number);
     }
     match size_of_number(number) {
-        Ok(size) => based(after_white(rest), size),
+        Ok(size) => based_value(after_white(rest), size),
         Err(fault) => Err(fault),
     }
 }
@@ -72,8 +72,8 @@ fn size_of_number(number: Option<Number>) -> Result<Size, LiteralFault>
 }
 
 // A number without base.
-fn plain(number: Option<Number>) -> Result<Vec4, LiteralFault>
-    ensures { (n : Option ℕ) → number ≡ option_map number_kept n → result ≡ plain n }
+fn plain_value(number: Option<Number>) -> Result<Vec4, LiteralFault>
+    ensures { (n : Option ℕ) → number ≡ option_map number_kept n → result ≡ plain_value n }
 {
     let Some(number) = number else {
         return Err(LiteralFault::Malformed);
@@ -82,9 +82,9 @@ fn plain(number: Option<Number>) -> Result<Vec4, LiteralFault>
 }
 
 // What stands behind the size: an apostrophe, the mark of a sign, a base, digits.
-fn based(bytes: &[u8], size: Size) -> Result<Vec4, LiteralFault>
+fn based_value(bytes: &[u8], size: Size) -> Result<Vec4, LiteralFault>
     requires { HasWidth size }
-    ensures { result ≡ based bytes.now size }
+    ensures { result ≡ based_value bytes.now size }
 {
     let Some((first, rest)) = bytes.split_first() else {
         return Err(LiteralFault::Malformed);
@@ -145,7 +145,7 @@ fn base_of(b: u8) -> Option<Radix>
 
 // Whether there is a first byte, and it is no underscore.
 fn is_begun(bytes: &[u8]) -> bool
-    ensures { result ≡ is_some (spelled bytes.now) }
+    ensures { result ≡ is_some (spelled_characters bytes.now) }
 {
     match bytes.first() {
         Some(first) => *first != b'_',
@@ -156,13 +156,13 @@ fn is_begun(bytes: &[u8]) -> bool
 // The digits behind a base letter.
 fn digits_part(size: Size, signed: bool, base: Radix, bytes: &[u8]) -> Result<Vec4, LiteralFault>
     requires width { HasWidth size }
-    requires begun { IsSome (spelled bytes.now) }
-    ensures { result ≡ digits_part size signed (Some base) (spelled bytes.now) }
+    requires begun { IsSome (spelled_characters bytes.now) }
+    ensures { result ≡ digits_part size signed (Some base) (spelled_characters bytes.now) }
 {
     match base {
-        Radix::Binary => patterned(size, signed, read_pattern(bytes, 1)),
-        Radix::Octal => patterned(size, signed, read_pattern(bytes, 3)),
-        Radix::Hex => patterned(size, signed, read_pattern(bytes, 4)),
+        Radix::Binary => pattern_value(size, signed, read_pattern(bytes, 1)),
+        Radix::Octal => pattern_value(size, signed, read_pattern(bytes, 3)),
+        Radix::Hex => pattern_value(size, signed, read_pattern(bytes, 4)),
         Radix::Decimal => decimal_part(size, signed, bytes),
     }
 }
@@ -170,7 +170,7 @@ fn digits_part(size: Size, signed: bool, base: Radix, bytes: &[u8]) -> Result<Ve
 // One x or z for all digits, or a number.
 fn decimal_part(size: Size, signed: bool, bytes: &[u8]) -> Result<Vec4, LiteralFault>
     requires width { HasWidth size }
-    requires begun { IsSome (spelled bytes.now) }
+    requires begun { IsSome (spelled_characters bytes.now) }
     ensures { result
         ≡ decimal_part size signed (characters bytes.now) (lone_letter (characters bytes.now)) }
 {
@@ -179,14 +179,14 @@ fn decimal_part(size: Size, signed: bool, bytes: &[u8]) -> Result<Vec4, LiteralF
             value: Vec4::filled(1, digit, false),
             is_held: true,
         };
-        return patterned(size, signed, Some(pattern));
+        return pattern_value(size, signed, Some(pattern));
     }
-    numbered(size, signed, read_number(bytes))
+    number_value(size, signed, read_number(bytes))
 }
 
 // The one x or z that stands for all digits.
 fn lone_letter(bytes: &[u8]) -> Option<Digit>
-    requires { IsSome (spelled bytes.now) }
+    requires { IsSome (spelled_characters bytes.now) }
     ensures { result ≡ lone_letter (characters bytes.now) }
 {
     let (first, rest) = bytes.split_first()?;
@@ -211,9 +211,9 @@ fn are_underscores(bytes: &[u8]) -> bool
 }
 
 // A decimal number behind a base.
-fn numbered(size: Size, signed: bool, number: Option<Number>) -> Result<Vec4, LiteralFault>
+fn number_value(size: Size, signed: bool, number: Option<Number>) -> Result<Vec4, LiteralFault>
     requires { HasWidth size }
-    ensures { (n : Option ℕ) → number ≡ option_map number_kept n → result ≡ numbered size signed n }
+    ensures { (n : Option ℕ) → number ≡ option_map number_kept n → result ≡ number_value size signed n }
 {
     let Some(number) = number else {
         return Err(LiteralFault::Malformed);
@@ -222,16 +222,16 @@ fn numbered(size: Size, signed: bool, number: Option<Number>) -> Result<Vec4, Li
 }
 
 // Digits behind a base.
-fn patterned(size: Size, signed: bool, pattern: Option<Pattern>) -> Result<Vec4, LiteralFault>
+fn pattern_value(size: Size, signed: bool, pattern: Option<Pattern>) -> Result<Vec4, LiteralFault>
     requires { HasWidth size }
     ensures { (ds : Option (List Digit)) → pattern ≡ option_map pattern_of ds
-        → result ≡ patterned size signed ds }
+        → result ≡ pattern_value size signed ds }
 {
     let Some(pattern) = pattern else {
         return Err(LiteralFault::Malformed);
     };
     match width_by(size, pattern_width(&pattern)) {
-        Some(width) => Ok(sized(&pattern.value, width, signed)),
+        Some(width) => Ok(sized_digits(&pattern.value, width, signed)),
         None => Err(LiteralFault::TooWide),
     }
 }

@@ -1,7 +1,7 @@
 ghost use Rattle.std.specs.Prelude.{◌≡◌, ◌≤◌, ◌<◌, ◌+◌, ◌-◌, ◌++◌, ◌&&◌, take, IsSome, IfSome};
 ghost use Rattle.std.specs.Option.{option_map};
 ghost use Rattle.vh_logic.specs.Vector.{width_of};
-ghost use Rattle.vh_text.specs.Digits.{character_digits, spelled, spelled_digits, characters, question_as_z};
+ghost use Rattle.vh_text.specs.Digits.{character_digits, spelled_characters, spelled_digits, characters, question_as_z};
 ghost use Rattle.vh_text.specs.Patterns.{pattern_of, pattern_pushed, digits_alone};
 
 use crate::digits::is_held;
@@ -21,7 +21,7 @@ pub(crate) struct Pattern {
 pub(crate) fn read_pattern(bytes: &[u8], group: u32) -> Option<Pattern>
     requires least { 1 ≤ group }
     requires most { group ≤ 4 }
-    requires begun { IsSome (spelled bytes.now) }
+    requires begun { IsSome (spelled_characters bytes.now) }
     ensures { result ≡ option_map pattern_of (spelled_digits group (characters bytes.now)) }
 {
     let (first, rest) = bytes.split_first()?;

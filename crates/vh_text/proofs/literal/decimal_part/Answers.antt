@@ -14,5 +14,5 @@ one_digit v d e = let p : Pattern → Option Pattern = λ q. Some q in ap (λ (x
 pub returns-in-Some : goal.returns-in-Some
 returns-in-Some c =
     let d = c.in-Some.digit in
-    c.patterned.ensures (Some (d ∷ [])) (one_digit c.filled.result d c.filled.ensures.value)
+    c.pattern_value.ensures (Some (d ∷ [])) (one_digit c.filled.result d c.filled.ensures.value)
     ∙ ap (λ (o : Option Digit). decimal_part c.args.size c.args.signed (characters c.args.bytes.now) o) (sym c.in-Some.is ∙ c.lone_letter.ensures)

@@ -4,8 +4,8 @@ use Rattle.vh_logic.specs.declared.digits.Digit.{Digit}
 use Rattle.vh_logic.specs.declared.digits.Digit.TheVariants.{Zero}
 use Rattle.vh_logic.specs.Vector.{Vector, highest}
 use Rattle.vh_text.specs.Digits.{fill_of}
-use Rattle.vh_text.proofs.PatternLemmas.{sized-same}
-use Rattle.vh_text.proofs.digits.sized.Goals as goal
+use Rattle.vh_text.proofs.PatternLemmas.{sized_digits-same}
+use Rattle.vh_text.proofs.digits.sized_digits.Goals as goal
 
 pub returns : goal.returns
 returns c =
@@ -22,4 +22,4 @@ returns c =
     let digits : c.concat.result.digits ≡ ds ++ replicate (w - length ds) f =
     ap (λ (v : Vector). v.digits) c.concat.ensures.value ∙ ap (λ (xs : List Digit). ds ++ xs) above in
     c.resize-2.ensures.value
-    ∙ ap (λ (xs : List Digit). record { digits = xs; signed = c.args.signed }) (sized-same w ds _ _ f (omega (arith, c.width.ensures.value)) digits)
+    ∙ ap (λ (xs : List Digit). record { digits = xs; signed = c.args.signed }) (sized_digits-same w ds _ _ f (omega (arith, c.width.ensures.value)) digits)
