@@ -1,7 +1,7 @@
 ghost use Rattle.std.specs.Prelude.{◌≡◌, ◌<◌, ◌+◌, ◌-◌, ◌^◌, [], true, false, List, length, replicate, IfOk, OnErr};
 ghost use Rattle.std.specs.List.{slice_get};
 ghost use Rattle.vh_links.specs.Lists.{Lists, is_linked, list_of, after_add, after_push, after_unlink, after_move, next_of};
-ghost use Rattle.vh_links.specs.Rings.{Joins, AreRings, node_of};
+ghost use Rattle.vh_links.specs.Views.{Joins, AreRings, node_of};
 
 use std::alloc::Global;
 use std::marker::Model;
@@ -24,7 +24,7 @@ pub struct Links {
 
 impl Model for Links {
     ghost use Rattle.vh_links.specs.Lists.{Lists};
-    ghost use Rattle.vh_links.specs.Rings.{lists_in, Holds};
+    ghost use Rattle.vh_links.specs.Views.{lists_in, Holds};
 
     ghost Value = { Lists };
 

@@ -12,7 +12,7 @@ use Rattle.vh_logic.specs.declared.digits.Digit.TheVariants.{X}
 use Rattle.vh_logic.specs.Vector.{Vector, width_of, filled}
 use Rattle.vh_logic.specs.Number.{binary, wrapped, integer_at, integer_of, signed_integer, vector_of}
 use Rattle.vh_logic.specs.Arithmetic.{arithmetic, quotient, remainder, power, reciprocal_power}
-use Rattle.vh_logic.proofs.PlaneLemmas.{Vector-of, digits_with}
+use Rattle.vh_logic.proofs.PlanesLemmas.{Vector-of, digits_with}
 use Rattle.vh_logic.proofs.NumberLemmas.{known_integer, unknown_integer, or_zero, Differs, binary-wrapped, binary-differs, pow_multiple, Differs-product, integer_at-differs}
 use Rattle.vh_logic.specs.PlanesBack.{length-digits_of}
 use Rattle.vh_logic.specs.Planes.{digits_of}

@@ -5,7 +5,7 @@ use Rattle.std.proofs.lemmas.Nat.Bits.{bit_at-lt}
 use Rattle.vh_logic.specs.declared.digits.Digit.{Digit}
 use Rattle.vh_logic.specs.Vector.{Vector, width_of, zip_digits}
 use Rattle.vh_logic.specs.Planes.{digit_of}
-use Rattle.vh_logic.proofs.PlaneLemmas.{Vector-of, digit_at, zip_digits-vectors}
+use Rattle.vh_logic.proofs.PlanesLemmas.{Vector-of, digit_at, zip_digits-vectors}
 use Rattle.vh_logic.proofs.ArithmeticLemmas.{widths-planes}
 use Rattle.vh_logic.proofs.Tables.{same_4, by_4}
 

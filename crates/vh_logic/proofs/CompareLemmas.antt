@@ -16,7 +16,7 @@ use Rattle.vh_logic.specs.Compare.{equality, ordering}
 use Rattle.vh_logic.specs.Vector.{Vector, width_of, all_places}
 use Rattle.vh_logic.specs.Number.{all_known, twos_complement, integer_at}
 use Rattle.vh_logic.specs.Planes.{digit_of, digits_of}
-use Rattle.vh_logic.proofs.PlaneLemmas.{digit_at, Vector-of, bounds}
+use Rattle.vh_logic.proofs.PlanesLemmas.{digit_at, Vector-of, bounds}
 use Rattle.vh_logic.proofs.Tables.{test_by_4}
 use Rattle.vh_logic.proofs.TestLemmas.{all_places-digits_of}
 use Rattle.vh_logic.proofs.NumberLemmas.{all_known-digits_of, or_zero, known_integer, unknown_integer}

@@ -1,7 +1,7 @@
 -- What holds of bits, by trying their values
 pub mod Tables
 -- Digits by the two planes that hold them
-pub mod PlaneLemmas
+pub mod PlanesLemmas
 -- Tests of whole planes: known, equal, reduced to one digit
 pub mod TestLemmas
 -- Numbers and integers modulo 2 ^ width
@@ -13,4 +13,4 @@ pub mod BitwiseLemmas
 -- The comparisons
 pub mod CompareLemmas
 -- Parts, shifts and extensions
-pub mod PartLemmas
+pub mod PartsLemmas

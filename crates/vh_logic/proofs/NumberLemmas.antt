@@ -14,7 +14,7 @@ use Rattle.vh_logic.specs.Vector.{Vector}
 use Rattle.vh_logic.specs.Number.{number_of, digit_value, all_known, binary, wrapped, twos_complement, integer_at, integer_of, known_number}
 use Rattle.vh_logic.specs.Planes.{digit_of, digits_of}
 use Rattle.vh_logic.specs.PlanesBack.{length-digits_of, half_below, by_bit}
-use Rattle.vh_logic.proofs.PlaneLemmas.{digits_of-mask, Vector-of}
+use Rattle.vh_logic.proofs.PlanesLemmas.{digits_of-mask, Vector-of}
 use Rattle.vh_logic.proofs.TestLemmas.{list_all-digits_of}
 use Rattle.vh_logic.proofs.Tables.{test_by_2}
 

@@ -16,7 +16,7 @@ use Rattle.vh_logic.specs.Vector.{all_places}
 use Rattle.vh_logic.specs.Reduce.{reduced, truth_of}
 use Rattle.vh_logic.specs.Planes.{digit_of, digits_of}
 use Rattle.vh_logic.specs.PlanesBack.{half_below, by_bit}
-use Rattle.vh_logic.proofs.PlaneLemmas.{digit_at, digit_at-zero, digit_at-suc, bounds}
+use Rattle.vh_logic.proofs.PlanesLemmas.{digit_at, digit_at-zero, digit_at-suc, bounds}
 use Rattle.vh_logic.proofs.Tables.{by_2, by_4, test_by_2}
 
 -- A number is 0 if its lowest bit is, and the rest

@@ -4,7 +4,7 @@ use Rattle.std.specs.Prelude.{◌||◌, count_by}
 use Rattle.std.specs.List.{list_any, slice_get}
 use Rattle.std.proofs.lemmas.List.Sums.{sum_by-cons, sum_by_push}
 use Rattle.std.proofs.lemmas.Bool.{eq-eqb, ne_eqb}
-use Rattle.vh_slots.specs.Kept.{has}
+use Rattle.vh_slots.specs.Views.{has}
 
 or_right : (a b : Bool) → b ≡ true → (a || b) ≡ true
 or_right true b h = refl

@@ -1,7 +1,7 @@
 ghost use Rattle.std.specs.Prelude.{◌≡◌, ◌<◌, ◌-◌, ◌^◌, [], None, Some, false, length, IfOk, IfErr, OnErr, IfSome, count_by};
 ghost use Rattle.std.specs.Option.{option_copied};
 ghost use Rattle.vh_slots.specs.Table.{Table, held, is_full, is_retired, after_take, after_replace, Gives, HandsBack};
-ghost use Rattle.vh_slots.specs.Kept.{place_of};
+ghost use Rattle.vh_slots.specs.Views.{place_of};
 
 use slab::Slab;
 use std::alloc::Global;
@@ -48,7 +48,7 @@ pub struct Slots<T> {
 
 impl<T> Model for Slots<T> {
     ghost use Rattle.vh_slots.specs.Table.{Table};
-    ghost use Rattle.vh_slots.specs.Kept.{table_in, IsSound};
+    ghost use Rattle.vh_slots.specs.Views.{table_in, IsSound};
 
     ghost Value = { Table T };
 

@@ -1,14 +1,14 @@
 -- The definitions at rows that are worked out from the rules
 mod Rows
 -- The texts of values
-pub mod TextLemmas
+pub mod TextsLemmas
 -- Digits that are read, kept and filled
-pub mod PatternLemmas
+pub mod ViewsLemmas
 -- The values of literals
-pub mod LiteralLemmas
+pub mod LiteralsLemmas
 -- The values of an application's texts
-pub mod ValueLemmas
+pub mod ValuesLemmas
 -- Numbers in hexadecimal
 pub mod HexLemmas
 -- Texts that are read again
-pub mod LawLemmas
+pub mod LawsLemmas

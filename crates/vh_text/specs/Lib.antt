@@ -5,7 +5,7 @@ pub mod Texts
 -- The digits that a text spells, and how many of them a width holds
 pub mod Digits
 -- What the code keeps of digits and numbers
-pub mod Patterns
+pub mod Views
 -- The value of a literal
 pub mod Literals
 -- The value that an application's text gives an object

@@ -1,6 +1,6 @@
 ghost use Rattle.std.specs.Prelude.{◌≡◌, Some};
 ghost use Rattle.vh_logic.specs.Vector.{width_of};
-ghost use Rattle.vh_text.specs.Patterns.{digits_alone};
+ghost use Rattle.vh_text.specs.Views.{digits_alone};
 ghost use Rattle.vh_text.specs.Texts.{text, vector_text};
 ghost use Rattle.vh_text.specs.Values.{value_of_text};
 

@@ -5,7 +5,7 @@ ghost use Rattle.vh_logic.specs.declared.digits.Digit.{Digit};
 ghost use Rattle.vh_text.specs.Digits.{characters, spelled_characters};
 ghost use Rattle.vh_text.specs.Literals.{literal, plain_value, size_of_number, natural_width, plain_digits, width_by, at_width, of_number, number_value, pattern_value, lone_letter, decimal_part, digits_part, base_part, signed_part, based_value};
 ghost use Rattle.vh_text.specs.Marks.{base_of};
-ghost use Rattle.vh_text.specs.Patterns.{pattern_of, pattern_held, number_kept, number_held, IsWidthIfSome, HasWidth};
+ghost use Rattle.vh_text.specs.Views.{pattern_of, pattern_held, number_kept, number_held, IsWidthIfSome, HasWidth};
 
 use crate::digits::{is_held, sized_digits};
 use crate::number::{INTEGER_WIDTH, Number, read_number, unsigned_number};

@@ -2,7 +2,7 @@ ghost use Rattle.std.specs.Prelude.{◌≡◌, ◌<◌, ◌+◌, ◌*◌, ℕ};
 ghost use Rattle.std.specs.Option.{option_map};
 ghost use Rattle.vh_text.specs.Digits.{decimal_number, characters};
 ghost use Rattle.vh_text.specs.Literals.{unsigned_number};
-ghost use Rattle.vh_text.specs.Patterns.{number_kept, number_held};
+ghost use Rattle.vh_text.specs.Views.{number_kept, number_held};
 
 use vh_logic::{MAX_WIDTH, Plane};
 

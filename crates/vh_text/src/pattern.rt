@@ -2,7 +2,7 @@ ghost use Rattle.std.specs.Prelude.{◌≡◌, ◌≤◌, ◌<◌, ◌+◌, ◌-
 ghost use Rattle.std.specs.Option.{option_map};
 ghost use Rattle.vh_logic.specs.Vector.{width_of};
 ghost use Rattle.vh_text.specs.Digits.{character_digits, spelled_characters, spelled_digits, characters, question_as_z};
-ghost use Rattle.vh_text.specs.Patterns.{pattern_of, pattern_pushed, digits_alone};
+ghost use Rattle.vh_text.specs.Views.{pattern_of, pattern_pushed, digits_alone};
 
 use crate::digits::is_held;
 use crate::scan::{is_x_letter, is_z_letter};

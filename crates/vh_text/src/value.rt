@@ -4,7 +4,7 @@ ghost use Rattle.std.specs.List.{list_any, position};
 ghost use Rattle.vh_text.specs.Marks.{colon};
 ghost use Rattle.std.specs.Option.{option_map};
 ghost use Rattle.vh_text.specs.Digits.{spelled_digits};
-ghost use Rattle.vh_text.specs.Patterns.{pattern_of, number_kept};
+ghost use Rattle.vh_text.specs.Views.{pattern_of, number_kept};
 ghost use Rattle.vh_text.specs.Texts.{group_count};
 ghost use Rattle.vh_text.specs.Values.{value_of_text, most_width, is_length, string_value, wide_value, numeral, integer_value, signed_value, scalar_digit, scalar, scalar_value, decimal_value, is_lower_hex, hex_number, has_plane_form, plane_value, parted_value};
 

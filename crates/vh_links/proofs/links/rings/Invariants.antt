@@ -1,4 +1,4 @@
-use Rattle.vh_links.specs.Rings.{AreRings}
+use Rattle.vh_links.specs.Views.{AreRings}
 use Rattle.vh_links.proofs.links.rings.Given as goal
 
 abbrev pub invariant-loop-i : goal.invariant-loop-i

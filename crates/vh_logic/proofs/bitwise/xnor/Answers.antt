@@ -2,7 +2,7 @@ use Rattle.std.proofs.Common.{◌+◌, ◌%◌, max, rules, refl}
 use Rattle.std.proofs.lemmas.Nat.Bits.{bit_at_or, bit_at_xor, bit_at_ones}
 use Rattle.vh_logic.specs.Digit.{digit_xnor}
 use Rattle.vh_logic.specs.Planes.{digit_of}
-use Rattle.vh_logic.proofs.PlaneLemmas.{bounds}
+use Rattle.vh_logic.proofs.PlanesLemmas.{bounds}
 use Rattle.vh_logic.proofs.ArithmeticLemmas.{literal-width}
 use Rattle.vh_logic.proofs.BitwiseLemmas.{second-below, zip_by_table}
 use Rattle.vh_logic.proofs.bitwise.xnor.Goals as goal

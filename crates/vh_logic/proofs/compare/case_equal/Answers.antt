@@ -4,7 +4,7 @@ use Rattle.std.proofs.lemmas.Nat.Bits.{bit_at-lt, bit_at_or, bit_at_xor}
 use Rattle.vh_logic.specs.Digit.{is_same}
 use Rattle.vh_logic.specs.Digit.{test_digit}
 use Rattle.vh_logic.specs.Planes.{digit_of}
-use Rattle.vh_logic.proofs.PlaneLemmas.{bounds}
+use Rattle.vh_logic.proofs.PlanesLemmas.{bounds}
 use Rattle.vh_logic.proofs.Tables.{test_by_4}
 use Rattle.vh_logic.proofs.ArithmeticLemmas.{widths-planes}
 use Rattle.vh_logic.proofs.CompareLemmas.{all_places-vectors}

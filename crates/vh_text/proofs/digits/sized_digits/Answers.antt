@@ -4,7 +4,7 @@ use Rattle.vh_logic.specs.declared.digits.Digit.{Digit}
 use Rattle.vh_logic.specs.declared.digits.Digit.TheVariants.{Zero}
 use Rattle.vh_logic.specs.Vector.{Vector, highest}
 use Rattle.vh_text.specs.Digits.{fill_of}
-use Rattle.vh_text.proofs.PatternLemmas.{sized_digits-same}
+use Rattle.vh_text.proofs.ViewsLemmas.{sized_digits-same}
 use Rattle.vh_text.proofs.digits.sized_digits.Goals as goal
 
 pub returns : goal.returns

@@ -4,7 +4,7 @@ use Rattle.vh_logic.specs.Vector.{Vector}
 use Rattle.vh_text.specs.declared.pattern.Pattern.{Pattern}
 use Rattle.vh_text.specs.Digits.{characters}
 use Rattle.vh_text.specs.Literals.{decimal_part}
-use Rattle.vh_text.specs.Patterns.{pattern_of}
+use Rattle.vh_text.specs.Views.{pattern_of}
 use Rattle.vh_text.proofs.literal.decimal_part.Goals as goal
 
 -- One digit is kept whole

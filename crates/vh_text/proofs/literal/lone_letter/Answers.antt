@@ -4,8 +4,8 @@ use Rattle.std.specs.List.{list_all}
 use Rattle.std.proofs.Common.{eqb}
 use Rattle.vh_text.specs.Digits.{characters, question_as_z, spelled_characters}
 use Rattle.vh_text.specs.Literals.{lone_letter}
-use Rattle.vh_text.proofs.PatternLemmas.{characters-first}
-use Rattle.vh_text.proofs.LiteralLemmas.{lone_letter-many, lone_letter-x, lone_letter-z, characters-none}
+use Rattle.vh_text.proofs.ViewsLemmas.{characters-first}
+use Rattle.vh_text.proofs.LiteralsLemmas.{lone_letter-many, lone_letter-x, lone_letter-z, characters-none}
 use Rattle.vh_text.proofs.literal.lone_letter.Goals as goal
 
 -- A text of one byte and underscores

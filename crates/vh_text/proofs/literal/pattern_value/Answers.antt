@@ -3,7 +3,7 @@ use Rattle.vh_logic.specs.declared.digits.Digit.{Digit}
 use Rattle.vh_logic.specs.Vector.{Vector}
 use Rattle.vh_text.specs.declared.pattern.Pattern.{Pattern}
 use Rattle.vh_text.specs.Literals.{at_width, of_digits, width_by, pattern_value}
-use Rattle.vh_text.proofs.LiteralLemmas.{from_pattern, sized_digits-take, natural_width-pattern}
+use Rattle.vh_text.proofs.LiteralsLemmas.{from_pattern, sized_digits-take, natural_width-pattern}
 use Rattle.vh_text.proofs.literal.pattern_value.Goals as goal
 
 pub returns-in-Some-width_by : goal.returns-in-Some-width_by

@@ -5,7 +5,7 @@ use Rattle.std.proofs.lemmas.Bool.{eqb-false}
 use Rattle.vh_text.specs.declared.literal.LiteralFault.{LiteralFault}
 use Rattle.vh_text.specs.declared.literal.Size.{Size}
 use Rattle.vh_text.specs.Literals.{by_front, behind_size, after_white, based_value, unsigned_number}
-use Rattle.vh_text.proofs.LiteralLemmas.{by_front-sized}
+use Rattle.vh_text.proofs.LiteralsLemmas.{by_front-sized}
 use Rattle.vh_text.proofs.literal.read_literal.Goals as goal
 
 pub returns-in-Ok : goal.returns-in-Ok

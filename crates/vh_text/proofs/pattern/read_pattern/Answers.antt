@@ -4,8 +4,8 @@ use Rattle.std.proofs.lemmas.List.{drop_more, drop_all, length-append}
 use Rattle.vh_logic.specs.declared.digits.Digit.{Digit}
 use Rattle.vh_text.specs.declared.pattern.Pattern.{Pattern}
 use Rattle.vh_text.specs.Digits.{spelled_digits, characters, character_digits, joined_digits, question_as_z}
-use Rattle.vh_text.specs.Patterns.{pattern_of, pattern_pushed}
-use Rattle.vh_text.proofs.PatternLemmas.{characters-first, characters-next, characters-mark, spelled_digits-none, spelled_digits-first, spelled_digits-stop, spelled_digits-more, spelled_digits-nil, from_some, from_none, pattern_of-short, pattern_of-pushed}
+use Rattle.vh_text.specs.Views.{pattern_of, pattern_pushed}
+use Rattle.vh_text.proofs.ViewsLemmas.{characters-first, characters-next, characters-mark, spelled_digits-none, spelled_digits-first, spelled_digits-stop, spelled_digits-more, spelled_digits-nil, from_some, from_none, pattern_of-short, pattern_of-pushed}
 use Rattle.vh_text.proofs.pattern.read_pattern.Goals as goal
 use Rattle.vh_text.proofs.pattern.read_pattern.Goals.{then-b-ne95+in_ok-digits, else-b-ne95}
 

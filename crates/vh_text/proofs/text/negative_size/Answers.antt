@@ -1,7 +1,7 @@
 use Rattle.std.proofs.Common.{◌≡◌, Some, arith, ap, ◌∙◌, sym, ◌^◌, ◌<◌, ◌-◌, ◌+◌, length, ℕ, Bool, true}
 use Rattle.std.specs.Prelude.{ℤ, pos, neg_ℤ}
 use Rattle.vh_logic.specs.Number.{integer_at}
-use Rattle.vh_text.proofs.TextLemmas.{known_number-lt, integer_of-known, twos_complement-negative, twos_complement-positive}
+use Rattle.vh_text.proofs.TextsLemmas.{known_number-lt, integer_of-known, twos_complement-negative, twos_complement-positive}
 use Rattle.vh_text.proofs.text.negative_size.Goals as goal
 use Rattle.vh_text.proofs.text.negative_size.Goals.{else-is_signed-via-then-is_signed+else-n-width-eq1, else-is_signed-via-else-is_signed}
 

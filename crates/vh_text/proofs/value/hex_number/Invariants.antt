@@ -1,6 +1,6 @@
 use Rattle.std.proofs.Common.{◌≡◌, ◌<◌, ◌^◌, drop}
 use Rattle.vh_text.specs.Values.{hex_number}
-use Rattle.vh_text.proofs.ValueLemmas.{hex_after}
+use Rattle.vh_text.proofs.ValuesLemmas.{hex_after}
 use Rattle.vh_text.proofs.value.hex_number.Given as goal
 
 -- The number of the whole text by what is left of it

@@ -5,7 +5,7 @@ use Rattle.vh_logic.specs.declared.vector.TheConstants.{MAX_WIDTH}
 use Rattle.vh_logic.specs.Number.{binary, wrapped, signed_integer}
 use Rattle.vh_logic.specs.Planes.{digits_of}
 use Rattle.vh_text.specs.Values.{integer_value}
-use Rattle.vh_text.proofs.ValueLemmas.{from_number, kept-fits, digits_of-positive, digits_of-negative, integer_value-is, not_false}
+use Rattle.vh_text.proofs.ValuesLemmas.{from_number, kept-fits, digits_of-positive, digits_of-negative, integer_value-is, not_false}
 use Rattle.vh_text.proofs.value.integer_value.Goals as goal
 use Rattle.vh_text.proofs.value.integer_value.Goals.{then-negative, else-negative}
 

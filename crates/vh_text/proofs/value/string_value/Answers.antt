@@ -3,8 +3,8 @@ use Rattle.vh_logic.specs.Vector.{Vector}
 use Rattle.vh_logic.specs.Parts.{resized}
 use Rattle.vh_text.specs.declared.pattern.Pattern.{Pattern}
 use Rattle.vh_text.specs.Digits.{spelled_digits}
-use Rattle.vh_text.proofs.LiteralLemmas.{from_pattern}
-use Rattle.vh_text.proofs.ValueLemmas.{string_value-is, cut_or_padded-take}
+use Rattle.vh_text.proofs.LiteralsLemmas.{from_pattern}
+use Rattle.vh_text.proofs.ValuesLemmas.{string_value-is, cut_or_padded-take}
 use Rattle.vh_text.proofs.value.string_value.Goals as goal
 
 pub returns : goal.returns

@@ -1,8 +1,8 @@
 use Rattle.std.proofs.Common.{◌≡◌, ◌++◌, ◌∷◌, [], ℕ, ◌<◌, ◌-◌, ◌^◌, List, ap, sym, ◌∙◌, subst, length}
 use Rattle.vh_links.specs.declared.links.Link.{Link}
 use Rattle.vh_links.specs.Lists.{Lists, after_add}
-use Rattle.vh_links.specs.Rings.{Holds}
-use Rattle.vh_links.proofs.HoldsLemmas.{lists_in-is, holds-seen, holds-add}
+use Rattle.vh_links.specs.Views.{Holds}
+use Rattle.vh_links.proofs.ViewsLemmas.{lists_in-is, holds-seen, holds-add}
 use Rattle.vh_links.proofs.links.Links.add_node.Goals as goal
 
 -- The lists with one place more

@@ -1,8 +1,8 @@
 use Rattle.std.proofs.Common.{ℕ, ◌<◌, List, ap, arith, ◌∙◌, subst}
 use Rattle.vh_links.specs.declared.links.Link.{Link}
 use Rattle.vh_links.specs.Lists.{Lists, list_of}
-use Rattle.vh_links.specs.Rings.{Holds, node_of}
-use Rattle.vh_links.proofs.HoldsLemmas.{first-node, read-at}
+use Rattle.vh_links.specs.Views.{Holds, node_of}
+use Rattle.vh_links.proofs.ViewsLemmas.{first-node, read-at}
 use Rattle.vh_links.proofs.links.Links.first.Goals as goal
 
 pub returns : goal.returns

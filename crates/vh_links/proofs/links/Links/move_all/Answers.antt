@@ -1,8 +1,8 @@
 use Rattle.std.proofs.Common.{◌≡◌, ℕ, ◌<◌, List, ap, arith, sym, ◌∙◌, subst}
 use Rattle.vh_links.specs.declared.links.Link.{Link}
 use Rattle.vh_links.specs.Lists.{Lists, list_of, after_move}
-use Rattle.vh_links.specs.Rings.{Holds, Joins, prev_at, next_at}
-use Rattle.vh_links.proofs.HoldsLemmas.{lists_in-is, holds-seen, holds-move, move-none, move-same, empty-list, read-at}
+use Rattle.vh_links.specs.Views.{Holds, Joins, prev_at, next_at}
+use Rattle.vh_links.proofs.ViewsLemmas.{lists_in-is, holds-seen, holds-move, move-none, move-same, empty-list, read-at}
 use Rattle.vh_links.proofs.links.Links.move_all.Goals as goal
 use Rattle.vh_links.proofs.links.Links.move_all.Goals.{then-from-to-via-then-from-to, then-from-to-via-else-from-to+then-moved-from}
 

@@ -1,6 +1,6 @@
 use Rattle.std.proofs.Common.{[], replicate}
-use Rattle.vh_links.specs.Rings.{Holds}
-use Rattle.vh_links.proofs.HoldsLemmas.{lists_in-is, holds-seen, holds-new}
+use Rattle.vh_links.specs.Views.{Holds}
+use Rattle.vh_links.proofs.ViewsLemmas.{lists_in-is, holds-seen, holds-new}
 use Rattle.vh_links.proofs.links.Links.new.Goals as goal
 
 after : (c : goal.In_ok-links) → Holds c.args.anchors c.in_ok-links.links.items (record { lists = replicate c.args.anchors []; nodes = 0 })

@@ -1,8 +1,8 @@
 use Rattle.std.proofs.Common.{ℕ, ◌+◌, List, ap, arith, ◌∙◌, subst}
 use Rattle.vh_links.specs.declared.links.Link.{Link}
 use Rattle.vh_links.specs.Lists.{Lists}
-use Rattle.vh_links.specs.Rings.{Holds, node_of}
-use Rattle.vh_links.proofs.HoldsLemmas.{linked-at, next-is, read-at}
+use Rattle.vh_links.specs.Views.{Holds, node_of}
+use Rattle.vh_links.proofs.ViewsLemmas.{linked-at, next-is, read-at}
 use Rattle.vh_links.proofs.links.Links.next.Goals as goal
 
 pub index-requires : goal.index-requires

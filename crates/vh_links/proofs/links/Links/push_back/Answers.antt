@@ -1,8 +1,8 @@
 use Rattle.std.proofs.Common.{ℕ, ◌+◌, ◌<◌, List, ap, arith, subst}
 use Rattle.vh_links.specs.declared.links.Link.{Link}
 use Rattle.vh_links.specs.Lists.{Lists, after_push}
-use Rattle.vh_links.specs.Rings.{Holds, Joins, prev_at}
-use Rattle.vh_links.proofs.HoldsLemmas.{lists_in-is, holds-seen, holds-push, read-at}
+use Rattle.vh_links.specs.Views.{Holds, Joins, prev_at}
+use Rattle.vh_links.proofs.ViewsLemmas.{lists_in-is, holds-seen, holds-push, read-at}
 use Rattle.vh_links.proofs.links.Links.push_back.Goals as goal
 
 after : (c : goal.After-join-2) → Holds c.self.inside.anchors c.join-2.new.links.items (after_push c.args.anchor c.args.node c.args.self.now)

@@ -1,8 +1,8 @@
 use Rattle.std.proofs.Common.{ℕ, ◌+◌, List, ap, arith, subst}
 use Rattle.vh_links.specs.declared.links.Link.{Link}
 use Rattle.vh_links.specs.Lists.{Lists, after_unlink}
-use Rattle.vh_links.specs.Rings.{Holds, Joins, prev_at, next_at}
-use Rattle.vh_links.proofs.HoldsLemmas.{lists_in-is, holds-seen, linked-at, holds-unlink, read-at}
+use Rattle.vh_links.specs.Views.{Holds, Joins, prev_at, next_at}
+use Rattle.vh_links.proofs.ViewsLemmas.{lists_in-is, holds-seen, linked-at, holds-unlink, read-at}
 use Rattle.vh_links.proofs.links.Links.unlink.Goals as goal
 
 pub index-link-requires : goal.index-link-requires

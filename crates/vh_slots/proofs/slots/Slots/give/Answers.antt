@@ -3,9 +3,9 @@ use Rattle.slab.specs.Slab.{Slab, get, slab_len, Updates}
 use Rattle.vh_slots.specs.declared.slots.TheConstants.{GENERATIONS}
 use Rattle.vh_slots.specs.declared.slots.Slot.{Slot}
 use Rattle.vh_slots.specs.Table.{Table, is_full, Gives}
-use Rattle.vh_slots.specs.Kept.{slot_at, table_in, IsSound, nothing}
+use Rattle.vh_slots.specs.Views.{slot_at, table_in, IsSound, nothing}
 use Rattle.vh_slots.proofs.ListsLemmas.{default-other, length-mapped}
-use Rattle.vh_slots.proofs.KeptLemmas.{full-true, full-false, head-free, sound-open, sound-reuse, gives-open, gives-reuse}
+use Rattle.vh_slots.proofs.ViewsLemmas.{full-true, full-false, head-free, sound-open, sound-reuse, gives-open, gives-reuse}
 use Rattle.vh_slots.proofs.slots.Slots.give.Goals as goal
 
 -- A slot more, as the code makes it

@@ -1,4 +1,4 @@
-use Rattle.vh_slots.proofs.KeptLemmas.{sound-new}
+use Rattle.vh_slots.proofs.ViewsLemmas.{sound-new}
 use Rattle.vh_slots.proofs.slots.Slots.new.Goals as goal
 
 pub invariant_of-result : goal.invariant_of-result

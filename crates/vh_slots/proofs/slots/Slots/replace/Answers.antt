@@ -1,7 +1,7 @@
 use Rattle.std.proofs.Common.{ap, ◌∙◌, sym}
 use Rattle.vh_slots.specs.Table.{Table, held, after_replace}
-use Rattle.vh_slots.specs.Kept.{value_in}
-use Rattle.vh_slots.proofs.KeptLemmas.{place-found, held-is, replaced-is}
+use Rattle.vh_slots.specs.Views.{value_in}
+use Rattle.vh_slots.proofs.ViewsLemmas.{place-found, held-is, replaced-is}
 use Rattle.vh_slots.proofs.slots.Slots.replace.Goals as goal
 
 pub returns-clause-old : goal.returns-clause-old

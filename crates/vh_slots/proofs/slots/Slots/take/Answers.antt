@@ -4,10 +4,10 @@ use Rattle.vh_slots.specs.declared.slots.TheConstants.{GENERATIONS}
 use Rattle.vh_slots.specs.declared.slots.Key.{Key}
 use Rattle.vh_slots.specs.declared.slots.Slot.{Slot}
 use Rattle.vh_slots.specs.Table.{Table, held, with_cell, after_take}
-use Rattle.vh_slots.specs.Kept.{place_of, value_in, table_in, IsSound}
+use Rattle.vh_slots.specs.Views.{place_of, value_in, table_in, IsSound}
 use Rattle.std.proofs.lemmas.List.Sums.{count_by-le-length}
-use Rattle.vh_slots.specs.Kept.{is_over}
-use Rattle.vh_slots.proofs.KeptLemmas.{place-found, held-is, sound-take, sound-retire, taken-is}
+use Rattle.vh_slots.specs.Views.{is_over}
+use Rattle.vh_slots.proofs.ViewsLemmas.{place-found, held-is, sound-take, sound-retire, taken-is}
 use Rattle.vh_slots.proofs.slots.Slots.take.Goals as goal
 
 -- The value that was under a key

@@ -19,11 +19,11 @@ use Rattle.vh_logic.specs.Number.{binary, wrapped, signed_integer, vector_of}
 use Rattle.vh_logic.specs.Planes.{digits_of}
 use Rattle.vh_text.specs.declared.number.Number.{Number}
 use Rattle.vh_text.specs.Digits.{character_digits, joined_digits, spelled_digits, characters, decimal_number}
-use Rattle.vh_text.specs.Patterns.{number_kept, digits_alone}
+use Rattle.vh_text.specs.Views.{number_kept, digits_alone}
 use Rattle.vh_text.specs.Texts.{group_count}
 use Rattle.vh_text.specs.Values.{cut_or_padded, is_length, string_value, numeral, is_lower_hex, integer_value}
-use Rattle.vh_text.proofs.PatternLemmas.{base_is, digits_of-binary, character_digits-none, short_or}
-use Rattle.vh_text.proofs.LiteralLemmas.{binary-mod}
+use Rattle.vh_text.proofs.ViewsLemmas.{base_is, digits_of-binary, character_digits-none, short_or}
+use Rattle.vh_text.proofs.LiteralsLemmas.{binary-mod}
 
 -- What literals alone may have
 abbrev pub is_literal_mark : ℕ → Bool

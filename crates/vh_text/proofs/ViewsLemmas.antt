@@ -21,7 +21,7 @@ use Rattle.vh_logic.specs.PlanesBack.{by_bit}
 use Rattle.vh_text.specs.declared.pattern.Pattern.{Pattern}
 use Rattle.vh_text.specs.Marks.{is_x_letter, is_z_letter}
 use Rattle.vh_text.specs.Digits.{character_digits, joined_digits, spelled_digits, question_as_z, characters, spelled_characters, fill_of, is_held}
-use Rattle.vh_text.specs.Patterns.{digits_alone, pattern_of, pattern_pushed}
+use Rattle.vh_text.specs.Views.{digits_alone, pattern_of, pattern_pushed}
 
 pub digits_of-binary : (w n : ℕ) → digits_of w n 0 ≡ binary w n
 unfolding digits_of binary

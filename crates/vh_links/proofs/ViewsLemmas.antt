@@ -9,9 +9,9 @@ use Rattle.std.proofs.lemmas.List.FromFn.{fill_by_all}
 use Rattle.std.proofs.lemmas.Map.Steps.{length-le_from_distinct_below}
 use Rattle.vh_links.specs.declared.links.Link.{Link}
 use Rattle.vh_links.specs.Lists.{Lists, has, is_linked, list_of, with_list, after_add, after_push, after_unlink, after_move, without, behind, next_of}
-use Rattle.vh_links.specs.Rings.{next_at, prev_at, nodes_from, lists_in, Goes, IsApart, IsClosed, Holds, Joins, node_of, nowhere}
+use Rattle.vh_links.specs.Views.{next_at, prev_at, nodes_from, lists_in, Goes, IsApart, IsClosed, Holds, Joins, node_of, nowhere}
 use Rattle.vh_links.proofs.ListsLemmas.{has-head, has-right, has-left, has-parts, has-one, not_one, has-cases, has-without, apart-append, apart-left, apart-right, apart-both, apart-without, parted, without-none, without-at, behind-at, distinct, any-none, any-at, find-only, get_or-map, length-mapped, get_or-copies}
-use Rattle.vh_links.proofs.RingsLemmas.{next-same, prev-same, Misses, misses-anchor, misses-node, misses-head, misses-tail, last_place, last-other, prev-last, goes-on, goes-to, goes-append, goes-split, nodes-on_way}
+use Rattle.vh_links.proofs.JoinsLemmas.{next-same, prev-same, Misses, misses-anchor, misses-node, misses-head, misses-tail, last_place, last-other, prev-last, goes-on, goes-to, goes-append, goes-split, nodes-on_way}
 
 -- What contracts see of links that hold lists
 pub lists_in-is : (A : ℕ) (ls : List Link) (s : Lists) → Holds A ls s → lists_in A ls ≡ s

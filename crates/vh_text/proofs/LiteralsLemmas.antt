@@ -21,8 +21,8 @@ use Rattle.vh_text.specs.declared.pattern.Pattern.{Pattern}
 use Rattle.vh_text.specs.Digits.{question_as_z, characters, sized_digits, is_held}
 use Rattle.vh_text.specs.Marks.{is_x_letter, is_z_letter}
 use Rattle.vh_text.specs.Literals.{natural_width, lone_letter, by_front, behind_size, after_white, size_of_number, unsigned_number}
-use Rattle.vh_text.specs.Patterns.{pattern_of, pattern_held, IsWidth}
-use Rattle.vh_text.proofs.PatternLemmas.{digits_of-binary, short_or, is_held-take}
+use Rattle.vh_text.specs.Views.{pattern_of, pattern_held, IsWidth}
+use Rattle.vh_text.proofs.ViewsLemmas.{digits_of-binary, short_or, is_held-take}
 
 -- The number that digits write when they follow those of n
 abbrev pub number_after : ℕ → List ℕ → Option ℕ

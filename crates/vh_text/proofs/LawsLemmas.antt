@@ -18,10 +18,10 @@ use Rattle.vh_logic.specs.Number.{binary, number_of}
 use Rattle.vh_logic.specs.Planes.{digit_of, digits_of, plane_of, aval_bit, bval_bit}
 use Rattle.vh_text.specs.Texts.{groups_text, group_count, character_text, digits_text, vector_text}
 use Rattle.vh_text.specs.Digits.{character_digits, joined_digits, spelled_digits}
-use Rattle.vh_text.specs.Patterns.{digits_alone}
+use Rattle.vh_text.specs.Views.{digits_alone}
 use Rattle.vh_text.specs.Values.{string_value, cut_or_padded, is_lower_hex, has_plane_form, plane_value, planes_value, parted_value}
 use Rattle.vh_text.proofs.HexLemmas.{text-hex, text-length, text-first, text-zero}
-use Rattle.vh_text.proofs.ValueLemmas.{is_length-is, string_value-is}
+use Rattle.vh_text.proofs.ValuesLemmas.{is_length-is, string_value-is}
 
 -- Joined parts, in any order of joining
 joined_digits-assoc : (a b c : Option (List Digit)) → joined_digits (joined_digits a b) c ≡ joined_digits a (joined_digits b c)

@@ -10,7 +10,7 @@ use Rattle.vh_slots.specs.declared.slots.TheConstants.{GENERATIONS}
 use Rattle.vh_slots.specs.declared.slots.Key.{Key}
 use Rattle.vh_slots.specs.declared.slots.Slot.{Slot}
 use Rattle.vh_slots.specs.Table.{Cell, value_at, held_count, is_full, is_free, with_cell, Gives, GivesBy}
-use Rattle.vh_slots.specs.Kept.{nothing, slot_at, place_in, has, IsApart, Chains, is_over, value_in, cell_of, table_in, IsSound}
+use Rattle.vh_slots.specs.Views.{nothing, slot_at, place_in, has, IsApart, Chains, is_over, value_in, cell_of, table_in, IsSound}
 use Rattle.vh_slots.proofs.ListsLemmas.{map-same, map-write, map-append, bit, count-write, count-append, count-same, has-head, has-tail, has-rest, any-none, any-mapped, get-mapped, at-before, at-end, at-past, length-mapped}
 
 -- A key that is found, by its slot

@@ -3,7 +3,7 @@ use Rattle.std.proofs.Common.{◌≡◌, ℕ, zero, suc, ◌+◌, ◌-◌, ◌<�
 use Rattle.std.proofs.lemmas.Bool.{lt-ltb, le-ltb, eq-eqb, ne_eqb}
 use Rattle.vh_links.specs.declared.links.Link.{Link}
 use Rattle.vh_links.specs.Lists.{has}
-use Rattle.vh_links.specs.Rings.{next_at, prev_at, nodes_from, Goes, IsApart, Joins}
+use Rattle.vh_links.specs.Views.{next_at, prev_at, nodes_from, Goes, IsApart, Joins}
 use Rattle.vh_links.proofs.ListsLemmas.{has-head, has-tail}
 
 -- What a join writes, and what it leaves

@@ -15,7 +15,7 @@ use Rattle.vh_logic.specs.Number.{known_number, binary}
 use Rattle.vh_logic.specs.Shift.{moved_up, moved_down, shifted_right, shifted_right_signed}
 use Rattle.vh_logic.specs.Planes.{digits_of}
 use Rattle.vh_logic.specs.PlanesBack.{length-digits_of}
-use Rattle.vh_logic.proofs.PlaneLemmas.{digit_at, digits_of-places, get_or-digits_of, Vector-of, digits_with, ones_below}
+use Rattle.vh_logic.proofs.PlanesLemmas.{digit_at, digits_of-places, get_or-digits_of, Vector-of, digits_with, ones_below}
 use Rattle.vh_logic.proofs.NumberLemmas.{known_number-planes, digits_of-binary}
 use Rattle.vh_logic.proofs.ArithmeticLemmas.{width-planes}
 
