@@ -12,12 +12,12 @@ use Rattle.vh_logic.specs.declared.digits.Digit.TheVariants.{X}
 use Rattle.vh_logic.specs.Vector.{Vector, width_of, filled}
 use Rattle.vh_logic.specs.Number.{binary, wrapped, integer_at, integer_of, signed_integer, vector_of}
 use Rattle.vh_logic.specs.Arithmetic.{arithmetic, quotient, remainder, power, reciprocal_power}
-use Rattle.vh_logic.proofs.PlaneLemmas.{Vector-of, digits_with}
+use Rattle.vh_logic.proofs.PlanesLemmas.{Vector-of, digits_with}
 use Rattle.vh_logic.proofs.NumberLemmas.{known_integer, unknown_integer, or_zero, Differs, binary-wrapped, binary-differs, pow_multiple, Differs-product, integer_at-differs}
 use Rattle.vh_logic.specs.PlanesBack.{length-digits_of}
 use Rattle.vh_logic.specs.Planes.{digits_of}
 
--- an operand with an x or z digit makes all digits x
+-- An operand with an x or z digit makes all digits x
 pub arithmetic-unknown : (f : ℤ → ℤ → Option ℤ) (w a b v c d : ℕ) (s t : Bool) (x y : Vector)
     → Vector-of w a b s ≡ x → Vector-of v c d t ≡ y → a < 2 ^ w → b < 2 ^ w → c < 2 ^ v → d < 2 ^ v
     → (bit_or b d ≡ 0 → ⊥) → filled (width_of x) X x.signed ≡ arithmetic f x y
@@ -29,7 +29,7 @@ arithmetic-unknown f w a b v c d s t x y e g ha hb hc hd n =
       | inr m ↦ rw (unknown_integer w a b s x e ha hb m) refl
     ]
 
--- known operands have an integer each
+-- Known operands have an integer each
 pub arithmetic-known : (f : ℤ → ℤ → Option ℤ) (w a b v c d : ℕ) (s t : Bool) (x y : Vector)
     → Vector-of w a b s ≡ x → Vector-of v c d t ≡ y → a < 2 ^ w → c < 2 ^ v
     → bit_or b d ≡ 0 → arithmetic f x y ≡ vector_of (width_of x) x.signed (f (integer_at w s a) (integer_at v t c))
@@ -46,7 +46,7 @@ pub widths-planes : (w a b v c d : ℕ) (s t : Bool) (x y : Vector) → Vector-o
     → width_of x ≡ width_of y → v ≡ w
 widths-planes w a b v c d s t x y e g l = sym (width-planes v c d t y g) ∙ sym l ∙ width-planes w a b s x e
 
--- a result of the machine's word of p bits, which differs from the integer by a multiple of 2 ^ width
+-- A result of the machine's word of p bits, which differs from the integer by a multiple of 2 ^ width
 pub arithmetic-result : (f : ℤ → ℤ → Option ℤ) (w a b v c d n p : ℕ) (s t : Bool) (x y : Vector) (z : ℤ)
     → Vector-of w a b s ≡ x → Vector-of v c d t ≡ y → a < 2 ^ w → c < 2 ^ v
     → bit_or b d ≡ 0 → f (integer_at w s a) (integer_at v t c) ≡ Some z → w ≤ p → Differs w z n
@@ -55,11 +55,21 @@ arithmetic-result f w a b v c d n p s t x y z e g ha hc known is le differs =
     ap (λ ds. record { digits = ds; signed = x.signed }) (rw (width-planes w a b s x e) (binary-wrapped w p n z le differs))
     ∙ sym (arithmetic-known f w a b v c d s t x y e g ha hc known ∙ ap (vector_of (width_of x) x.signed) is)
 
--- the second operand, at the width of the first
+-- The second operand, at the width of the first
 pub right-differs : (w v c : ℕ) (t : Bool) → v ≡ w → c < 2 ^ v → (Differs w (integer_at v t c) c) × (c < 2 ^ w)
 right-differs w v c t e h = rw (← e) (integer_at-differs v c t h, h)
 
--- a result of any number that differs from the integer by a multiple of 2 ^ width
+-- A result of a machine's word, where the operator on integers differs from that on numbers by multiples of 2 ^ width
+pub word-result : (f : ℤ → ℤ → ℤ) (w a b v c d n p : ℕ) (s t : Bool) (x y : Vector)
+    → Vector-of w a b s ≡ x → Vector-of v c d t ≡ y → width_of x ≡ width_of y → a < 2 ^ w → c < 2 ^ v → bit_or b d ≡ 0 → w ≤ p
+    → (c < 2 ^ w → Differs w (integer_at w s a) a → Differs w (integer_at v t c) c → Differs w (f (integer_at w s a) (integer_at v t c)) n)
+    → digits_with (binary (width_of x) (n % 2 ^ p)) x.signed ≡ arithmetic (λ i j. Some (f i j)) x y
+word-result f w a b v c d n p s t x y e g l below under known within h =
+    let right = right-differs w v c t (widths-planes w a b v c d s t x y e g l) under in
+    arithmetic-result (λ i j. Some (f i j)) w a b v c d n p s t x y (f (integer_at w s a) (integer_at v t c)) e g
+    below under known refl within (h right.1 (integer_at-differs w a s below) right.0)
+
+-- A result of any number that differs from the integer by a multiple of 2 ^ width
 pub vector_of-number : (w a b n : ℕ) (s : Bool) (x : Vector) (z : ℤ) → Vector-of w a b s ≡ x → Differs w z n
     → digits_with (binary (width_of x) n) x.signed ≡ vector_of (width_of x) x.signed (Some z)
 vector_of-number w a b n s x z e differs =
@@ -87,7 +97,7 @@ remainder-signed true false (suc p) (suc q) h = refl
 remainder-signed false true p (suc q) h = refl
 remainder-signed false false p (suc q) h = refl
 
--- the machine's word for a signed integer
+-- The machine's word for a signed integer
 pub Differs-wrapped : (p : ℕ) (z : ℤ) → Differs p z (wrapped p z)
 Differs-wrapped p (pos n) =
     record { up = 0; down = n / 2 ^ p; same = ap pos (omega (arith, shr_split n p)) }
@@ -146,12 +156,12 @@ Differs-power w n (suc e) z d =
     rw (int_pow-suc z e, pow-suc) (let P : ℕ → Type 0 = λ m. Differs w (z *ℤ int_pow z e) m in
     subst P (mul_comm n (n ^ e)) (Differs-product w n (n ^ e) z (int_pow z e) d (Differs-power w n e z d)))
 
--- a zero
+-- A zero
 pub integer_at-zero : (w : ℕ) (s : Bool) → integer_at w s 0 ≡ pos 0
 integer_at-zero w true = rw (lt-leb (2 ^ w) (2 * 0) (pow_pos w)) refl
 integer_at-zero w false = refl
 
--- a result that is the machine's word for an integer
+-- A result that is the machine's word for an integer
 pub vector_of-word : (w a b p r : ℕ) (s : Bool) (x : Vector) (z : ℤ) → Vector-of w a b s ≡ x → w ≤ p → r ≡ wrapped p z
     → digits_with (binary (width_of x) r) x.signed ≡ vector_of (width_of x) x.signed (Some z)
 vector_of-word w a b p r s x z e le word =

@@ -16,13 +16,13 @@ use Rattle.vh_logic.specs.Compare.{equality, ordering}
 use Rattle.vh_logic.specs.Vector.{Vector, width_of, all_places}
 use Rattle.vh_logic.specs.Number.{all_known, twos_complement, integer_at}
 use Rattle.vh_logic.specs.Planes.{digit_of, digits_of}
-use Rattle.vh_logic.proofs.PlaneLemmas.{digit_at, Vector-of, bounds}
+use Rattle.vh_logic.proofs.PlanesLemmas.{digit_at, Vector-of, bounds}
 use Rattle.vh_logic.proofs.Tables.{test_by_4}
 use Rattle.vh_logic.proofs.TestLemmas.{all_places-digits_of}
 use Rattle.vh_logic.proofs.NumberLemmas.{all_known-digits_of, or_zero, known_integer, unknown_integer}
 use Rattle.vh_logic.proofs.ArithmeticLemmas.{widths-planes}
 
--- a test of each place of two vectors, by a plane that marks the places where it fails
+-- A test of each place of two vectors, by a plane that marks the places where it fails
 pub all_places-vectors : (f : Digit → Digit → Bool) (w a b v c d m : ℕ) (s t : Bool) (x y : Vector)
     → Vector-of w a b s ≡ x → Vector-of v c d t ≡ y → width_of x ≡ width_of y → m < 2 ^ w
     → ((i : ℕ) → i < w → f (digit_at a b i) (digit_at c d i) ≡ eqb (bit_at m i) 0)
@@ -45,7 +45,7 @@ both_known w a b v c d s t x y e g hb hd =
           ])
     ])
 
--- a number below 2 ^ (k + 1) with its highest bit turned round
+-- A number below 2 ^ (k + 1) with its highest bit turned round
 xor_low : (k a : ℕ) → a < 2 ^ k → bit_xor a (2 ^ k) ≡ a + 2 ^ k
 xor_low k a h = let off : bit_and a (2 ^ k) ≡ 0 = and_pow a k ∙ ap (λ n. n * 2 ^ k) (bit_at_above a k k h (omega arith)) ∙ omega arith in omega (arith, xor_add_and a (2 ^ k))
 
@@ -58,7 +58,7 @@ xor_high k a h l =
     let both : bit_and a (2 ^ k) ≡ 2 ^ k = and_pow a k ∙ ap (λ n. n * 2 ^ k) on ∙ omega arith in
     omega (arith, xor_add_and a (2 ^ k))
 
--- the order of two integers in two's complement is that of their numbers with the highest bits turned round
+-- The order of two integers in two's complement is that of their numbers with the highest bits turned round
 twos-low : (k a : ℕ) → a < 2 ^ k → twos_complement (suc k) a ≡ pos a
 twos-low k a h = rw (lt-leb (2 ^ suc k) (2 * a) (rw pow-suc (omega arith))) refl
 
@@ -144,7 +144,7 @@ pub ordering-known : (w a b v c d : ℕ) (s t : Bool) (x y : Vector)
 ordering-known w a b v c d s t x y e g ha hc n =
     rw (known_integer w a b s x e ha (or_zero b d n).0, known_integer v c d t y g hc (or_zero b d n).1) refl
 
--- the code's order of two known numbers, where they are signed and where not
+-- The code's order of two known numbers, where they are signed and where not
 pub order-then : (w p v a c sign : ℕ) (s t : Bool) → v ≡ w → s ≡ t → s ≡ true → 1 ≤ w → w ≤ p → sign ≡ 1 * 2 ^ (w - 1) % 2 ^ p → a < 2 ^ w → c < 2 ^ v
     → ltb (bit_xor a sign) (bit_xor c sign) ≡ int_lt (integer_at w s a) (integer_at v t c)
 order-then w p v a c sign s t same e on one le is ha hc =

@@ -14,11 +14,11 @@ use Rattle.vh_logic.specs.Vector.{Vector}
 use Rattle.vh_logic.specs.Number.{number_of, digit_value, all_known, binary, wrapped, twos_complement, integer_at, integer_of, known_number}
 use Rattle.vh_logic.specs.Planes.{digit_of, digits_of}
 use Rattle.vh_logic.specs.PlanesBack.{length-digits_of, half_below, by_bit}
-use Rattle.vh_logic.proofs.PlaneLemmas.{digits_of-mask, Vector-of}
+use Rattle.vh_logic.proofs.PlanesLemmas.{digits_of-mask, Vector-of}
 use Rattle.vh_logic.proofs.TestLemmas.{list_all-digits_of}
 use Rattle.vh_logic.proofs.Tables.{test_by_2}
 
--- a vector is known if no bit of its second plane is set
+-- A vector is known if no bit of its second plane is set
 pub all_known-digits_of : (w a b : ℕ) → b < 2 ^ w → all_known (digits_of w a b) ≡ eqb b 0
 all_known-digits_of w a b h =
     list_all-digits_of is_known w a b b h
@@ -40,7 +40,7 @@ digits_of-binary (suc w) n =
     let rest = digits_of-binary w (n / 2) in
     cc
 
--- only the number modulo 2 ^ w counts
+-- Only the number modulo 2 ^ w counts
 pub digits_of-mod : (w n : ℕ) → digits_of w (n % 2 ^ w) 0 ≡ binary w n
 digits_of-mod w n = rw (← and_mask n w) (digits_of-mask w n 0 ∙ digits_of-binary w n)
 
@@ -56,22 +56,22 @@ pub known_number-planes : (w a b : ℕ) → a < 2 ^ w → b < 2 ^ w → known_nu
 known_number-planes w a zero h k = rw (all_known-digits_of w a 0 k, number_of-digits_of w a h) refl
 known_number-planes w a (suc b) h k = rw (all_known-digits_of w a (suc b) k, eqb-suc-zero b) refl
 
--- the same of a vector that a contract sees
+-- The same of a vector that a contract sees
 pub known_integer : (w a b : ℕ) (s : Bool) (x : Vector) → Vector-of w a b s ≡ x → a < 2 ^ w → b ≡ 0 → integer_of x ≡ Some (integer_at w s a)
 known_integer w a b s x e h z = rw (← e, z) (integer_of-planes w a 0 s h (pow_pos w))
 
 pub unknown_integer : (w a b : ℕ) (s : Bool) (x : Vector) → Vector-of w a b s ≡ x → a < 2 ^ w → b < 2 ^ w → (b ≡ 0 → ⊥) → integer_of x ≡ None
 unknown_integer w a b s x e h k n = rw (← e) (integer_of-planes w a b s h k ∙ cond-false (eqb b 0) _ _ (ne_eqb b 0 n))
 
--- both of two numbers are 0 where their bits together are
+-- Both of two numbers are 0 where their bits together are
 pub or_zero : (a b : ℕ) → bit_or a b ≡ 0 → (a ≡ 0) × (b ≡ 0)
 or_zero a b h = (omega (arith, le_or_l a b), omega (arith, le_or_r a b))
 
--- an integer modulo 2 ^ w
+-- An integer modulo 2 ^ w
 pub wrapped_is : (w k m : ℕ) (z : ℤ) → z +ℤ pos (k * 2 ^ w) ≡ pos m → wrapped w z ≡ m % 2 ^ w
 wrapped_is w k m z e = ap (λ (y : ℤ). unsigned_abs y) (int_rem_euclid_is z (pos (2 ^ w)) (2 ^ w) k m (pow_pos w) refl e)
 
--- an integer and a number that differ by a multiple of 2 ^ w
+-- An integer and a number that differ by a multiple of 2 ^ w
 pub record Differs (w : ℕ) (z : ℤ) (n : ℕ) : Type 0 where
   pub up : ℕ
   pub down : ℕ
@@ -91,7 +91,7 @@ integer_at-differs w n false h = record { up = 0; down = 0; same = omega (arith,
 pub Differs-sum : (w m n : ℕ) (y z : ℤ) → Differs w y m → Differs w z n → Differs w (y +ℤ z) (m + n)
 Differs-sum w m n y z d e = record { up = d.up + e.up; down = d.down + e.down; same = omega (arith, ints, d.same, e.same) }
 
--- a power of two is a multiple of a lesser one
+-- A power of two is a multiple of a lesser one
 pub pow_multiple : (w p : ℕ) → w ≤ p → 2 ^ p ≡ 2 ^ (p - w) * 2 ^ w
 pow_multiple w p h = let e : p ≡ p - w + w = omega arith in ap (λ k. 2 ^ k) e ∙ pow-add 2 (p - w) w
 
@@ -108,7 +108,7 @@ Differs-negative w p n r z le none d =
     let whole : q * (2 ^ (p - w) * 2 ^ w) ≡ r + n = rw (← pow_multiple w p le) (let e = shr_split (r + n) p in omega arith) in
     record { up = d.down + q * 2 ^ (p - w); down = d.up; same = omega (arith, ints, d.same) }
 
--- products, by the signs of the factors: the equations of the factors, multiplied out
+-- Products, by the signs of the factors: the equations of the factors, multiplied out
 pos_eq : (a m u d : ℕ) → pos a +ℤ pos u ≡ pos (m + d) → a + u ≡ m + d
 pos_eq a m u d e = omega (arith, ints)
 
@@ -164,7 +164,7 @@ Differs-product w m n y z d e =
       same = product-same (2 ^ w) m n d.up d.down e.up e.down y z d.same e.same;
     }
 
--- what a result of the machine's word is, cut to the width
+-- What a result of the machine's word is, cut to the width
 pub mod-wider : (w p n : ℕ) → w ≤ p → n % 2 ^ p % 2 ^ w ≡ n % 2 ^ w
 mod-wider w p n h =
     let e : p - w + w ≡ p = omega arith in

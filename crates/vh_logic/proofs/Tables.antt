@@ -4,7 +4,7 @@ use Rattle.vh_logic.specs.declared.digits.Digit.{Digit}
 use Rattle.vh_logic.specs.declared.digits.Digit.TheVariants.{Zero, One, X, Z}
 use Rattle.vh_logic.specs.PlanesBack.{by_2_bits}
 
--- two digits are one, as a test
+-- Two digits are one, as a test
 abbrev pub digit_eq : Digit → Digit → Bool
 digit_eq Zero Zero = true
 digit_eq One One = true
@@ -30,7 +30,7 @@ same_digit Z Zero h = cc
 same_digit Z One h = cc
 same_digit Z X h = cc
 
--- two functions of two, or of four, bits agree if they do at each of their values
+-- Two functions of two, or of four, bits agree if they do at each of their values
 abbrev pub same_2 : (ℕ → ℕ → Digit) → (ℕ → ℕ → Digit) → Bool
 same_2 f g = digit_eq (f 0 0) (g 0 0) && digit_eq (f 0 1) (g 0 1) && digit_eq (f 1 0) (g 1 0) && digit_eq (f 1 1) (g 1 1)
 
@@ -59,7 +59,7 @@ by_4 f g h k l m n p q r s =
     (by_2 (f 0 1) (g 0 1) second.1 m n r s) (by_2 (f 1 0) (g 1 0) third.1 m n r s)
     (by_2 (f 1 1) (g 1 1) last.1 m n r s) k l p q
 
--- the same of functions that answer a test
+-- The same of functions that answer a test
 abbrev pub test_eq : Bool → Bool → Bool
 test_eq true b = b
 test_eq false b = not b

@@ -16,10 +16,10 @@ use Rattle.vh_logic.specs.Vector.{all_places}
 use Rattle.vh_logic.specs.Reduce.{reduced, truth_of}
 use Rattle.vh_logic.specs.Planes.{digit_of, digits_of}
 use Rattle.vh_logic.specs.PlanesBack.{half_below, by_bit}
-use Rattle.vh_logic.proofs.PlaneLemmas.{digit_at, digit_at-zero, digit_at-suc, bounds}
+use Rattle.vh_logic.proofs.PlanesLemmas.{digit_at, digit_at-zero, digit_at-suc, bounds}
 use Rattle.vh_logic.proofs.Tables.{by_2, by_4, test_by_2}
 
--- a number is 0 if its lowest bit is, and the rest
+-- A number is 0 if its lowest bit is, and the rest
 eqb-halves : (m : ℕ) → (eqb (m % 2) 0 && eqb (m / 2) 0) ≡ eqb m 0
 eqb-halves m = grind (arith, nat_tests)
 
@@ -59,7 +59,7 @@ all_places-digits_of f (suc w) a b c d m below h =
     (λ i within. rw (digit_at-suc a b i, digit_at-suc c d i, bit_at-suc m i) at (h (suc i) (omega arith))) in
     rw (first, rest) (eqb-halves m)
 
--- an operator between all digits, by two planes that mark where it leaves its first or its second answer
+-- An operator between all digits, by two planes that mark where it leaves its first or its second answer
 pub reduced-digits_of : (f : Digit → Digit → Digit) (unit : Digit) (pick : Bool → Bool → Digit) (w a b m n : ℕ)
     → m < 2 ^ w → n < 2 ^ w → pick true true ≡ unit
     → ((i : ℕ) → i < w → (s t : Bool) → f (digit_at a b i) (pick s t) ≡ pick (eqb (bit_at m i) 0 && s) (eqb (bit_at n i) 0 && t))
@@ -109,7 +109,7 @@ reduced_or w a b h k =
     reduced-digits_of digit_or Zero pick_or w a b _ b (search (rules, bounds)) k refl
     (λ i within s t. simp (bit_at_or, bit_at_xor) (pick_or-step s t _ _ (bit_at-lt a i) (bit_at-lt b i)))
 
--- two numbers are one if no bit differs
+-- Two numbers are one if no bit differs
 pub xor_zero_same : (a b : ℕ) → bit_xor a b ≡ 0 → a ≡ b
 xor_zero_same a b e =
     let regroup : bit_xor (bit_xor a b) b ≡ a = xor_assoc a b b ∙ ap (bit_xor a) (xor_self b) ∙ xor_zero_r a in
@@ -119,7 +119,7 @@ truth_cases : (m o b : ℕ) → (m ≡ 0 → o ≡ b) → cond (not (eqb m 0)) O
 truth_cases zero o b h = ap (λ n. cond (eqb n 0) Zero X) (h refl)
 truth_cases (suc m) o b h = rw (eqb-suc-zero m) refl
 
--- the truth of a vector is `|` of its digits
+-- The truth of a vector is `|` of its digits
 pub truth_of-digits_of : (w a b : ℕ) (s : Bool) → a < 2 ^ w → b < 2 ^ w
     → truth_of (record { digits = digits_of w a b; signed = s }) ≡ pick_or (eqb (bit_xor (bit_or a b) b) 0) (eqb b 0)
 truth_of-digits_of w a b s h k =

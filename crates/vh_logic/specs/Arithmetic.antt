@@ -4,13 +4,13 @@ use Rattle.std.specs.Int.{int_pow}
 use Rattle.vh_logic.specs.Vector.{Vector, width_of}
 use Rattle.vh_logic.specs.Number.{integer_of, vector_of}
 
--- an operator on two integers, where both are known (IEEE 1364-2005, 5.1.5)
+-- An operator on two integers, where both are known (IEEE 1364-2005, 5.1.5)
 abbrev pub on_both : (ℤ → ℤ → Option ℤ) → Option ℤ → Option ℤ → Option ℤ
 on_both f None y = None
 on_both f (Some x) None = None
 on_both f (Some x) (Some y) = f x y
 
--- an operator on two vectors, with the width and the sign mark of the first (5.1.5, 5.4.1)
+-- An operator on two vectors, with the width and the sign mark of the first (5.1.5, 5.4.1)
 abbrev pub arithmetic : (ℤ → ℤ → Option ℤ) → Vector → Vector → Vector
 arithmetic f a b = vector_of (width_of a) a.signed (on_both f (integer_of a) (integer_of b))
 
@@ -26,7 +26,7 @@ remainder x (pos zero) = None
 remainder x (pos (suc n)) = Some (int_rem x (pos (suc n)))
 remainder x (negsuc n) = Some (int_rem x (negsuc n))
 
--- x to a negative power: not defined for 0, of 1 and -1 the power of the exponent's size, of others 0 (5.1.5)
+-- The power of x by a negative exponent: not defined for 0, of 1 and -1 the power of the exponent's size, of others 0 (5.1.5)
 abbrev pub reciprocal_power : ℤ → ℕ → Option ℤ
 reciprocal_power (pos zero) n = None
 reciprocal_power (pos (suc zero)) n = Some (pos 1)
@@ -63,7 +63,7 @@ remainder_of a b = arithmetic remainder a b
 abbrev pub power_of : Vector → Vector → Vector
 power_of a b = arithmetic power a b
 
--- the integer with its sign changed, where it is known (5.1.5)
+-- The integer with its sign changed, where it is known (5.1.5)
 abbrev pub negated : Option ℤ → Option ℤ
 negated None = None
 negated (Some z) = Some (neg_ℤ z)

@@ -15,11 +15,11 @@ equality a b =
 abbrev pub case_equality : Vector → Vector → Digit
 case_equality a b = test_digit (all_places is_same a.digits b.digits)
 
--- the digits are the same, or one of them is z (9.5.1)
+-- The digits are the same, or one of them is z (9.5.1)
 abbrev pub is_same_or_z : Digit → Digit → Bool
 is_same_or_z d e = is_z d || is_z e || is_same d e
 
--- the digits are the same, or one of them is x or z (9.5.1)
+-- The digits are the same, or one of them is x or z (9.5.1)
 abbrev pub is_same_or_unknown : Digit → Digit → Bool
 is_same_or_unknown d e = not (is_known d) || not (is_known e) || is_same d e
 
@@ -31,7 +31,7 @@ casez_equality a b = test_digit (all_places is_same_or_z a.digits b.digits)
 abbrev pub casex_equality : Vector → Vector → Digit
 casex_equality a b = test_digit (all_places is_same_or_unknown a.digits b.digits)
 
--- the order of two integers, x where one is not known (5.1.7)
+-- The order of two integers, x where one is not known (5.1.7)
 abbrev pub order_digit : Option ℤ → Option ℤ → Digit
 order_digit None y = X
 order_digit (Some x) None = X

@@ -3,28 +3,28 @@ use Rattle.std.specs.Prelude.{Bool, true, false}
 use Rattle.vh_logic.specs.declared.digits.Digit.{Digit}
 use Rattle.vh_logic.specs.declared.digits.Digit.TheVariants.{Zero, One, X, Z}
 
--- the digit is 0 or 1, so that it counts in a number (4.1)
+-- The digit is 0 or 1, so that it counts in a number (4.1)
 abbrev pub is_known : Digit → Bool
 is_known Zero = true
 is_known One = true
 is_known X = false
 is_known Z = false
 
--- the digit is 1
+-- The digit is 1
 abbrev pub is_one : Digit → Bool
 is_one Zero = false
 is_one One = true
 is_one X = false
 is_one Z = false
 
--- the digit is 0
+-- The digit is 0
 abbrev pub is_zero : Digit → Bool
 is_zero Zero = true
 is_zero One = false
 is_zero X = false
 is_zero Z = false
 
--- the digit is z
+-- The digit is z
 abbrev pub is_z : Digit → Bool
 is_z Zero = false
 is_z One = false
@@ -69,13 +69,13 @@ digit_xor _ _ = X
 abbrev pub digit_xnor : Digit → Digit → Digit
 digit_xnor d e = digit_not (digit_xor d e)
 
--- what two branches of `?:` under an unknown condition make of a place: 0 or 1 where both have it, else x (5.1.13)
+-- What two branches of `?:` under an unknown condition make of a place: 0 or 1 where both have it, else x (5.1.13)
 abbrev pub digit_merge : Digit → Digit → Digit
 digit_merge Zero Zero = Zero
 digit_merge One One = One
 digit_merge _ _ = X
 
--- the digits are the same, which is what `===` compares (5.1.8)
+-- The digits are the same, which is what `===` compares (5.1.8)
 abbrev pub is_same : Digit → Digit → Bool
 is_same Zero Zero = true
 is_same One One = true
@@ -83,7 +83,7 @@ is_same X X = true
 is_same Z Z = true
 is_same _ _ = false
 
--- the digits are not 0 against 1 (5.1.8)
+-- The digits are not 0 against 1 (5.1.8)
 abbrev pub may_equal : Digit → Digit → Bool
 may_equal Zero One = false
 may_equal One Zero = false

@@ -5,19 +5,19 @@ use Rattle.std.proofs.Common.{zero, suc}
 use Rattle.vh_logic.specs.declared.digits.Digit.{Digit}
 use Rattle.vh_logic.specs.declared.digits.Digit.TheVariants.{Zero, One, X, Z}
 
--- the digit of a pair of bits
+-- The digit of a pair of bits
 abbrev pub digit_of : ℕ → ℕ → Digit
 digit_of zero zero = Zero
 digit_of (suc a) zero = One
 digit_of zero (suc b) = Z
 digit_of (suc a) (suc b) = X
 
--- the lowest `w` digits of two numbers, lowest first
+-- The lowest `w` digits of two numbers, lowest first
 unfoldable pub digits_of : ℕ → ℕ → ℕ → List Digit
 digits_of zero a b = []
 digits_of (suc w) a b = digit_of (a % 2) (b % 2) ∷ digits_of w (a / 2) (b / 2)
 
--- the two bits of a digit
+-- The two bits of a digit
 abbrev pub aval_bit : Digit → ℕ
 aval_bit Zero = 0
 aval_bit One = 1
@@ -30,7 +30,7 @@ bval_bit One = 0
 bval_bit X = 1
 bval_bit Z = 1
 
--- the number whose bits are those of the digits
+-- The number whose bits are those of the digits
 unfoldable pub plane_of : (Digit → ℕ) → List Digit → ℕ
 plane_of bit [] = 0
 plane_of bit (d ∷ ds) = bit d + 2 * plane_of bit ds

@@ -3,13 +3,13 @@ use Rattle.std.proofs.Common.{◌≡◌, ℕ, zero, suc, ◌*◌, ◌/◌, ◌%�
 use Rattle.std.proofs.Math.Nat.{pow-suc}
 use Rattle.vh_logic.specs.Planes.{digit_of, digits_of, aval_bit, bval_bit, plane_of}
 
--- a bit is 0 or 1
+-- A bit is 0 or 1
 pub bit_cases : (n : ℕ) → n < 2 → (n ≡ 0) ⊎ (n ≡ 1)
 bit_cases zero h = inl refl
 bit_cases (suc zero) h = inr refl
 bit_cases (suc (suc n)) h = absurd (omega arith)
 
--- a fact of one bit, and of two, by their values
+-- A fact of one bit, and of two, by their values
 pub by_bit : (P : ℕ → Type 0) → P 0 → P 1 → (n : ℕ) → n < 2 → P n
 by_bit P at_0 at_1 n h = elim (bit_cases n h) [ inl e ↦ subst P (sym e) at_0 | inr e ↦ subst P (sym e) at_1 ]
 
@@ -25,7 +25,7 @@ length-digits_of (suc w) a b = ap suc (length-digits_of w (a / 2) (b / 2))
 pub half_below : (w a : ℕ) → a < 2 ^ suc w → a / 2 < 2 ^ w
 half_below w a h = let e : 2 ^ suc w ≡ 2 * 2 ^ w = rw pow-suc (omega arith) in omega arith
 
--- the bits of a digit are those that it was made of
+-- The bits of a digit are those that it was made of
 aval_bit-digit_of : (a b : ℕ) → aval_bit (digit_of (a % 2) (b % 2)) ≡ a % 2
 aval_bit-digit_of a b =
     by_2_bits (λ m n. aval_bit (digit_of m n) ≡ m) refl refl refl refl (a % 2) (b % 2) (omega arith) (omega arith)

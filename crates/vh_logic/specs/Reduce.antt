@@ -6,7 +6,7 @@ use Rattle.vh_logic.specs.declared.digits.Digit.TheVariants.{Zero, One, X}
 use Rattle.vh_logic.specs.Vector.{Vector}
 use Rattle.vh_logic.specs.Digit.{digit_and, digit_or, digit_xor, is_one, is_zero}
 
--- an operator between all digits, from the highest one down; `unit` is what leaves the other operand as it is (5.1.11)
+-- An operator between all digits, from the highest one down; `unit` is what leaves the other operand as it is (5.1.11)
 unfoldable pub reduced : (Digit → Digit → Digit) → Digit → List Digit → Digit
 reduced f unit [] = unit
 reduced f unit (d ∷ ds) = f d (reduced f unit ds)
@@ -23,6 +23,6 @@ reduction_or a = reduced digit_or Zero a.digits
 abbrev pub reduction_xor : Vector → Digit
 reduction_xor a = reduced digit_xor Zero a.digits
 
--- whether a vector is true: a 1 makes it true, all zeros false, and else it is unknown (5.1.9)
+-- Whether a vector is true: a 1 makes it true, all zeros false, and else it is unknown (5.1.9)
 abbrev pub truth_of : Vector → Digit
 truth_of a = if list_any is_one a.digits then One else (if list_all is_zero a.digits then Zero else X)

@@ -3,35 +3,35 @@ use Rattle.std.specs.Prelude.{ℕ, ◌-◌, Bool, true, ◌&&◌, List, [], ◌�
 use Rattle.vh_logic.specs.declared.digits.Digit.{Digit}
 use Rattle.vh_logic.specs.declared.digits.Digit.TheVariants.{Zero}
 
--- the digits, lowest first, and whether the vector is signed (IEEE 1364-2005, 4.3)
+-- The digits, lowest first, and whether the vector is signed (IEEE 1364-2005, 4.3)
 pub record Vector : Type 0 where
   pub digits : List Digit
   pub signed : Bool
 
--- how many digits a vector has (4.3)
+-- How many digits a vector has (4.3)
 abbrev pub width_of : Vector → ℕ
 width_of v = length v.digits
 
--- the same digit at each of `w` places (own)
+-- The same digit at each of `w` places (own)
 abbrev pub filled : ℕ → Digit → Bool → Vector
 filled w d s = record { digits = replicate w d; signed = s }
 
--- the highest digit, which is the sign of a signed vector (5.5.2)
+-- The highest digit, which is the sign of a signed vector (5.5.2)
 abbrev pub highest : List Digit → Digit
 highest ds = slice_index_or ds (length ds - 1) Zero
 
--- an operator on digits at each place of a vector
+-- An operator on digits at each place of a vector
 unfoldable pub map_digits : (Digit → Digit) → List Digit → List Digit
 map_digits f [] = []
 map_digits f (x ∷ xs) = f x ∷ map_digits f xs
 
--- an operator on digits at each place of two vectors
+-- An operator on digits at each place of two vectors
 unfoldable pub zip_digits : (Digit → Digit → Digit) → List Digit → List Digit → List Digit
 zip_digits f [] ys = []
 zip_digits f (x ∷ xs) [] = []
 zip_digits f (x ∷ xs) (y ∷ ys) = f x y ∷ zip_digits f xs ys
 
--- a test of digits passes at each place of two vectors
+-- A test of digits passes at each place of two vectors
 unfoldable pub all_places : (Digit → Digit → Bool) → List Digit → List Digit → Bool
 all_places f [] ys = true
 all_places f (x ∷ xs) [] = true

@@ -112,9 +112,10 @@ pub fn pow(a: &Vec4, b: &Vec4) -> Vec4
     }
 }
 
-/// A vector without x or z to the power of a negative exponent of this size.
+// A vector without x or z to the power of a negative exponent of this size.
 fn negative_power(a: &Vec4, exponent: Plane) -> Vec4
-    ensures value { IfSome (integer_of a.now) (λ z. result ≡ vector_of (width_of a.now) a.now.signed (reciprocal_power z exponent)) }
+    ensures value { IfSome (integer_of a.now)
+        (λ z. result ≡ vector_of (width_of a.now) a.now.signed (reciprocal_power z exponent)) }
     ensures width { width_of result ≡ width_of a.now }
 {
     let base = magnitude_of(a.aval, a.width, a.signed);
@@ -127,7 +128,7 @@ fn negative_power(a: &Vec4, exponent: Plane) -> Vec4
     a.with_number(signed_word(base.negative && exponent % 2 == 1, 1))
 }
 
-/// `base ** exponent`, of which the bits of a plane are kept.
+// `base ** exponent`, of which the bits of a plane are kept.
 fn wrapping_power(base: Plane, exponent: Plane) -> Plane
     ensures { result ≡ base ^ exponent % 2 ^ MAX_WIDTH }
 {
@@ -144,14 +145,14 @@ fn wrapping_power(base: Plane, exponent: Plane) -> Plane
     power
 }
 
-/// An integer as its sign and its size.
+// An integer as its sign and its size.
 #[derive(Clone, Copy)]
 struct Magnitude {
     negative: bool,
     size: Plane,
 }
 
-/// The sign and the size of the integer of `number`, in two's complement where it is signed.
+// The sign and the size of the integer of `number`, in two's complement where it is signed.
 fn magnitude_of(number: Plane, width: u32, signed: bool) -> Magnitude
     requires least { 1 ≤ width }
     requires most { width ≤ MAX_WIDTH }
@@ -173,7 +174,7 @@ fn magnitude_of(number: Plane, width: u32, signed: bool) -> Magnitude
     }
 }
 
-/// The bits of a plane that an integer of this sign and size wraps to.
+// The bits of a plane that an integer of this sign and size wraps to.
 fn signed_word(negative: bool, size: Plane) -> Plane
     ensures { result ≡ wrapped MAX_WIDTH (signed_integer negative size) }
 {

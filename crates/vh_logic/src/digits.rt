@@ -14,7 +14,7 @@ pub enum Digit {
     Z,
 }
 
-/// 1 for a test that holds, and 0 for one that does not.
+// 1 for a test that holds, and 0 for one that does not.
 pub(crate) fn from_test(holds: bool) -> Digit
     ensures { result ≡ test_digit holds }
 {

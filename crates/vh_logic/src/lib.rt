@@ -9,6 +9,9 @@
 //! width. That widths agree, or that a part is inside, is the caller's condition. Nothing here
 //! takes memory or refuses.
 //!
+//! The greatest width is written in one place, as [`MAX_WIDTH`], [`Plane`] and [`NATURAL_WIDTHS`].
+//! All else here and in the crates above is over these three.
+//!
 //! It stands on std alone.
 #![tactic(auto)]
 
@@ -28,7 +31,7 @@ pub use digits::Digit;
 pub use parts::{concat, replace, resize, select};
 pub use reduce::{reduce_and, reduce_or, reduce_xor, truth};
 pub use shift::{shl, shr, sshr};
-pub use vector::{MAX_WIDTH, Plane, Vec4};
+pub use vector::{MAX_WIDTH, NATURAL_WIDTHS, Plane, Vec4, mask};
 
 #[cfg(test)]
 mod tests;

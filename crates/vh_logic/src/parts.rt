@@ -61,7 +61,7 @@ pub fn resize(a: &Vec4, width: u32, signed: bool) -> Vec4
     Vec4::from_planes(width, a.aval, a.bval, signed)
 }
 
-/// A plane of `from` bits whose bits up to `to` are those of the plane, and its highest bit above.
+// A plane of `from` bits whose bits up to `to` are those of the plane, and its highest bit above.
 fn extended(plane: Plane, from: u32, to: u32) -> Plane
     requires from_least { 1 ≤ from }
     requires from_most { from ≤ MAX_WIDTH }

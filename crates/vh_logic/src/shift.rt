@@ -71,7 +71,7 @@ pub fn sshr(a: &Vec4, b: &Vec4) -> Vec4
     }
 }
 
-/// A plane moved down by some places, with its highest bit above.
+// A plane moved down by some places, with its highest bit above.
 fn moved_down(plane: Plane, width: u32, places: Plane) -> Plane
     requires least { 1 ≤ width }
     requires most { width ≤ MAX_WIDTH }

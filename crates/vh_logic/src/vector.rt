@@ -12,6 +12,10 @@ pub const MAX_WIDTH: u32 = 64;
 /// One bit for each digit of a vector, the lowest digit in the lowest bit.
 pub type Plane = u64;
 
+/// The widths that a number without a size may take, the narrowest first; the greatest is
+/// [`MAX_WIDTH`] (IEEE 1364-2005, 3.5.1, asks for 32 digits at least).
+pub const NATURAL_WIDTHS: [u32; 2] = [32, 64];
+
 /// A vector of 1 to `MAX_WIDTH` digits with a sign mark. Contracts see it as the list of its
 /// digits, lowest first, and the mark.
 #[derive(Clone, Copy)]
@@ -42,7 +46,7 @@ impl Model for Vec4 {
 }
 
 /// The plane whose lowest `width` bits are 1.
-pub(crate) fn mask(width: u32) -> Plane
+pub fn mask(width: u32) -> Plane
     requires low { 1 ≤ width }
     requires high { width ≤ MAX_WIDTH }
     ensures { result ≡ 2 ^ width - 1 }
@@ -144,7 +148,7 @@ impl Vec4 {
         }
     }
 
-    /// All x, in the width and with the sign mark of `self`.
+    // All x, in the width and with the sign mark of `self`.
     pub(crate) fn unknown(&self) -> Vec4
         ensures value { result ≡ filled (width_of self.now) Digit.X self.now.signed }
         ensures width { width_of result ≡ width_of self.now }
@@ -158,7 +162,7 @@ impl Vec4 {
         }
     }
 
-    /// The lowest digits of a number, in the width and with the sign mark of `self`.
+    // The lowest digits of a number, in the width and with the sign mark of `self`.
     pub(crate) fn with_number(&self, number: Plane) -> Vec4
         ensures value { result ≡ record { digits = binary (width_of self.now) number; signed = self.now.signed } }
         ensures width { width_of result ≡ width_of self.now }

@@ -15,14 +15,14 @@ use Rattle.vh_text.specs.Digits.{spelled_digits}
 use Rattle.vh_text.specs.Literals.{literal}
 use Rattle.vh_text.specs.Values.{value_of_text}
 
--- a vector of digits, lowest first
+-- A vector of digits, lowest first
 abbrev of : List Digit → Vector
 of ds = record { digits = ds; signed = false }
 
 abbrev signed_of : List Digit → Vector
 signed_of ds = record { digits = ds; signed = true }
 
--- texts: `1x0z`, `zzzz`, and `xxxx00zx1111`, in hexadecimal
+-- Texts: `1x0z`, `zzzz`, and `xxxx00zx1111`, in hexadecimal
 text_mixed : text Hex (of (Z ∷ Zero ∷ X ∷ One ∷ [])) ≡ codes "X"
 unfolding groups_text number_of
 text_mixed = refl
@@ -35,7 +35,7 @@ text_three_groups : text Hex (of (replicate 4 One ++ (X ∷ Z ∷ Zero ∷ Zero 
 unfolding groups_text number_of
 text_three_groups = refl
 
--- the highest group has only the digits that it has
+-- The highest group has only the digits that it has
 text_octal_part : text Octal (of (Zero ∷ One ∷ Zero ∷ X ∷ [])) ≡ codes "x2"
 unfolding groups_text number_of
 text_octal_part = refl
@@ -48,7 +48,7 @@ text_binary : text Binary (of (Z ∷ Zero ∷ X ∷ One ∷ [])) ≡ codes "1x0z
 unfolding groups_text number_of
 text_binary = refl
 
--- decimal texts
+-- Decimal texts
 text_negative : text Decimal (signed_of (replicate 4 One)) ≡ codes "-1"
 unfolding number_of digits
 text_negative = refl
@@ -67,7 +67,7 @@ text_planes : vector_text (of (Zero ∷ One ∷ Z ∷ X ∷ Zero ∷ [])) ≡ co
 unfolding plane_of digits
 text_planes = refl
 
--- literals
+-- Literals
 literal_z : literal (codes "8'hz") ≡ Ok (of (replicate 8 Z))
 unfolding spelled_digits binary
 literal_z = refl
@@ -133,7 +133,7 @@ literal_not_held = refl
 literal_leading_white : literal (codes " 'h1") ≡ Err Malformed
 literal_leading_white = refl
 
--- values
+-- Values
 value_cut : value_of_text VpiBinStrVal 2 (codes "1xz") ≡ Some (of (Z ∷ X ∷ []))
 unfolding spelled_digits binary
 value_cut = refl

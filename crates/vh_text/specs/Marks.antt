@@ -37,23 +37,23 @@ upper_x = 88
 abbrev pub upper_z : ℕ
 upper_z = 90
 
--- an x in either case (3.5.1)
+-- An x in either case (3.5.1)
 abbrev pub is_x_letter : ℕ → Bool
 is_x_letter c = c == lower_x || c == upper_x
 
--- a z in either case (3.5.1)
+-- A z in either case (3.5.1)
 abbrev pub is_z_letter : ℕ → Bool
 is_z_letter c = c == lower_z || c == upper_z
 
--- the mark of a signed number, in either case (3.5.1)
+-- The mark of a signed number, in either case (3.5.1)
 abbrev pub is_sign_mark : ℕ → Bool
 is_sign_mark c = c == 115 || c == 83
 
--- a byte of an unsigned number (3.5.1)
+-- A byte of an unsigned number (3.5.1)
 abbrev pub is_number_byte : ℕ → Bool
 is_number_byte c = is_ascii_digit c || c == underscore
 
--- the base that a letter names, in either case (3.5.1)
+-- The base that a letter names, in either case (3.5.1)
 abbrev pub base_of : ℕ → Option Radix
 base_of c =
     if c == 98 || c == 66 then Some Binary else

@@ -2,19 +2,19 @@ ghost use Rattle.std.specs.Prelude.{◌≡◌, ◌≤◌, ◌<◌, length};
 ghost use Rattle.std.specs.List.{list_all, list_any};
 ghost use Rattle.vh_logic.specs.Digit.{is_same};
 ghost use Rattle.vh_logic.specs.Vector.{width_of};
-ghost use Rattle.vh_text.specs.Digits.{fill_of, is_held, sized};
+ghost use Rattle.vh_text.specs.Digits.{fill_of, is_held, sized_digits};
 ghost use Rattle.vh_text.specs.Literals.{of_digits};
 
-use vh_logic::{Digit, Vec4, case_equal, concat, resize, select};
+use vh_logic::{Digit, MAX_WIDTH, Vec4, case_equal, concat, resize, select};
 
-/// Whether each digit is this one.
+// Whether each digit is this one.
 pub(crate) fn is_all(v: &Vec4, digit: Digit) -> bool
     ensures { result ≡ list_all (is_same digit) v.now.digits }
 {
     case_equal(v, &Vec4::filled(v.width(), digit, false)) == Digit::One
 }
 
-/// Whether some digit is this one.
+// Whether some digit is this one.
 pub(crate) fn has(v: &Vec4, digit: Digit) -> bool
     ensures { result ≡ list_any (is_same digit) v.now.digits }
 {
@@ -26,7 +26,7 @@ pub(crate) fn has(v: &Vec4, digit: Digit) -> bool
     false
 }
 
-/// The digit that fills the places above a highest digit.
+// The digit that fills the places above a highest digit.
 fn fill_of(digit: Digit) -> Digit
     ensures { result ≡ fill_of digit }
 {
@@ -37,22 +37,24 @@ fn fill_of(digit: Digit) -> Digit
     }
 }
 
-/// Whether filling gives the digits back from the `width` lowest.
+// Whether filling gives the digits back from the `width` lowest.
 pub(crate) fn is_held(v: &Vec4, width: u32) -> bool
-    requires { 1 ≤ width }
     ensures { result ≡ is_held width v.now.digits }
 {
     if v.width() <= width {
         return true;
     }
+    if width == 0 {
+        return is_all(v, Digit::Zero);
+    }
     let fill = fill_of(v.digit(width - 1));
     is_all(&select(v, width, v.width() - width), fill)
 }
 
-/// The digits cut at the left, or filled, to a width, with a sign mark.
-pub(crate) fn sized(v: &Vec4, width: u32, signed: bool) -> Vec4
+// The digits cut at the left, or filled, to a width, with a sign mark.
+pub(crate) fn sized_digits(v: &Vec4, width: u32, signed: bool) -> Vec4
     requires least { 1 ≤ width }
-    requires most { width ≤ 64 }
+    requires most { width ≤ MAX_WIDTH }
     ensures { result ≡ of_digits signed v.now.digits width }
 {
     if width <= v.width() {

@@ -2,18 +2,18 @@ ghost use Rattle.std.specs.Prelude.{◌≡◌, ◌==◌, ℕ, List, Option, IsSo
 ghost use Rattle.std.specs.List.{list_all};
 ghost use Rattle.std.specs.Option.{option_map};
 ghost use Rattle.vh_logic.specs.declared.digits.Digit.{Digit};
-ghost use Rattle.vh_text.specs.Digits.{characters, spelled};
-ghost use Rattle.vh_text.specs.Literals.{literal, plain, size_of_number, natural_width, width_by, at_width, of_number, numbered, patterned, lone_letter, decimal_part, digits_part, base_part, signed_part, based};
+ghost use Rattle.vh_text.specs.Digits.{characters, spelled_characters};
+ghost use Rattle.vh_text.specs.Literals.{literal, plain_value, size_of_number, natural_width, plain_digits, width_by, at_width, of_number, number_value, pattern_value, lone_letter, decimal_part, digits_part, base_part, signed_part, based_value};
 ghost use Rattle.vh_text.specs.Marks.{base_of};
-ghost use Rattle.vh_text.specs.Patterns.{pattern_of, number_kept, IsWidthIfSome, HasWidth};
+ghost use Rattle.vh_text.specs.Views.{pattern_of, pattern_held, number_kept, number_held, IsWidthIfSome, HasWidth};
 
-use crate::digits::{is_held, sized};
-use crate::number::{Number, read_number, unsigned_number};
+use crate::digits::{is_held, sized_digits};
+use crate::number::{INTEGER_WIDTH, Number, read_number, unsigned_number};
 use crate::pattern::{Pattern, read_pattern, z_of_question};
 use crate::radix::Radix;
 use crate::scan::{after_white, is_sign_mark, is_x_letter, is_z_letter, number_len};
 use thiserror::Error;
-use vh_logic::{Digit, Vec4};
+use vh_logic::{Digit, MAX_WIDTH, NATURAL_WIDTHS, Plane, Vec4};
 
 /// Why the bytes of a literal have no value.
 #[derive(Clone, Copy, Debug, PartialEq, Eq, Error)]
@@ -21,19 +21,20 @@ pub enum LiteralFault {
     /// As IEEE 1364-2005, 3.5.1 has it.
     #[error("the bytes are no number")]
     Malformed,
-    /// Its size is above 64, or it has none and its value needs more than 64 digits.
-    #[error("a number that 64 digits don't hold")]
+    /// Its size is above the greatest width of a vector, or it has none and no width holds its
+    /// value.
+    #[error("a number that no vector holds")]
     TooWide,
 }
 
-/// The size of a literal, in digits.
+// The size of a literal, in digits.
 #[derive(Clone, Copy, Debug, PartialEq, Eq)]
 pub(crate) enum Size {
-    /// No size is written.
+    // No size is written.
     Absent,
-    /// A size from 1 to 64.
+    // A size that a vector may have.
     Given(u32),
-    /// A size above 64.
+    // A size above the greatest width.
     Beyond,
 }
 
@@ -44,19 +45,19 @@ pub fn read_literal(bytes: &[u8]) -> Result<Vec4, LiteralFault>
 {
     let (front, rest) = bytes.split_at(number_len(bytes));
     if front.is_empty() {
-        return based(rest, Size::Absent);
+        return based_value(rest, Size::Absent);
     }
     let number = unsigned_number(front);
     if rest.is_empty() {
-        return plain(number);
+        return plain_value(number);
     }
     match size_of_number(number) {
-        Ok(size) => based(after_white(rest), size),
+        Ok(size) => based_value(after_white(rest), size),
         Err(fault) => Err(fault),
     }
 }
 
-/// The size that a number gives.
+// The size that a number gives.
 fn size_of_number(number: Option<Number>) -> Result<Size, LiteralFault>
     ensures value { (n : Option ℕ) → number ≡ option_map number_kept n → result ≡ size_of_number n }
     ensures width { IfOk result HasWidth }
@@ -64,7 +65,7 @@ fn size_of_number(number: Option<Number>) -> Result<Size, LiteralFault>
     let Some(number) = number else {
         return Err(LiteralFault::Malformed);
     };
-    if !number.fits || number.low > 64 {
+    if !number.fits || number.low > Plane::from(MAX_WIDTH) {
         return Ok(Size::Beyond);
     }
     if number.low == 0 {
@@ -73,21 +74,20 @@ fn size_of_number(number: Option<Number>) -> Result<Size, LiteralFault>
     Ok(Size::Given(number.low as u32))
 }
 
-/// A number without base.
-fn plain(number: Option<Number>) -> Result<Vec4, LiteralFault>
-    ensures { (n : Option ℕ) → number ≡ option_map number_kept n → result ≡ plain n }
+// A number without base.
+fn plain_value(number: Option<Number>) -> Result<Vec4, LiteralFault>
+    ensures { (n : Option ℕ) → number ≡ option_map number_kept n → result ≡ plain_value n }
 {
     let Some(number) = number else {
         return Err(LiteralFault::Malformed);
     };
-    let is_short = number.fits && number.low < 1 << 31;
-    of_number(&number, true, natural_width(is_short, number.fits))
+    of_number(&number, true, plain_width(&number))
 }
 
-/// What stands behind the size: an apostrophe, the mark of a sign, a base, digits.
-fn based(bytes: &[u8], size: Size) -> Result<Vec4, LiteralFault>
+// What stands behind the size: an apostrophe, the mark of a sign, a base, digits.
+fn based_value(bytes: &[u8], size: Size) -> Result<Vec4, LiteralFault>
     requires { HasWidth size }
-    ensures { result ≡ based bytes.now size }
+    ensures { result ≡ based_value bytes.now size }
 {
     let Some((first, rest)) = bytes.split_first() else {
         return Err(LiteralFault::Malformed);
@@ -99,7 +99,7 @@ fn based(bytes: &[u8], size: Size) -> Result<Vec4, LiteralFault>
     }
 }
 
-/// What stands behind the apostrophe.
+// What stands behind the apostrophe.
 fn signed_part(size: Size, bytes: &[u8]) -> Result<Vec4, LiteralFault>
     requires { HasWidth size }
     ensures { result ≡ signed_part size bytes.now }
@@ -114,7 +114,7 @@ fn signed_part(size: Size, bytes: &[u8]) -> Result<Vec4, LiteralFault>
     }
 }
 
-/// A base letter, white space and digits.
+// A base letter, white space and digits.
 fn base_part(size: Size, signed: bool, bytes: &[u8]) -> Result<Vec4, LiteralFault>
     requires { HasWidth size }
     ensures { result ≡ base_part size signed bytes.now }
@@ -133,7 +133,7 @@ fn base_part(size: Size, signed: bool, bytes: &[u8]) -> Result<Vec4, LiteralFaul
     }
 }
 
-/// The base that a letter names.
+// The base that a letter names.
 fn base_of(b: u8) -> Option<Radix>
     ensures { result ≡ base_of b }
 {
@@ -146,9 +146,9 @@ fn base_of(b: u8) -> Option<Radix>
     }
 }
 
-/// Whether there is a first byte, and it is no underscore.
+// Whether there is a first byte, and it is no underscore.
 fn is_begun(bytes: &[u8]) -> bool
-    ensures { result ≡ is_some (spelled bytes.now) }
+    ensures { result ≡ is_some (spelled_characters bytes.now) }
 {
     match bytes.first() {
         Some(first) => *first != b'_',
@@ -156,39 +156,40 @@ fn is_begun(bytes: &[u8]) -> bool
     }
 }
 
-/// The digits behind a base letter.
+// The digits behind a base letter.
 fn digits_part(size: Size, signed: bool, base: Radix, bytes: &[u8]) -> Result<Vec4, LiteralFault>
     requires width { HasWidth size }
-    requires begun { IsSome (spelled bytes.now) }
-    ensures { result ≡ digits_part size signed (Some base) (spelled bytes.now) }
+    requires begun { IsSome (spelled_characters bytes.now) }
+    ensures { result ≡ digits_part size signed (Some base) (spelled_characters bytes.now) }
 {
     match base {
-        Radix::Binary => patterned(size, signed, read_pattern(bytes, 1)),
-        Radix::Octal => patterned(size, signed, read_pattern(bytes, 3)),
-        Radix::Hex => patterned(size, signed, read_pattern(bytes, 4)),
+        Radix::Binary => pattern_value(size, signed, read_pattern(bytes, 1)),
+        Radix::Octal => pattern_value(size, signed, read_pattern(bytes, 3)),
+        Radix::Hex => pattern_value(size, signed, read_pattern(bytes, 4)),
         Radix::Decimal => decimal_part(size, signed, bytes),
     }
 }
 
-/// One x or z for all digits, or a number.
+// One x or z for all digits, or a number.
 fn decimal_part(size: Size, signed: bool, bytes: &[u8]) -> Result<Vec4, LiteralFault>
     requires width { HasWidth size }
-    requires begun { IsSome (spelled bytes.now) }
-    ensures { result ≡ decimal_part size signed (characters bytes.now) (lone_letter (characters bytes.now)) }
+    requires begun { IsSome (spelled_characters bytes.now) }
+    ensures { result
+        ≡ decimal_part size signed (characters bytes.now) (lone_letter (characters bytes.now)) }
 {
     if let Some(digit) = lone_letter(bytes) {
         let pattern = Pattern {
             value: Vec4::filled(1, digit, false),
             is_held: true,
         };
-        return patterned(size, signed, Some(pattern));
+        return pattern_value(size, signed, Some(pattern));
     }
-    numbered(size, signed, read_number(bytes))
+    number_value(size, signed, read_number(bytes))
 }
 
-/// The one x or z that stands for all digits.
+// The one x or z that stands for all digits.
 fn lone_letter(bytes: &[u8]) -> Option<Digit>
-    requires { IsSome (spelled bytes.now) }
+    requires { IsSome (spelled_characters bytes.now) }
     ensures { result ≡ lone_letter (characters bytes.now) }
 {
     let (first, rest) = bytes.split_first()?;
@@ -205,45 +206,40 @@ fn lone_letter(bytes: &[u8]) -> Option<Digit>
     None
 }
 
-/// Whether all bytes are underscores.
+// Whether all bytes are underscores.
 fn are_underscores(bytes: &[u8]) -> bool
     ensures { result ≡ list_all (λ b. b == 95) bytes.now }
 {
     bytes.iter().all(|b| *b == b'_')
 }
 
-/// A decimal number behind a base.
-fn numbered(size: Size, signed: bool, number: Option<Number>) -> Result<Vec4, LiteralFault>
+// A decimal number behind a base.
+fn number_value(size: Size, signed: bool, number: Option<Number>) -> Result<Vec4, LiteralFault>
     requires { HasWidth size }
-    ensures { (n : Option ℕ) → number ≡ option_map number_kept n → result ≡ numbered size signed n }
+    ensures { (n : Option ℕ) → number ≡ option_map number_kept n → result ≡ number_value size signed n }
 {
     let Some(number) = number else {
         return Err(LiteralFault::Malformed);
     };
-    let is_short = number.fits && number.low < 1 << 32;
-    of_number(
-        &number,
-        signed,
-        width_by(size, natural_width(is_short, number.fits)),
-    )
+    of_number(&number, signed, width_by(size, number_width(&number)))
 }
 
-/// Digits behind a base.
-fn patterned(size: Size, signed: bool, pattern: Option<Pattern>) -> Result<Vec4, LiteralFault>
+// Digits behind a base.
+fn pattern_value(size: Size, signed: bool, pattern: Option<Pattern>) -> Result<Vec4, LiteralFault>
     requires { HasWidth size }
-    ensures { (ds : Option (List Digit)) → pattern ≡ option_map pattern_of ds → result ≡ patterned size signed ds }
+    ensures { (ds : Option (List Digit)) → pattern ≡ option_map pattern_of ds
+        → result ≡ pattern_value size signed ds }
 {
     let Some(pattern) = pattern else {
         return Err(LiteralFault::Malformed);
     };
-    let is_short = pattern.is_held && is_held(&pattern.value, 32);
-    match width_by(size, natural_width(is_short, pattern.is_held)) {
-        Some(width) => Ok(sized(&pattern.value, width, signed)),
+    match width_by(size, pattern_width(&pattern)) {
+        Some(width) => Ok(sized_digits(&pattern.value, width, signed)),
         None => Err(LiteralFault::TooWide),
     }
 }
 
-/// The lowest digits of a number, at the width that there is.
+// The lowest digits of a number, at the width that there is.
 fn of_number(number: &Number, signed: bool, width: Option<u32>) -> Result<Vec4, LiteralFault>
     requires { IsWidthIfSome width }
     ensures { (n : ℕ) → number.now ≡ number_kept n → result ≡ at_width (of_number signed n) width }
@@ -254,21 +250,48 @@ fn of_number(number: &Number, signed: bool, width: Option<u32>) -> Result<Vec4, 
     }
 }
 
-/// The width of a literal without a size.
-fn natural_width(is_short: bool, is_long: bool) -> Option<u32>
-    ensures value { result ≡ natural_width is_short is_long }
+// The natural width of a number without base.
+fn plain_width(number: &Number) -> Option<u32>
+    ensures value { result ≡ natural_width (λ w. number_held number.now (plain_digits w)) }
     ensures width { IsWidthIfSome result }
 {
-    if is_short {
-        Some(32)
-    } else if is_long {
-        Some(64)
+    NATURAL_WIDTHS
+        .iter()
+        .copied()
+        .find(|w| number.is_held(plain_digits(*w)))
+}
+
+// How many digits of a width a number without base may take.
+fn plain_digits(width: u32) -> u32
+    ensures { result ≡ plain_digits width }
+{
+    if width == INTEGER_WIDTH {
+        width - 1
     } else {
-        None
+        width
     }
 }
 
-/// The width of a literal, by its size or its natural width.
+// The natural width of a number behind a base.
+fn number_width(number: &Number) -> Option<u32>
+    ensures value { result ≡ natural_width (λ w. number_held number.now w) }
+    ensures width { IsWidthIfSome result }
+{
+    NATURAL_WIDTHS.iter().copied().find(|w| number.is_held(*w))
+}
+
+// The natural width of digits behind a base.
+fn pattern_width(pattern: &Pattern) -> Option<u32>
+    ensures value { result ≡ natural_width (λ w. pattern_held pattern.now w) }
+    ensures width { IsWidthIfSome result }
+{
+    NATURAL_WIDTHS
+        .iter()
+        .copied()
+        .find(|w| pattern.is_held && is_held(&pattern.value, *w))
+}
+
+// The width of a literal, by its size or its natural width.
 fn width_by(size: Size, natural: Option<u32>) -> Option<u32>
     requires size { HasWidth size }
     requires natural { IsWidthIfSome natural }

@@ -1,27 +1,27 @@
 ghost use Rattle.std.specs.Prelude.{◌≡◌, ◌≤◌, ◌<◌, ◌+◌, ◌-◌, ◌++◌, ◌&&◌, take, IsSome, IfSome};
 ghost use Rattle.std.specs.Option.{option_map};
 ghost use Rattle.vh_logic.specs.Vector.{width_of};
-ghost use Rattle.vh_text.specs.Digits.{character_digits, spelled, spelled_digits, characters, question_as_z};
-ghost use Rattle.vh_text.specs.Patterns.{pattern_of, pattern_pushed, digits_alone};
+ghost use Rattle.vh_text.specs.Digits.{character_digits, spelled_characters, spelled_digits, characters, question_as_z};
+ghost use Rattle.vh_text.specs.Views.{pattern_of, pattern_pushed, digits_alone};
 
 use crate::digits::is_held;
 use crate::scan::{is_x_letter, is_z_letter};
 use vh_logic::{Digit, MAX_WIDTH, Plane, Vec4, concat, select};
 
-/// Digits that are read from the highest one down: the lowest ones, as many as a vector holds, and
-/// whether filling gives the others back.
+// Digits that are read from the highest one down: the lowest ones, as many as a vector holds, and
+// whether filling gives the others back.
 #[derive(Clone, Copy)]
 pub(crate) struct Pattern {
     pub(crate) value: Vec4,
     pub(crate) is_held: bool,
 }
 
-/// The digits of a text of characters of `group` digits each, without underscores and with `?` for
-/// z; `None` where a character has no digits. The first byte is no underscore.
+// The digits of a text of characters of `group` digits each, without underscores and with `?` for
+// z; `None` where a character has no digits. The first byte is no underscore.
 pub(crate) fn read_pattern(bytes: &[u8], group: u32) -> Option<Pattern>
     requires least { 1 ≤ group }
     requires most { group ≤ 4 }
-    requires begun { IsSome (spelled bytes.now) }
+    requires begun { IsSome (spelled_characters bytes.now) }
     ensures { result ≡ option_map pattern_of (spelled_digits group (characters bytes.now)) }
 {
     let (first, rest) = bytes.split_first()?;
@@ -38,7 +38,7 @@ pub(crate) fn read_pattern(bytes: &[u8], group: u32) -> Option<Pattern>
     Some(pattern)
 }
 
-/// The pattern with a group of digits below.
+// The pattern with a group of digits below.
 fn pushed(pattern: &Pattern, group: &Vec4) -> Pattern
     requires { width_of group.now ≤ 4 }
     ensures { result ≡ pattern_pushed pattern.now group.now.digits }
@@ -52,14 +52,14 @@ fn pushed(pattern: &Pattern, group: &Vec4) -> Pattern
     }
 }
 
-/// `?` is read as z.
+// `?` is read as z.
 pub(crate) fn z_of_question(b: u8) -> u8
     ensures { result ≡ question_as_z b }
 {
     if b == b'?' { b'z' } else { b }
 }
 
-/// The digits of a character in a base of 2 to the power of `group` digits.
+// The digits of a character in a base of 2 to the power of `group` digits.
 fn character_digits(c: u8, group: u32) -> Option<Vec4>
     requires least { 1 ≤ group }
     requires most { group ≤ 4 }

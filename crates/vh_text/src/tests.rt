@@ -1,14 +1,15 @@
 ghost use Rattle.std.specs.Prelude.{◌≡◌};
 ghost use Rattle.vh_text.specs.Values.{most_width};
 
+use crate::number::INTEGER_WIDTH;
 use crate::{LiteralFault, Radix, read_literal, read_value, text_of, vector_text_of};
 use std::alloc::Global;
 use std::process::Abort;
 use std::test::Fail;
 use vh_base::Format;
-use vh_logic::Vec4;
+use vh_logic::{MAX_WIDTH, Plane, Vec4};
 
-/// A literal, whether it is signed, and its digits, highest first.
+// A literal, whether it is signed, and its digits, highest first.
 const LITERALS: [(&str, bool, &str); 46] = [
     ("8'hz", false, "zzzzzzzz"),
     ("4'b1_0x?", false, "10xz"),
@@ -58,7 +59,7 @@ const LITERALS: [(&str, bool, &str); 46] = [
     ("8'sh80", true, "10000000"),
 ];
 
-/// A literal, its width, whether it is signed, and its text in hexadecimal.
+// A literal, its width, whether it is signed, and its text in hexadecimal.
 const WIDE_LITERALS: [(&str, u32, bool, &str); 30] = [
     ("'sd5", 32, true, "00000005"),
     ("2147483647", 32, true, "7fffffff"),
@@ -92,14 +93,14 @@ const WIDE_LITERALS: [(&str, u32, bool, &str); 30] = [
     ("'sbx", 32, true, "xxxxxxxx"),
 ];
 
-/// Bytes that are no number.
+// Bytes that are no number.
 const MALFORMED: [&str; 31] = [
     "8'hg", "0'h1", "8'd1x", "1.5", "1e3", "", "'", "8'", "8'h", "8'h_1", "_1", "1x", "4'b2",
     "4'b1a", "8'o8", "8'da", " 'h1", "8'h1 ", "8 h1", "8''h1", "8'sh", "8's1", "8'dxx", "8'dx1",
     "-1", "65'hg", "00'h1", "8'q1", "'h", "8'h 1 2", "65'd1x",
 ];
 
-/// Numbers whose size, or whose value without a size, is beyond 64 digits.
+// Numbers whose size, or whose value without a size, is beyond the greatest width.
 const TOO_WIDE: [&str; 7] = [
     "65'h1",
     "18446744073709551616",
@@ -110,10 +111,10 @@ const TOO_WIDE: [&str; 7] = [
     "66'hx",
 ];
 
-/// In the place of digits, for a text that is refused.
+// In the place of digits, for a text that is refused.
 const REFUSED: &str = "refused";
 
-/// A format, a text, the object's width, and the digits that it gets, highest first, or `REFUSED`.
+// A format, a text, the object's width, and the digits that it gets, highest first, or `REFUSED`.
 const VALUES: [(Format, &str, u32, &str); 62] = [
     (Format::VpiBinStrVal, "1xz", 2, "xz"),
     (Format::VpiBinStrVal, "1", 4, "0001"),
@@ -199,8 +200,8 @@ const VALUES: [(Format, &str, u32, &str); 62] = [
     (Format::VpiVectorVal, "x:0", 4, REFUSED),
 ];
 
-/// A value by its width and two planes, whether it is signed, a base, and its text.
-const TEXTS: [(u32, u64, u64, bool, Radix, &str); 24] = [
+// A value by its width and two planes, whether it is signed, a base, and its text.
+const TEXTS: [(u32, Plane, Plane, bool, Radix, &str); 24] = [
     (4, 12, 5, false, Radix::Binary, "1x0z"),
     (4, 12, 5, false, Radix::Octal, "1X"),
     (4, 12, 5, false, Radix::Hex, "X"),
@@ -213,13 +214,13 @@ const TEXTS: [(u32, u64, u64, bool, Radix, &str); 24] = [
     (4, 15, 0, false, Radix::Decimal, "15"),
     (
         64,
-        u64::MAX,
+        Plane::MAX,
         0,
         false,
         Radix::Decimal,
         "18446744073709551615",
     ),
-    (64, u64::MAX, 0, true, Radix::Decimal, "-1"),
+    (64, Plane::MAX, 0, true, Radix::Decimal, "-1"),
     (
         64,
         0x8000_0000_0000_0000,
@@ -236,19 +237,19 @@ const TEXTS: [(u32, u64, u64, bool, Radix, &str); 24] = [
     (4, 14, 8, false, Radix::Octal, "x6"),
     (5, 0x0e, 0x10, false, Radix::Octal, "Z6"),
     (1, 0, 0, false, Radix::Decimal, "0"),
-    (64, u64::MAX, u64::MAX, false, Radix::Decimal, "x"),
+    (64, Plane::MAX, Plane::MAX, false, Radix::Decimal, "x"),
     (8, 0x0f, 0, false, Radix::Hex, "0f"),
     (
         64,
         0,
-        u64::MAX,
+        Plane::MAX,
         false,
         Radix::Octal,
         "zzzzzzzzzzzzzzzzzzzzzz",
     ),
 ];
 
-/// Literals, and texts by each format and base, against values that are worked out from the rules.
+// Literals, and texts by each format and base, against values that are worked out from the rules.
 #[test]
 fn literals_and_texts(rt: HostRuntime) -> Result<(), Fail> {
     let alloc = rt.alloc();
@@ -295,7 +296,7 @@ fn check_values(rt: &impl Abort, alloc: Global) -> Result<(), Fail> {
 
 fn check_texts(rt: &impl Abort, alloc: Global) -> Result<(), Fail> {
     for (width, aval, bval, signed, radix, text) in TEXTS {
-        assert!(rt; width >= 1 && width <= 64, "{text}");
+        assert!(rt; width >= 1 && width <= MAX_WIDTH, "{text}");
         let v = Vec4::from_planes(width, aval, bval, signed);
         check_text(rt, alloc, &v, radix, text)?;
     }
@@ -327,12 +328,12 @@ fn most(format: Format) -> u32
     ensures { result ≡ most_width format }
 {
     match format {
-        Format::VpiIntVal => 32,
+        Format::VpiIntVal => INTEGER_WIDTH,
         Format::VpiScalarVal => 1,
         Format::VpiBinStrVal
         | Format::VpiOctStrVal
         | Format::VpiHexStrVal
         | Format::VpiDecStrVal
-        | Format::VpiVectorVal => 64,
+        | Format::VpiVectorVal => MAX_WIDTH,
     }
 }

@@ -4,21 +4,21 @@ ghost use Rattle.vh_logic.specs.Vector.{width_of};
 use super::plain;
 use super::plain::{Arithmetic, Bitwise, Shift, digits};
 use crate::{
-    Digit, Vec4, add, and, case_equal, casex_equal, casez_equal, concat, div, equal, invert, less,
-    merge, mul, negate, or, pow, reduce_and, reduce_or, reduce_xor, rem, replace, resize, select,
-    shl, shr, sshr, sub, truth, xnor, xor,
+    Digit, Plane, Vec4, add, and, case_equal, casex_equal, casez_equal, concat, div, equal, invert,
+    less, merge, mul, negate, or, pow, reduce_and, reduce_or, reduce_xor, rem, replace, resize,
+    select, shl, shr, sshr, sub, truth, xnor, xor,
 };
 use std::alloc::Global;
 use std::process::Abort;
 use std::test::Fail;
 
-/// Every operator on every two vectors of 1 to 4 digits, signed and not, is what the plain program
-/// makes of their digits.
+// Every operator on every two vectors of 1 to 4 digits, signed and not, is what the plain program
+// makes of their digits.
 #[test]
 fn agrees_with_the_plain_program(rt: HostRuntime) -> Result<(), Fail> {
     let alloc = rt.alloc();
     for width in 1..5u32 {
-        let count: u64 = 1 << width;
+        let count: Plane = 1 << width;
         for aval in 0..count {
             for bval in 0..count {
                 for signed in [false, true] {
@@ -34,7 +34,7 @@ fn agrees_with_the_plain_program(rt: HostRuntime) -> Result<(), Fail> {
 }
 
 fn check_with_all(rt: &impl Abort, alloc: Global, a: &Vec4) -> Result<(), Fail> {
-    let count: u64 = if a.width() < 4 { 8 } else { 16 };
+    let count: Plane = if a.width() < 4 { 8 } else { 16 };
     for aval in 0..count {
         for bval in 0..count {
             let b = Vec4::from_planes(a.width(), aval, bval, a.is_signed());
@@ -145,7 +145,7 @@ fn check_comparisons(rt: &impl Abort, alloc: Global, a: &Vec4, b: &Vec4) -> Resu
     Ok(())
 }
 
-/// The operators whose right operand is free.
+// The operators whose right operand is free.
 fn check_free(rt: &impl Abort, alloc: Global, a: &Vec4, b: &Vec4) -> Result<(), Fail> {
     let left = digits(alloc, a)?;
     let right = digits(alloc, b)?;
@@ -185,7 +185,7 @@ fn check_free(rt: &impl Abort, alloc: Global, a: &Vec4, b: &Vec4) -> Result<(), 
     Ok(())
 }
 
-/// Every part of a vector, every part replaced by the lowest digits turned round, and every width.
+// Every part of a vector, every part replaced by the lowest digits turned round, and every width.
 fn check_parts(rt: &impl Abort, alloc: Global, a: &Vec4) -> Result<(), Fail> {
     let list = digits(alloc, a)?;
     for low in 0..a.width() {

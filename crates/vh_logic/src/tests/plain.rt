@@ -261,7 +261,7 @@ pub fn less(a: &[Digit], b: &[Digit], signed: bool) -> Digit {
     }
 }
 
-/// The digits moved up by one place.
+// The digits moved up by one place.
 fn up(alloc: Global, a: &[Digit]) -> Result<Vec<Digit>, AllocError> {
     let mut list = Vec::new(alloc);
     let mut carried = Digit::Zero;
@@ -272,7 +272,7 @@ fn up(alloc: Global, a: &[Digit]) -> Result<Vec<Digit>, AllocError> {
     Ok(list)
 }
 
-/// The digits moved down by one place, with `fill` above.
+// The digits moved down by one place, with `fill` above.
 fn down(alloc: Global, a: &[Digit], fill: Digit) -> Result<Vec<Digit>, AllocError> {
     let mut list = Vec::new(alloc);
     let mut first = true;

@@ -4,18 +4,18 @@ use crate::{
     replace, resize, select, shl, shr, sshr, sub, truth, xnor, xor,
 };
 
-const HALF: Plane = 0x8000_0000_0000_0000;
+const HALF: Plane = 1 << (MAX_WIDTH - 1);
 
-/// How a row writes a vector.
+// How a row writes a vector.
 #[derive(Clone, Copy)]
 enum Written {
-    /// Unsigned, its highest digit first, as `10xz`.
+    // Unsigned, its highest digit first, as `10xz`.
     Bits(&'static str),
-    /// An integer in this many digits, signed.
+    // An integer in this many digits, signed.
     Signed(u32, i64),
-    /// A number at the greatest width, unsigned.
+    // A number at the greatest width, unsigned.
     Wide(Plane),
-    /// This many x digits, signed.
+    // This many x digits, signed.
     SignedX(u32),
 }
 
@@ -28,7 +28,13 @@ fn vector(written: Written) -> Option<Vec4> {
             if width == 0 || width > MAX_WIDTH {
                 return None;
             }
-            Some(Vec4::from_planes(width, integer.cast_unsigned(), 0, true))
+            let size = Plane::from(integer.unsigned_abs());
+            let word = if integer < 0 {
+                size.wrapping_neg()
+            } else {
+                size
+            };
+            Some(Vec4::from_planes(width, word, 0, true))
         }
         Wide(number) => Some(Vec4::from_planes(MAX_WIDTH, number, 0, false)),
         SignedX(width) => {
@@ -88,7 +94,7 @@ enum Operator {
 
 use Operator::{Add, And, Concat, Div, Merge, Mul, Or, Pow, Rem, Shl, Shr, Sshr, Sub, Xnor, Xor};
 
-/// The operator on two operands, none where they do not meet its conditions.
+// The operator on two operands, none where they do not meet its conditions.
 fn applied(operator: Operator, a: &Vec4, b: &Vec4) -> Option<Vec4> {
     match operator {
         Pow => return Some(pow(a, b)),
@@ -239,7 +245,7 @@ enum Comparison {
 
 use Comparison::{CaseEqual, CasexEqual, CasezEqual, Equal, Less};
 
-/// The comparison of two operands, none where they do not meet its conditions.
+// The comparison of two operands, none where they do not meet its conditions.
 fn compared(comparison: Comparison, a: &Vec4, b: &Vec4) -> Option<Digit> {
     if a.width() != b.width() || a.is_signed() != b.is_signed() {
         return None;
@@ -290,7 +296,7 @@ fn comparisons(rt: HostRuntime) {
     }
 }
 
-/// A vector, the digits that `&`, `|` and `^` make of it, and its truth.
+// A vector, the digits that `&`, `|` and `^` make of it, and its truth.
 static REDUCTIONS: [(Written, Digit, Digit, Digit, Digit); 9] = [
     (Bits("0xz"), Digit::Zero, Digit::X, Digit::X, Digit::X),
     (Bits("1xz"), Digit::X, Digit::One, Digit::X, Digit::One),
@@ -335,7 +341,7 @@ fn reductions(rt: HostRuntime) {
     }
 }
 
-/// A vector, the width and mark that it is given, and the result.
+// A vector, the width and mark that it is given, and the result.
 static RESIZED: [(Written, u32, bool, Written); 9] = [
     (Signed(4, -3), 8, true, Signed(8, -3)),
     (Signed(4, -3), 8, false, Bits("00001101")),
@@ -360,7 +366,7 @@ fn other_widths(rt: HostRuntime) {
     }
 }
 
-/// A vector, a place, a part that is put there, and the result.
+// A vector, a place, a part that is put there, and the result.
 static REPLACED: [(Written, u32, Written, Written); 5] = [
     (Bits("10xz"), 1, Bits("11"), Bits("111z")),
     (Signed(4, 0), 3, Bits("1"), Signed(4, -8)),
@@ -391,7 +397,7 @@ fn parts(rt: HostRuntime) {
     }
 }
 
-/// A vector, its `~` and its `-`.
+// A vector, its `~` and its `-`.
 static TURNED: [(Written, Written, Written); 6] = [
     (Bits("10xz"), Bits("01xx"), Bits("xxxx")),
     (Bits("z"), Bits("x"), Bits("x")),

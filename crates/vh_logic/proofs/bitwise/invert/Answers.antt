@@ -3,7 +3,7 @@ use Rattle.std.proofs.Common.{◌+◌, ◌%◌, max, rules, refl}
 use Rattle.std.proofs.lemmas.Nat.Bits.{bit_at-lt, bit_at_or, bit_at_xor, bit_at_ones}
 use Rattle.vh_logic.specs.Digit.{digit_not}
 use Rattle.vh_logic.specs.Planes.{digit_of}
-use Rattle.vh_logic.proofs.PlaneLemmas.{map_digits-vector, bounds}
+use Rattle.vh_logic.proofs.PlanesLemmas.{map_digits-vector, bounds}
 use Rattle.vh_logic.proofs.Tables.{by_2}
 use Rattle.vh_logic.proofs.ArithmeticLemmas.{literal-width}
 use Rattle.vh_logic.proofs.bitwise.invert.Goals as goal

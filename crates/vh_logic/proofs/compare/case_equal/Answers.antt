@@ -4,13 +4,13 @@ use Rattle.std.proofs.lemmas.Nat.Bits.{bit_at-lt, bit_at_or, bit_at_xor}
 use Rattle.vh_logic.specs.Digit.{is_same}
 use Rattle.vh_logic.specs.Digit.{test_digit}
 use Rattle.vh_logic.specs.Planes.{digit_of}
-use Rattle.vh_logic.proofs.PlaneLemmas.{bounds}
+use Rattle.vh_logic.proofs.PlanesLemmas.{bounds}
 use Rattle.vh_logic.proofs.Tables.{test_by_4}
 use Rattle.vh_logic.proofs.ArithmeticLemmas.{widths-planes}
 use Rattle.vh_logic.proofs.CompareLemmas.{all_places-vectors}
 use Rattle.vh_logic.proofs.compare.case_equal.Goals as goal
 
--- the second operand is within the width of the first
+-- The second operand is within the width of the first
 below : (c : goal.After-from_test) → (c.b.inside.aval < 2 ^ c.a.inside.width) × (c.b.inside.bval < 2 ^ c.a.inside.width)
 below c = rw (← widths-planes _ _ _ _ _ _ _ _ _ _ c.a.view_is c.b.view_is c.requires) (c.b.invariant.2, c.b.invariant.3)
 

@@ -1,8 +1,8 @@
 -- The planes of the one stand above those of the other.
 use Rattle.std.proofs.Common.{◌+◌, ◌≤◌, ap, arith, false}
 use Rattle.vh_logic.specs.declared.vector.TheConstants.{MAX_WIDTH}
-use Rattle.vh_logic.proofs.PlaneLemmas.{digits_with}
-use Rattle.vh_logic.proofs.PartLemmas.{concat_plane, concat_below, digits_of-concat, room-planes, concat-width}
+use Rattle.vh_logic.proofs.PlanesLemmas.{digits_with}
+use Rattle.vh_logic.proofs.PartsLemmas.{concat_plane, concat_below, digits_of-concat, room-planes, concat-width}
 use Rattle.vh_logic.proofs.parts.concat.Goals as goal
 
 pub overflow_shl-result : goal.overflow_shl-result

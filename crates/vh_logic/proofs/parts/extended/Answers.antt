@@ -1,5 +1,5 @@
 -- A mask of the places above is added where the highest bit is 1.
-use Rattle.vh_logic.proofs.PartLemmas.{extended-set, extended-clear}
+use Rattle.vh_logic.proofs.PartsLemmas.{extended-set, extended-clear}
 use Rattle.vh_logic.proofs.parts.extended.Goals as goal
 
 pub returns-then-plane-from-eq1 : goal.returns-then-plane-from-eq1

@@ -2,8 +2,8 @@
 use Rattle.std.proofs.Common.{◌+◌, ◌≤◌, ap, arith}
 use Rattle.std.proofs.lemmas.Nat.{shl_whole}
 use Rattle.vh_logic.specs.declared.vector.TheConstants.{MAX_WIDTH}
-use Rattle.vh_logic.proofs.PlaneLemmas.{digits_with, ones_below}
-use Rattle.vh_logic.proofs.PartLemmas.{replaced-below, digits_of-replaced, part-planes}
+use Rattle.vh_logic.proofs.PlanesLemmas.{digits_with, ones_below}
+use Rattle.vh_logic.proofs.PartsLemmas.{replaced-below, digits_of-replaced, part-planes}
 use Rattle.vh_logic.proofs.ArithmeticLemmas.{literal-width}
 use Rattle.vh_logic.proofs.parts.replace.Goals as goal
 

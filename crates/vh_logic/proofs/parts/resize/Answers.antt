@@ -1,7 +1,7 @@
 -- A signed vector is extended by its highest digit.
 use Rattle.std.proofs.Common.{ap, ◌∙◌, true, false}
-use Rattle.vh_logic.proofs.PlaneLemmas.{digits_with}
-use Rattle.vh_logic.proofs.PartLemmas.{digits_of-resized, digits_of-resized_signed}
+use Rattle.vh_logic.proofs.PlanesLemmas.{digits_with}
+use Rattle.vh_logic.proofs.PartsLemmas.{digits_of-resized, digits_of-resized_signed}
 use Rattle.vh_logic.proofs.parts.resize.Goals as goal
 use Rattle.vh_logic.proofs.parts.resize.Goals.{else-a-via-then-a+else-signed, else-a-via-else-a}
 

@@ -1,8 +1,8 @@
 -- The planes are moved down, and cut.
 use Rattle.std.proofs.Common.{◌+◌, ◌≤◌, ap, ◌∙◌, arith, false}
 use Rattle.vh_logic.specs.declared.vector.TheConstants.{MAX_WIDTH}
-use Rattle.vh_logic.proofs.PlaneLemmas.{digits_with}
-use Rattle.vh_logic.proofs.PartLemmas.{digits_of-part, within-planes}
+use Rattle.vh_logic.proofs.PlanesLemmas.{digits_with}
+use Rattle.vh_logic.proofs.PartsLemmas.{digits_of-part, within-planes}
 use Rattle.vh_logic.proofs.parts.select.Goals as goal
 
 pub overflow_shr-a-inside : goal.overflow_shr-a-inside

@@ -9,7 +9,7 @@ use Rattle.vh_logic.proofs.reduce.reduce_and.Goals as goal
 pub returns-then-a-mask : goal.returns-then-a-mask
 returns-then-a-mask c = rw (← c.a.view_is, reduced_and c.a.inside.width c.a.inside.aval c.a.inside.bval c.a.invariant.2 c.a.invariant.3, ne_eqb (bit_xor (bit_or c.a.inside.aval c.a.inside.bval) (2 ^ c.a.inside.width - 1)) 0 (λ e. c.if-a-mask.true (xor_zero_same (bit_or c.a.inside.aval c.a.inside.bval) (2 ^ c.a.inside.width - 1) e ∙ sym c.mask.ensures))) refl
 
--- no digit is 0
+-- No digit is 0
 full : (u m M : ℕ) → u ≡ m → m ≡ M → bit_xor u M ≡ 0
 full u m M e f = ap (λ n. bit_xor n M) (e ∙ f) ∙ xor_self M
 

@@ -1,5 +1,5 @@
 -- A mask of the places above is added where the highest bit is 1.
-use Rattle.vh_logic.proofs.PartLemmas.{moved_down-set, moved_down-clear, moved_down-below}
+use Rattle.vh_logic.proofs.PartsLemmas.{moved_down-set, moved_down-clear, moved_down-below}
 use Rattle.vh_logic.proofs.shift.moved_down.Goals as goal
 
 pub returns-then-plane-width-eq1-clause-fits : goal.returns-then-plane-width-eq1-clause-fits

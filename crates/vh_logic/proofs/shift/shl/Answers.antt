@@ -1,8 +1,8 @@
 -- The bits of both planes move as the digits do.
 use Rattle.std.proofs.Common.{ap, ◌∙◌}
 use Rattle.vh_logic.specs.declared.vector.TheConstants.{MAX_WIDTH}
-use Rattle.vh_logic.proofs.PlaneLemmas.{digits_with}
-use Rattle.vh_logic.proofs.PartLemmas.{places_known, places_unknown, digits_of-shl, zeros-moved_up}
+use Rattle.vh_logic.proofs.PlanesLemmas.{digits_with}
+use Rattle.vh_logic.proofs.PartsLemmas.{places_known, places_unknown, digits_of-shl, zeros-moved_up}
 use Rattle.vh_logic.proofs.ArithmeticLemmas.{literal-width}
 use Rattle.vh_logic.proofs.shift.shl.Goals as goal
 

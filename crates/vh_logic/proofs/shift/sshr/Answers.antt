@@ -1,8 +1,8 @@
 -- The highest bits of both planes fill as the highest digit does.
 use Rattle.std.proofs.Common.{ap, ◌∙◌, sym, true}
 use Rattle.vh_logic.specs.Vector.{Vector}
-use Rattle.vh_logic.proofs.PlaneLemmas.{digits_with}
-use Rattle.vh_logic.proofs.PartLemmas.{places_known, places_unknown, digits_of-sshr, shifted_right-unsigned}
+use Rattle.vh_logic.proofs.PlanesLemmas.{digits_with}
+use Rattle.vh_logic.proofs.PartsLemmas.{places_known, places_unknown, digits_of-sshr, shifted_right-unsigned}
 use Rattle.vh_logic.proofs.ArithmeticLemmas.{literal-width}
 use Rattle.vh_logic.proofs.shift.sshr.Goals as goal
 

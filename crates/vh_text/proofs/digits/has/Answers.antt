@@ -1,6 +1,6 @@
 use Rattle.std.proofs.Common.{◌∙◌, sym, add-one}
 use Rattle.vh_logic.specs.Digit.{is_same}
-use Rattle.vh_text.proofs.TextLemmas.{list_any-at, list_any-none, sameb-same}
+use Rattle.vh_text.proofs.TextsLemmas.{list_any-at, list_any-none, sameb-same}
 use Rattle.vh_text.proofs.digits.has.Goals as goal
 
 pub returns-then-eq : goal.returns-then-eq

@@ -5,7 +5,7 @@ use Rattle.vh_logic.specs.declared.digits.Digit.{Digit}
 use Rattle.vh_logic.specs.declared.digits.Digit.TheVariants.{One}
 use Rattle.vh_logic.specs.Digit.{is_same}
 use Rattle.vh_logic.specs.Vector.{Vector, all_places}
-use Rattle.vh_text.proofs.TextLemmas.{all_places-replicate, sameb-test}
+use Rattle.vh_text.proofs.TextsLemmas.{all_places-replicate, sameb-test}
 use Rattle.vh_text.proofs.digits.is_all.Goals as goal
 
 pub returns : goal.returns

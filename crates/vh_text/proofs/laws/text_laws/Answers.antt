@@ -1,5 +1,5 @@
 use Rattle.std.proofs.Common.{arith}
-use Rattle.vh_text.proofs.LawLemmas.{binary_back, planes_back}
+use Rattle.vh_text.proofs.LawsLemmas.{binary_back, planes_back}
 use Rattle.vh_text.proofs.laws.text_laws.Goals as goal
 
 pub returns-clause-binary : goal.returns-clause-binary

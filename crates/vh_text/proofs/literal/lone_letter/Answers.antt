@@ -2,14 +2,14 @@ use Rattle.std.proofs.Common.{◌≡◌, ap, ◌∙◌, sym, ℕ, List, [], ◌�
 use Rattle.std.specs.Prelude.{IsSome}
 use Rattle.std.specs.List.{list_all}
 use Rattle.std.proofs.Common.{eqb}
-use Rattle.vh_text.specs.Digits.{characters, question_as_z, spelled}
+use Rattle.vh_text.specs.Digits.{characters, question_as_z, spelled_characters}
 use Rattle.vh_text.specs.Literals.{lone_letter}
-use Rattle.vh_text.proofs.PatternLemmas.{characters-first}
-use Rattle.vh_text.proofs.LiteralLemmas.{lone_letter-many, lone_letter-x, lone_letter-z, characters-none}
+use Rattle.vh_text.proofs.ViewsLemmas.{characters-first}
+use Rattle.vh_text.proofs.LiteralsLemmas.{lone_letter-many, lone_letter-x, lone_letter-z, characters-none}
 use Rattle.vh_text.proofs.literal.lone_letter.Goals as goal
 
--- a text of one byte and underscores
-alone : (bs rest : List ℕ) (b letter : ℕ) → bs ≡ b ∷ rest → IsSome (spelled bs) → list_all (λ x. eqb x 95) rest ≡ true → letter ≡ question_as_z b
+-- A text of one byte and underscores
+alone : (bs rest : List ℕ) (b letter : ℕ) → bs ≡ b ∷ rest → IsSome (spelled_characters bs) → list_all (λ x. eqb x 95) rest ≡ true → letter ≡ question_as_z b
     → characters bs ≡ letter ∷ []
 alone bs rest b letter e begun marks is =
     characters-first bs rest b e begun ∙ ap (λ (xs : List ℕ). question_as_z b ∷ xs) (characters-none rest marks) ∙ ap (λ n. n ∷ []) (sym is)

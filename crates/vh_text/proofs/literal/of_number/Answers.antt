@@ -4,8 +4,8 @@ use Rattle.vh_logic.specs.Vector.{Vector}
 use Rattle.vh_logic.specs.Planes.{digits_of}
 use Rattle.vh_text.specs.declared.number.Number.{Number}
 use Rattle.vh_text.specs.Literals.{at_width, of_number}
-use Rattle.vh_text.specs.Patterns.{IsWidthIfSome}
-use Rattle.vh_text.proofs.LiteralLemmas.{digits_of-kept}
+use Rattle.vh_text.specs.Views.{IsWidthIfSome}
+use Rattle.vh_text.proofs.LiteralsLemmas.{digits_of-kept}
 use Rattle.vh_text.proofs.literal.of_number.Goals as goal
 
 pub returns-in-Some : goal.returns-in-Some

@@ -4,8 +4,8 @@ use Rattle.vh_text.specs.Marks.{is_number_byte}
 use Rattle.std.proofs.lemmas.Bool.{eqb-false}
 use Rattle.vh_text.specs.declared.literal.LiteralFault.{LiteralFault}
 use Rattle.vh_text.specs.declared.literal.Size.{Size}
-use Rattle.vh_text.specs.Literals.{by_front, behind_size, after_white, based, unsigned_number}
-use Rattle.vh_text.proofs.LiteralLemmas.{by_front-sized}
+use Rattle.vh_text.specs.Literals.{by_front, behind_size, after_white, based_value, unsigned_number}
+use Rattle.vh_text.proofs.LiteralsLemmas.{by_front-sized}
 use Rattle.vh_text.proofs.literal.read_literal.Goals as goal
 
 pub returns-in-Ok : goal.returns-in-Ok
@@ -18,8 +18,8 @@ returns-in-Ok c =
     let size = sym (c.size_of_number.ensures.value (unsigned_number front) c.unsigned_number-number.ensures) ∙ c.in-Ok.is in
     let some_front = eqb-false (length front) 0 (sym c.is_empty.ensures ∙ c.if-is_empty.false) in
     let some_rest = eqb-false (length rest) 0 (sym c.is_empty-2.ensures ∙ c.if-is_empty-2.false) in
-    c.based-in-Ok.ensures
-    ∙ ap (λ (xs : List ℕ). based xs c.in-Ok.size) c.after_white.ensures
+    c.based_value-in-Ok.ensures
+    ∙ ap (λ (xs : List ℕ). based_value xs c.in-Ok.size) c.after_white.ensures
     ∙ sym (ap (λ (r : Result Size LiteralFault). behind_size (after_white rest) r) size)
     ∙ sym (by_front-sized front rest some_front some_rest)
     ∙ ap (λ (xs : List ℕ). by_front xs rest) front_is

@@ -2,12 +2,12 @@ use Rattle.std.proofs.Common.{◌≡◌, ap, ◌∙◌, sym, ◌<◌, ◌+◌, �
 use Rattle.std.specs.Char.{is_ascii_digit}
 use Rattle.std.proofs.lemmas.List.{drop_more}
 use Rattle.vh_text.specs.Digits.{characters}
-use Rattle.vh_text.proofs.PatternLemmas.{characters-next, characters-mark}
-use Rattle.vh_text.proofs.LiteralLemmas.{number_after, number_after-more, digit_value-is, question-same}
+use Rattle.vh_text.proofs.ViewsLemmas.{characters-next, characters-mark}
+use Rattle.vh_text.proofs.LiteralsLemmas.{number_after, number_after-more, digit_value-is, question-same}
 use Rattle.vh_text.proofs.number.read_number.Goals as goal
 use Rattle.vh_text.proofs.number.read_number.Goals.{then-b-ne95+else-not-is_ascii_digit, else-b-ne95}
 
--- what is left of a text, by its next byte
+-- What is left of a text, by its next byte
 left-digit : (bs : List ℕ) (i n : ℕ) → i < length bs → (get_or bs i 0 ≡ 95 → ⊥) → is_ascii_digit (get_or bs i 0) ≡ true
     → number_after n (characters (drop i bs)) ≡ number_after (n * 10 + (get_or bs i 0 - 48)) (characters (drop (i + 1) bs))
 left-digit bs i n h no_mark digit =

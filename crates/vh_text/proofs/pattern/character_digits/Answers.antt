@@ -5,8 +5,8 @@ use Rattle.vh_logic.specs.declared.digits.Digit.{Digit}
 use Rattle.vh_logic.specs.Vector.{Vector}
 use Rattle.vh_logic.specs.Planes.{digits_of}
 use Rattle.vh_logic.specs.Number.{binary}
-use Rattle.vh_text.specs.Patterns.{digits_alone}
-use Rattle.vh_text.proofs.PatternLemmas.{base_is, character_digits-number, digits_of-binary}
+use Rattle.vh_text.specs.Views.{digits_alone}
+use Rattle.vh_text.proofs.ViewsLemmas.{base_is, character_digits-number, digits_of-binary}
 use Rattle.vh_text.proofs.pattern.character_digits.Goals as goal
 
 pub to_digit-requires-clause-lower_bound : goal.to_digit-requires-clause-lower_bound

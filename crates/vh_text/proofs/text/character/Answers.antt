@@ -1,6 +1,6 @@
 use Rattle.std.proofs.Common.{arith, ◌∙◌, sym, ◌^◌, ◌≤◌, ◌<◌, length}
 use Rattle.std.proofs.Math.Pow.{pow_mono}
-use Rattle.vh_text.proofs.TextLemmas.{known_number-lt}
+use Rattle.vh_text.proofs.TextsLemmas.{known_number-lt}
 use Rattle.vh_text.proofs.text.character.Goals as goal
 
 pub digit_character-requires : goal.digit_character-requires

@@ -4,7 +4,7 @@ use Rattle.std.proofs.lemmas.List.{take_min, length-drop}
 use Rattle.vh_logic.specs.declared.digits.Digit.{Digit}
 use Rattle.vh_logic.specs.Vector.{Vector}
 use Rattle.vh_text.specs.Texts.{groups_text, group_count, character_text}
-use Rattle.vh_text.proofs.TextLemmas.{groups_text-more, groups_text-none}
+use Rattle.vh_text.proofs.TextsLemmas.{groups_text-more, groups_text-none}
 use Rattle.vh_text.proofs.text.grouped.Goals as goal
 
 pub loop-left-init : goal.loop-left-init

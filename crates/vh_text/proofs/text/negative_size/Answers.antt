@@ -1,30 +1,22 @@
-use Rattle.std.proofs.Common.{◌≡◌, Some, arith, ap, ◌∙◌, sym, ◌^◌, ◌≤◌, ◌<◌, ◌-◌, ◌/◌, ◌+◌, length, ℕ, Bool, true}
-use Rattle.std.proofs.lemmas.Nat.Bits.{ones_shr}
+use Rattle.std.proofs.Common.{◌≡◌, Some, arith, ap, ◌∙◌, sym, ◌^◌, ◌<◌, ◌-◌, ◌+◌, length, ℕ, Bool, true}
 use Rattle.std.specs.Prelude.{ℤ, pos, neg_ℤ}
 use Rattle.vh_logic.specs.Number.{integer_at}
-use Rattle.vh_text.proofs.TextLemmas.{known_number-lt, integer_of-known, twos_complement-negative, twos_complement-positive}
+use Rattle.vh_text.proofs.TextsLemmas.{known_number-lt, integer_of-known, twos_complement-negative, twos_complement-positive}
 use Rattle.vh_text.proofs.text.negative_size.Goals as goal
 use Rattle.vh_text.proofs.text.negative_size.Goals.{else-is_signed-via-then-is_signed+else-n-width-eq1, else-is_signed-via-else-is_signed}
 
--- a mask of w ones
-mask_is : (w : ℕ) → 1 ≤ w → w ≤ 64 → 18446744073709551615 / 2 ^ (64 - w) ≡ 2 ^ w - 1
-mask_is w least most =
-    let back : 64 - (64 - w) ≡ w = omega arith in ones_shr 64 (64 - w) (omega arith) ∙ ap (λ n. 2 ^ n - 1) back
-
--- the number is below the power of its width
+-- The number is below the power of its width
 below : (n m w : ℕ) → n < 2 ^ m → w ≡ m → n < 2 ^ w
 below n m w h e = let p : 2 ^ w ≡ 2 ^ m = ap (λ k. 2 ^ k) e in omega (arith, p)
 
-pub overflow_sub-result-then-n-width-eq1 : goal.overflow_sub-result-then-n-width-eq1
-overflow_sub-result-then-n-width-eq1 c =
-    let w = c.width-width.ensures in
-    omega (arith, mask_is _ w.least w.most, below _ _ _ (known_number-lt _ _ c.requires) w.value)
+pub overflow_sub-result : goal.overflow_sub-result
+overflow_sub-result c = omega (arith, c.mask.ensures, below _ _ _ (known_number-lt _ _ c.requires) c.width-width.ensures.value)
 
 pub returns-then-n-width-eq1-clause-value : goal.returns-then-n-width-eq1-clause-value
 returns-then-n-width-eq1-clause-value c =
     let w = c.width-width.ensures in
-    let size : 2 ^ c.width-width.result - c.args.n ≡ 18446744073709551615 / 2 ^ (64 - c.width-width.result) - c.args.n + 1 =
-    omega (arith, mask_is _ w.least w.most, below _ _ _ (known_number-lt _ _ c.requires) w.value) in
+    let size : 2 ^ c.width-width.result - c.args.n ≡ c.mask.result - c.args.n + 1 =
+    omega (arith, c.mask.ensures, below _ _ _ (known_number-lt _ _ c.requires) w.value) in
     integer_of-known _ _ c.requires
     ∙ ap (λ (s : Bool). Some (integer_at (length c.args.v.now.digits) s c.args.n)) (sym c.is_signed.ensures ∙ c.if-is_signed.true)
     ∙ ap (λ k. Some (integer_at k true c.args.n)) (sym w.value)

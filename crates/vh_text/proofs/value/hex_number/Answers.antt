@@ -1,5 +1,5 @@
 use Rattle.std.proofs.Common.{arith}
-use Rattle.vh_text.proofs.ValueLemmas.{room}
+use Rattle.vh_text.proofs.ValuesLemmas.{room}
 use Rattle.vh_text.proofs.value.hex_number.Goals as goal
 
 pub overflow_mul-number : goal.overflow_mul-number

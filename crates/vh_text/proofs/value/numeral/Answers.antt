@@ -1,8 +1,8 @@
 use Rattle.std.proofs.Common.{ap, ◌∙◌, sym, ℕ, Option, length}
 use Rattle.std.specs.Option.{option_map}
 use Rattle.std.proofs.lemmas.Bool.{eqb-false}
-use Rattle.vh_text.specs.Patterns.{number_kept}
-use Rattle.vh_text.proofs.ValueLemmas.{numeral-marks, numeral-plain}
+use Rattle.vh_text.specs.Views.{number_kept}
+use Rattle.vh_text.proofs.ValuesLemmas.{numeral-marks, numeral-plain}
 use Rattle.vh_text.proofs.value.numeral.Goals as goal
 
 pub returns-then-has_literal_marks : goal.returns-then-has_literal_marks

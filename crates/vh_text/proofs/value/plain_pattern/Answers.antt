@@ -2,8 +2,8 @@ use Rattle.std.proofs.Common.{ap, ◌∙◌, sym, ℕ, List, Option}
 use Rattle.std.specs.Option.{option_map}
 use Rattle.vh_logic.specs.declared.digits.Digit.{Digit}
 use Rattle.vh_text.specs.Digits.{spelled_digits}
-use Rattle.vh_text.specs.Patterns.{pattern_of}
-use Rattle.vh_text.proofs.ValueLemmas.{characters-plain, spelled_digits-marks}
+use Rattle.vh_text.specs.Views.{pattern_of}
+use Rattle.vh_text.proofs.ValuesLemmas.{characters-plain, spelled_digits-marks}
 use Rattle.vh_text.proofs.value.plain_pattern.Goals as goal
 
 pub returns-then-has_literal_marks : goal.returns-then-has_literal_marks

@@ -1,7 +1,7 @@
 -- Bit `i` of each plane makes digit `i`.
 use Rattle.std.proofs.Common.{◌<◌, ◌≤◌, refl, arith}
 use Rattle.vh_logic.specs.declared.vector.TheConstants.{MAX_WIDTH}
-use Rattle.vh_logic.proofs.PlaneLemmas.{slice_get-digits_of, bit_set, bit_clear}
+use Rattle.vh_logic.proofs.PlanesLemmas.{slice_get-digits_of, bit_set, bit_clear}
 use Rattle.vh_logic.proofs.ArithmeticLemmas.{width-planes}
 use Rattle.vh_logic.proofs.vector.Vec4.digit.Goals as goal
 

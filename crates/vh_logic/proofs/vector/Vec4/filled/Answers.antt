@@ -1,6 +1,6 @@
 -- Each digit has its pair of planes.
 use Rattle.std.proofs.Common.{ap}
-use Rattle.vh_logic.proofs.PlaneLemmas.{digits_of-zeros, digits_of-ones, digits_of-xs, digits_of-zs}
+use Rattle.vh_logic.proofs.PlanesLemmas.{digits_of-zeros, digits_of-ones, digits_of-xs, digits_of-zs}
 use Rattle.vh_logic.specs.PlanesBack.{length-digits_of}
 use Rattle.vh_logic.proofs.vector.Vec4.filled.Goals as goal
 use Rattle.vh_logic.proofs.vector.Vec4.filled.Goals.{in-Zero, in-One, in-X, in-Z}

@@ -1,6 +1,6 @@
 -- Bits above the width do not count.
 use Rattle.std.proofs.Common.{ap}
-use Rattle.vh_logic.proofs.PlaneLemmas.{digits_of-mask}
+use Rattle.vh_logic.proofs.PlanesLemmas.{digits_of-mask}
 use Rattle.vh_logic.specs.PlanesBack.{length-digits_of}
 use Rattle.vh_logic.proofs.vector.Vec4.from_planes.Goals as goal
 

@@ -1,7 +1,7 @@
 -- A 1 in each bit of both planes is an x at each place.
 use Rattle.std.proofs.Common.{ap}
 use Rattle.vh_logic.specs.PlanesBack.{length-digits_of}
-use Rattle.vh_logic.proofs.PlaneLemmas.{digits_of-xs}
+use Rattle.vh_logic.proofs.PlanesLemmas.{digits_of-xs}
 use Rattle.vh_logic.proofs.ArithmeticLemmas.{literal-width}
 use Rattle.vh_logic.proofs.vector.Vec4.unknown.Goals as goal
 

@@ -1,7 +1,7 @@
 -- A mask cuts the number to the width.
 use Rattle.std.proofs.Common.{ap, ◌∙◌}
 use Rattle.vh_logic.specs.PlanesBack.{length-digits_of}
-use Rattle.vh_logic.proofs.PlaneLemmas.{digits_of-mask}
+use Rattle.vh_logic.proofs.PlanesLemmas.{digits_of-mask}
 use Rattle.vh_logic.proofs.NumberLemmas.{digits_of-binary}
 use Rattle.vh_logic.proofs.ArithmeticLemmas.{literal-width}
 use Rattle.vh_logic.proofs.vector.Vec4.with_number.Goals as goal

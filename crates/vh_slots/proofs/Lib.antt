@@ -1,0 +1,6 @@
+-- Lists that are written at one place
+pub mod ListsLemmas
+-- Slots and a slab before and after each call
+pub mod ViewsLemmas
+-- Runs of calls
+pub mod LawsLemmas

@@ -1,7 +1,0 @@
-use Rattle.std.proofs.Common.{◌≡◌, ◌+◌, drop}
-use Rattle.std.specs.List.{prefix_len}
-use Rattle.vh_text.specs.Marks.{is_number_byte}
-use Rattle.vh_text.proofs.scan.number_len.Given as goal
-
-abbrev pub invariant-loop-i : goal.invariant-loop-i
-invariant-loop-i l = prefix_len is_number_byte l.bytes ≡ l.i + prefix_len is_number_byte (drop l.i l.bytes)
