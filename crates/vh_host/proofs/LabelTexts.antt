@@ -2,7 +2,8 @@
 use Rattle.std.proofs.Common.{◌≡◌, ℕ, suc, ◌+◌, ◌-◌, ◌<◌, List, [], ◌++◌, Bool, true, false, cond, sym, ap, ◌∙◌, append_assoc, append-nil, arith}
 use Rattle.vh_kernel.specs.declared.label.Label.{Label}
 use Rattle.vh_kernel.specs.State.{State}
-use Rattle.vh_kernel.specs.Step.{Move, is_end}
+use Rattle.vh_kernel.specs.Outcome.{Move}
+use Rattle.vh_kernel.specs.Step.{is_end}
 use Rattle.vh_kernel.specs.Run.{fifo, next_move, moves_of, text_of, line_of_move}
 
 -- With a label to make, the text is its line and what follows.

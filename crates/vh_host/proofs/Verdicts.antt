@@ -7,7 +7,7 @@ use Rattle.vh_app.specs.Meaning.{script_of}
 use Rattle.vh_parse.specs.Meaning.{first_of}
 use Rattle.vh_kernel.specs.Run.{fifo}
 use Rattle.vh_kernel.specs.Settle.{opening}
-use Rattle.vh_laws.proofs.Chosen.{runs_keep_laws}
+use Rattle.vh_laws.proofs.LawsLemmas.{runs-keep-laws, opens-fresh}
 use Rattle.vh_host.specs.declared.status.Status.{Status}
 use Rattle.vh_host.specs.declared.status.Status.TheVariants as status
 use Rattle.vh_host.specs.declared.judging.Refusal.{Refusal}
@@ -25,7 +25,7 @@ use Rattle.vh_host.proofs.Files.{files_back, some_contents, told_verdict}
 wrote_none : (design : First) (scripts : List ScriptData) (s : Status) → WroteOf default_budget [] s []
     → Wrote fifo default_budget (opening design scripts) s []
 wrote_none design scripts s is =
-    record { moves = []; run = tt; laws = runs_keep_laws design scripts fifo [] tt; in_budget = omega arith; text = is }
+    record { moves = []; run = tt; laws = runs-keep-laws (opening design scripts) (opens-fresh design scripts) fifo [] tt; in_budget = omega arith; text = is }
 
 -- Want of memory before the run begins, on any verdict.
 pub no_memory : (v : Verdict) (w : Option (List ℕ)) → AnswersWith v status.NoMemory w w

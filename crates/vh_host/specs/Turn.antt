@@ -6,7 +6,8 @@ use Rattle.vh_kernel.specs.declared.label.Ending.TheVariants as ending
 use Rattle.vh_kernel.specs.declared.label.Label.{Label}
 use Rattle.vh_kernel.specs.declared.label.Label.TheVariants as label
 use Rattle.vh_kernel.specs.State.{State}
-use Rattle.vh_kernel.specs.Step.{Move, is_end, choices_of}
+use Rattle.vh_kernel.specs.Outcome.{Move}
+use Rattle.vh_kernel.specs.Step.{is_end, choices_of}
 use Rattle.vh_kernel.specs.Run.{fifo, IsMove, line_of_move}
 use Rattle.vh_host.specs.declared.status.Status.{Status}
 use Rattle.vh_host.specs.declared.status.Status.TheVariants as status

@@ -1,6 +1,6 @@
 ghost use Rattle.std.specs.Prelude.{◌≡◌, ◌<◌, ◌≤◌, ◌++◌, List, [], None, length, map, IfOk, OnOk};
 ghost use Rattle.std.specs.List.{list_any};
-ghost use Rattle.vh_kernel.specs.Shown.{state_of};
+ghost use Rattle.vh_kernel.specs.Views.{state_of};
 ghost use Rattle.vh_kernel.specs.Step.{choices_of};
 ghost use Rattle.vh_kernel.specs.Run.{fifo, moves_of, text_of, line_of_move};
 ghost use Rattle.vh_host.specs.Words.{texts};

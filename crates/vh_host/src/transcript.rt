@@ -1,6 +1,6 @@
 ghost use Rattle.std.specs.Prelude.{◌≡◌, ◌≢◌, ◌<◌, ◌≤◌, ℕ, List, Some, None, take, OnOk, OnErr};
 ghost use Rattle.vh_base.specs.Outside.{Rose, appended, AppendsFront};
-ghost use Rattle.vh_kernel.specs.Shown.{state_of};
+ghost use Rattle.vh_kernel.specs.Views.{state_of};
 ghost use Rattle.vh_kernel.specs.Step.{choices_of};
 ghost use Rattle.vh_kernel.specs.Run.{line_of_move, fifo};
 ghost use Rattle.vh_laws.specs.Laws.{Lawful};

@@ -207,13 +207,18 @@ settles-by b l t u is after =
     ap (λ (x : Bool). (let m : Move = (l, cond x t (settled t)) in m)) is
     ∙ ap (λ (x : State). (let m : Move = (l, x) in m)) (sym after)
 
--- The label that was made, and the state that settles after it, are a step.
+-- The label that was made, and the state that settles after it, are that of the step.
+pub makes-move : (s t u : State) (k : ℕ) (g : Given) (l : Label) (b : Bool)
+    → crowded_move (is_crowded s) s k g ≡ (l, t) → is_end l ≡ b → u ≡ cond b t (settled t) → step_of s k g ≡ (l, u)
+makes-move s t u k g l b is ends after = ap (λ (m : Move). settled_move m) is ∙ settles-by b l t u ends after
+
+-- They are a step.
 pub makes-step : (s t u : State) (k : ℕ) (g : Given) (l : Label) (b : Bool) → s.handles.is_given g.handle ≡ false
     → crowded_move (is_crowded s) s k g ≡ (l, t) → is_end l ≡ b → u ≡ cond b t (settled t) → IsStep s k (l, u)
 makes-step s t u k g l b fresh is ends after = record {
   given = g;
   fits = subst (λ (m : Move). Fits s m.0) is (crowded-fits s (is_crowded s) k g fresh);
-  makes = ap (λ (m : Move). settled_move m) is ∙ settles-by b l t u ends after;
+  makes = makes-move s t u k g l b is ends after;
 }
 
 -- A run is the one list of labels.

@@ -9,7 +9,7 @@ use Rattle.vh_kernel.specs.Line.{line_at}
 use Rattle.vh_kernel.specs.State.{State}
 use Rattle.vh_kernel.specs.Orders.{Given}
 use Rattle.vh_kernel.specs.Outcome.{Move}
-use Rattle.vh_kernel.specs.Step.{IsStep, step_of, choices_of, is_end}
+use Rattle.vh_kernel.specs.Step.{IsStep, next_given, step_of, choices_of, is_end}
 
 -- An order of choice: fifo takes the first of the choices at each label, which stand in rising order.
 -- (own: IEEE 1364-2005, 11.4.2 leaves the choice open)
@@ -47,14 +47,14 @@ moves_with order (g ∷ gs) s = move_from order s g
 
 -- The labels that the machine makes from the state, so many at most, up to its end, where each new handle
 -- gets the count of those given before it.
-abbrev pub next_given : State → Given
-next_given s = record { handle = s.handles.count }
+abbrev pub next_move : Chooser → State → Move
+next_move order s = move_from order s (next_given s)
 
 abbrev pub moves_of : Chooser → ℕ → State → List Move
 moves_of order zero s = []
-moves_of order (suc n) s = move_from order s (next_given s)
-    ∷ (if is_end (move_from order s (next_given s)).0 then []
-    else moves_of (chooser_after order (choices_of s)) n (move_from order s (next_given s)).1)
+moves_of order (suc n) s =
+    next_move order s
+    ∷ (if is_end (next_move order s).0 then [] else moves_of (chooser_after order (choices_of s)) n (next_move order s).1)
 
 -- The line of a label, at the time after it, or nothing for a silent one.
 abbrev pub line_of_move : Move → List ℕ

@@ -233,6 +233,10 @@ settled_move m = (m.0, if is_end m.0 then m.1 else settled m.1)
 abbrev pub step_of : State → ℕ → Given → Move
 step_of s k g = settled_move (crowded_move (is_crowded s) s k g)
 
+-- Where numbers are given in order, the next is the count of those given before.
+abbrev pub next_given : State → Given
+next_given s = record { handle = s.handles.count }
+
 -- A handle that is given has a number that was never given before.
 abbrev pub FitsAnswer : State → Answer → Type 0
 FitsAnswer s answer.Done = ⊤

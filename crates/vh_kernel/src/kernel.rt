@@ -70,7 +70,7 @@ impl Kernel {
     ghost use Rattle.vh_kernel.specs.Line.{script_name};
     ghost use Rattle.vh_kernel.specs.Outcome.{end_move};
     ghost use Rattle.vh_kernel.specs.Settle.{opening};
-    ghost use Rattle.vh_kernel.specs.Step.{finish_move, time_move, region_move, pick_move, agenda_move, idle_move, crowded_move, top_move, is_crowded, is_end, IsStep, choices_of, top_choices, idle_choices, agenda_choices};
+    ghost use Rattle.vh_kernel.specs.Step.{finish_move, time_move, region_move, pick_move, agenda_move, idle_move, crowded_move, top_move, is_crowded, is_end, step_of, next_given, IsStep, choices_of, top_choices, idle_choices, agenda_choices};
     ghost use Rattle.vh_kernel.specs.Views.{state_of, given_by, Moves};
 
     /// The machine at the opening of a design with its scripts.
@@ -155,6 +155,9 @@ impl Kernel {
     pub fn step(&mut self, alloc: Global, k: u32) -> Result<Label, NoMemory>
         requires { k < choices_of (state_of self.old) }
         ensures step { IfOk result (λ l. IsStep (state_of self.old) k (l, state_of self.new)) }
+        ensures in_order {
+            IfOk result (λ l. step_of (state_of self.old) k (next_given (state_of self.old))
+                ≡ (l, state_of self.new)) }
         ensures goes { IfOk result (λ l. is_end l ≡ false → 0 < choices_of (state_of self.new)) }
     {
         let label = self.make_label(alloc, k)?;

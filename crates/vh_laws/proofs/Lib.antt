@@ -16,3 +16,5 @@ pub mod FiringLemmas
 pub mod HandleLawLemmas
 -- Every path and every run from a fresh state keeps the laws.
 pub mod LawsLemmas
+-- Worked rows with one label changed, each refused by a law.
+pub mod LawRows

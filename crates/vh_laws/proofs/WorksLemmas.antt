@@ -1,6 +1,7 @@
 -- Each step of the machine is one of the six kinds.
 use Rattle.std.proofs.Common.{◌≡◌, ℕ, zero, suc, ◌+◌, ◌-◌, ◌<◌, List, [], ◌∷◌, ◌++◌, drop, map, Bool, true, false, cond, Option, Some, None, Result, Ok, Err, slice_get, nat_eq, nat_lt, nat_le, bytes_eq, refl, sym, ap, subst, ◌∙◌, ◌⊎◌, inl, inr}
 use Rattle.std.proofs.lemmas.Bool.{eq-eqb}
+use Rattle.vh_base.specs.declared.limits.TheConstants.{MOST_FRAMES, MOST_NUMBERS, MOST_TIME}
 use Rattle.vh_base.specs.declared.faults.Fault.{Fault}
 use Rattle.vh_base.specs.declared.faults.Fault.TheVariants as fault
 use Rattle.vh_base.specs.declared.first.FirstBit.{FirstBit}
@@ -18,8 +19,6 @@ use Rattle.vh_kernel.specs.declared.activation.Activation.{Activation}
 use Rattle.vh_kernel.specs.declared.activation.Body.{Body}
 use Rattle.vh_kernel.specs.declared.control.Control.{Control}
 use Rattle.vh_kernel.specs.declared.control.Control.TheVariants as top
-use Rattle.vh_kernel.specs.declared.control.TheConstants.{MOST_FRAMES, MOST_OCCURRENCES}
-use Rattle.vh_kernel.specs.declared.events.TheConstants.{MOST_TIME}
 use Rattle.vh_kernel.specs.declared.events.Work.{Work}
 use Rattle.vh_kernel.specs.declared.events.Work.TheVariants as work
 use Rattle.vh_base.specs.declared.orders.Object.{Object}
@@ -147,7 +146,7 @@ Tells o r m = view_of m.state ≡ with_telling r.occurrence o (view_of r)
 telling-view : (o : Occurrence) (r : State) → AllMade (Tells o r) (telling_outcome o r)
 telling-view o r =
     unless-holds (AllMade (Tells o r)) (nat_le MOST_FRAMES (frames r.control)) fault.F1 _ (λ _. tt)
-    (λ _. unless-holds (AllMade (Tells o r)) (nat_lt MOST_OCCURRENCES r.occurrence) fault.F3 _ (λ _. tt) (λ _. refl))
+    (λ _. unless-holds (AllMade (Tells o r)) (nat_lt MOST_NUMBERS r.occurrence) fault.F3 _ (λ _. tt) (λ _. refl))
 
 -- The begin of a body and of a startup.
 called-view : (r : Option Registration) (b : Option Body) (c : ℕ) (what : Occurrence) (s : State) → view_of (called r b c what s) ≡ view_of s

@@ -1,8 +1,9 @@
 use Rattle.std.proofs.Common.{subst, sym}
 use Rattle.vh_kernel.specs.Run.{fifo}
+use Rattle.vh_kernel.specs.Settle.{opening}
 use Rattle.vh_kernel.specs.State.{State}
 use Rattle.vh_laws.specs.Laws.{Lawful}
-use Rattle.vh_laws.proofs.Chosen.{runs_keep_laws}
+use Rattle.vh_laws.proofs.LawsLemmas.{runs-keep-laws, opens-fresh}
 use Rattle.vh_host.specs.Acceptance.{accepts}
 use Rattle.vh_host.specs.Headline.{default_budget}
 use Rattle.vh_host.proofs.Turns.{WroteFrom}
@@ -12,7 +13,7 @@ use Rattle.vh_host.proofs.host.run_design.Goals as goal
 pub transcribe-requires-clause-lawful : goal.transcribe-requires-clause-lawful
 transcribe-requires-clause-lawful g c =
     let P : State → Type 0 = λ s. Lawful fifo s in
-    subst P (sym c.in-Ok.ensures.opens) (runs_keep_laws c.args.design c.args.scripts.items fifo)
+    subst P (sym c.in-Ok.ensures.opens) (runs-keep-laws (opening c.args.design c.args.scripts.items) (opens-fresh c.args.design c.args.scripts.items) fifo)
 
 pub returns-in-Ok-clause-answers : goal.returns-in-Ok-clause-answers
 returns-in-Ok-clause-answers g c =

@@ -1,5 +1,5 @@
 use Rattle.std.proofs.Common.{sym, ◌∙◌}
-use Rattle.vh_kernel.specs.Shown.{state_of}
+use Rattle.vh_kernel.specs.Views.{state_of}
 use Rattle.vh_host.proofs.LabelTexts.{text_next, text_last}
 use Rattle.vh_host.proofs.plain.text_from.Goals as goal
 

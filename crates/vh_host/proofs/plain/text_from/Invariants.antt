@@ -1,5 +1,5 @@
 use Rattle.std.proofs.Common.{◌≡◌, ◌<◌, ◌-◌, ◌++◌}
-use Rattle.vh_kernel.specs.Shown.{state_of}
+use Rattle.vh_kernel.specs.Views.{state_of}
 use Rattle.vh_kernel.specs.Step.{choices_of}
 use Rattle.vh_kernel.specs.Run.{fifo, moves_of, text_of}
 use Rattle.vh_host.proofs.plain.text_from.Given as goal

@@ -1,7 +1,7 @@
 use Rattle.std.proofs.Common.{◌≡◌, ℕ, List, [], Option, OnErr, unwrap_or, sym, ap, subst, ◌∙◌}
 use Rattle.vh_base.specs.Outside.{AppendsFront}
 use Rattle.vh_kernel.specs.Run.{line_of_move}
-use Rattle.vh_kernel.specs.Shown.{state_of}
+use Rattle.vh_kernel.specs.Views.{state_of}
 use Rattle.vh_host.proofs.transcript.tell.Goals as goal
 
 pub returns-in-Ok-Some-clause-err : goal.returns-in-Ok-Some-clause-err

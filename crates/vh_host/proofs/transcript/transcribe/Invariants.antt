@@ -1,5 +1,5 @@
 use Rattle.std.proofs.Common.{◌≡◌, ◌<◌}
-use Rattle.vh_kernel.specs.Shown.{state_of}
+use Rattle.vh_kernel.specs.Views.{state_of}
 use Rattle.vh_kernel.specs.Step.{choices_of}
 use Rattle.vh_host.proofs.Turns.{SoFar}
 use Rattle.vh_host.proofs.transcript.transcribe.Given as goal

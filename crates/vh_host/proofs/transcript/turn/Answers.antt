@@ -1,5 +1,5 @@
 use Rattle.std.proofs.Common.{inr}
-use Rattle.vh_kernel.specs.Shown.{state_of}
+use Rattle.vh_kernel.specs.Views.{state_of}
 use Rattle.vh_host.proofs.transcript.turn.Goals as goal
 
 -- memory was refused with the label's line
