@@ -170,8 +170,8 @@ module _ {T P : Type 0} {V : P → Type 0} (grammar : (p : P) → Part T V (V p)
             s.0 s0 ts s.1,
       )
       to-reads (nested p) v h a ts rest s = nested-reads p a ts rest s
-      to-reads (unless class p) v h a ts rest s = (s.0, to-reads p v h a ts rest s.1)
-      to-reads (barred class p) v h a ts rest s = (to-reads p v h a ts rest s.0, s.1)
+      to-reads (unless class p) v h a ts rest s = to-reads p v h a ts rest s
+      to-reads (barred class p) v h a ts rest s = to-reads p v h a ts rest s
 
     module _ (nested-spells : (p : P) (a : V p) (ts rest : List T) → ReadsAt grammar n p a ts rest → S p a ts rest) where
       pub from-reads : {A : Type 0} (p : Part T V A) → Advances p → ((t : T) → Heeds (reader grammar reach) p t) → (a : A) (ts rest : List T) → On grammar n p a ts rest → Spelled p a ts rest
@@ -196,8 +196,8 @@ module _ {T P : Type 0} {V : P → Type 0} (grammar : (p : P) → Part T V (V p)
             s.0 s0 ts s.1,
       )
       from-reads (nested p) v h a ts rest s = nested-spells p a ts rest s
-      from-reads (unless class p) v h a ts rest s = (s.0, from-reads p v h a ts rest s.1)
-      from-reads (barred class p) v h a ts rest s = (from-reads p v h a ts rest s.0, s.1)
+      from-reads (unless class p) v h a ts rest s = from-reads p v h a ts rest s
+      from-reads (barred class p) v h a ts rest s = from-reads p v h a ts rest s
 
     module _ (nested-reads : (p : P) (a : V p) (ts rest : List T) → S p a ts rest → ReadsAt grammar n p a ts rest) (nested-begins : (p : P) (ts : List T) → O p ts → BeginsAt grammar n p ts) where
       alt-first : {A : Type 0} (class : T → Bool) (p q : Part T V A) → Advances (alt class p q) → ((t : T) → Heeds (reader grammar reach) (alt class p q) t) → (ts : List T) → Begun grammar n p ts → Begun grammar n (alt class p q) ts
@@ -237,7 +237,7 @@ module _ {T P : Type 0} {V : P → Type 0} (grammar : (p : P) → Part T V (V p)
             o.0 s0 ts o.1,
       )
       to-begins (nested p) v h ts o = nested-begins p ts o
-      to-begins (unless class p) v h ts o = (o.0, to-begins p v h ts o.1)
+      to-begins (unless class p) v h ts o = to-begins p v h ts o
       to-begins (barred class p) v h ts o = to-begins p v h ts o
 
     module _ (nested-spells : (p : P) (a : V p) (ts rest : List T) → ReadsAt grammar n p a ts rest → S p a ts rest) (nested-opens : (p : P) (ts : List T) → BeginsAt grammar n p ts → O p ts) where
@@ -266,7 +266,7 @@ module _ {T P : Type 0} {V : P → Type 0} (grammar : (p : P) → Part T V (V p)
             b.0 s0 ts b.1,
       )
       from-begins (nested p) v h ts b = nested-opens p ts b
-      from-begins (unless class p) v h ts b = (b.0, from-begins p v h ts b.1)
+      from-begins (unless class p) v h ts b = from-begins p v h ts b
       from-begins (barred class p) v h ts b = from-begins p v h ts b
 
   module _ (heeding : (p : P) (t : T) → Heeds (reader grammar reach) (grammar p) t) where

@@ -7,3 +7,6 @@ pub mod Laws
 pub mod Parts
 pub mod Choices
 pub mod Turns
+pub mod MarkingLemmas
+pub mod ShownLemmas
+pub mod Subjects

@@ -32,8 +32,8 @@ module _ {T P : Type 0} {V : P → Type 0} (R : (p : P) → List T → Out T (V 
     Spells (iter class part s) a ts rest =
         (n : ℕ) × AfterTurns (λ u v m r. Spells (part u) v m r) (λ u m. (a ≡ u) × (rest ≡ m) × (next_is (can_begin (part u)) m ≡ false)) n s ts
     Spells (nested p) a ts rest = Nested p a ts rest
-    Spells (unless class p) a ts rest = (next_is class ts ≡ false) × Spells p a ts rest
-    Spells (barred class p) a ts rest = Spells p a ts rest × (next_is (class a) rest ≡ false)
+    Spells (unless class p) a ts rest = Spells p a ts rest
+    Spells (barred class p) a ts rest = Spells p a ts rest
 
     module _ (NestedOpens : (p : P) → List T → Type 0) where
       -- the tokens begin the part: none at all; or a token alone; of a sequence what begins its first
@@ -49,7 +49,7 @@ module _ {T P : Type 0} {V : P → Type 0} (R : (p : P) → List T → Out T (V 
       Opens (rep {A} class p) ts = (n : ℕ) × AfterTurns (λ _ _ m r. (a : A) × Spells p a m r) (λ _ m. (m ≡ []) ⊎ Opens p m) n (tt {0}) ts
       Opens (iter class part s) ts = (n : ℕ) × AfterTurns (λ u v m r. Spells (part u) v m r) (λ u m. (m ≡ []) ⊎ Opens (part u) m) n s ts
       Opens (nested p) ts = NestedOpens p ts
-      Opens (unless class p) ts = (next_is class ts ≡ false) × Opens p ts
+      Opens (unless class p) ts = Opens p ts
       Opens (barred class p) ts = Opens p ts
 
 module _ {T P : Type 0} {V : P → Type 0} (grammar : (p : P) → Part T V (V p)) (reach : ℕ) where

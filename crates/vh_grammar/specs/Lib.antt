@@ -1,5 +1,6 @@
 pub mod Part
 pub mod Reading
+pub mod Marking
 pub mod Sentences
 pub mod Conditions
 pub mod Table

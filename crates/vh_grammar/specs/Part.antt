@@ -24,10 +24,11 @@ pub data Part (T : Type 0) {P : Type 0} (V : P → Type 0) : Type 0 → Type 1 w
   iter : {S : Type 0} → (S → T → Bool) → (S → Part T V S) → S → Part T V S
   -- a whole production, one level deeper
   nested : (p : P) → Part T V (V p)
-  -- the part, unless a token of the class is next: that begins a construct that is left out
+  -- the part, where a token of the class that is next shows that what begins there is left out: the
+  -- grammar goes on as if it weren't
   unless : {A : Type 0} → (T → Bool) → Part T V A → Part T V A
-  -- the part, unless a token of the class follows it: that shows that what begins where the part
-  -- begins is a construct that is left out
+  -- the part, where a token of the class behind it shows that what begins where the part begins is
+  -- left out: the grammar goes on as if it weren't
   barred : {A : Type 0} → (A → T → Bool) → Part T V A → Part T V A
 
 module _ {T P : Type 0} {V : P → Type 0} where

@@ -15,7 +15,7 @@
 #![tactic(auto)]
 
 ghost use Rattle.vh_grammar.specs.Table.{Table};
-ghost use Rattle.vh_grammar.specs.Laws.{ReadsWhatIsSpelled, RefusesWhatIsMet, HasOneTree, AcceptsSources, LeavesNothing, HasOneSource, EndsTooSoon, FrontBegins, FaultIsFirst, FirstIsRefused, IsTooDeep, IsLeftOut, OnlyDepthNeedsLevels, PlacesAreInside, ClassesAreFirsts, SpellsWithoutClasses, BeginsWithoutClasses};
+ghost use Rattle.vh_grammar.specs.Laws.{LawsOfProductions, LawsOfSources, ClassesAreFirsts, SpellsWithoutClasses, BeginsWithoutClasses};
 
 mod stop;
 
@@ -29,20 +29,8 @@ pub trait Grammar {
 
 /// The laws of reading, for every grammar. The body does nothing: the contract is the theorem.
 pub fn exact<G: Grammar>()
-    ensures read { ReadsWhatIsSpelled G.table }
-    ensures refused { RefusesWhatIsMet G.table }
-    ensures one_tree { HasOneTree G.table }
-    ensures accepted { AcceptsSources G.table }
-    ensures nothing_left { LeavesNothing G.table }
-    ensures one_source { HasOneSource G.table }
-    ensures too_soon { EndsTooSoon G.table }
-    ensures front { FrontBegins G.table }
-    ensures first { FaultIsFirst G.table }
-    ensures first_refused { FirstIsRefused G.table }
-    ensures too_deep { IsTooDeep G.table }
-    ensures left_out { IsLeftOut G.table }
-    ensures levels { OnlyDepthNeedsLevels G.table }
-    ensures inside { PlacesAreInside G.table }
+    ensures productions { LawsOfProductions G.table }
+    ensures sources { LawsOfSources G.table }
     ensures firsts { ClassesAreFirsts G.table }
     ensures spelled { SpellsWithoutClasses G.table }
     ensures begun { BeginsWithoutClasses G.table }
