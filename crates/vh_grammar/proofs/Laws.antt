@@ -5,6 +5,7 @@ use Rattle.vh_grammar.specs.Reading.{Fault, lost, deep, left_out, Out, got, stop
 use Rattle.vh_grammar.specs.Marking.{mark_at, refusal, refused, marked_past, marked, marked_at, marks, unmarked, answered, answered_whole}
 use Rattle.vh_grammar.specs.Sentences.{Repeats, AfterTurns, ShowsHere, Reads, Meets, MeetsPast, Shows, ReadsAt, MeetsAt, ShowsAt}
 use Rattle.vh_grammar.specs.Conditions.{eats, Advances}
+use Rattle.vh_grammar.specs.Firsts.{first_at}
 use Rattle.vh_grammar.specs.Language.{SpellsAt, OpensAt}
 use Rattle.vh_grammar.specs.Table.{Table, Subject, production, whole_source, IsLeft}
 use Rattle.vh_grammar.specs.Laws.{LawsOfProductions, LawsOfSources, ClassesAreFirsts, SpellsWithoutClasses, BeginsWithoutClasses}
@@ -388,20 +389,23 @@ module _ (t : Table) where
   laws_of_sources = laws (whole_source t) parsed source-facts
 
   -- the choices
+  abbrev firsts : t.Name → t.Token → Bool
+  firsts = first_at t.grammar t.reach
+
   pub classes_are_firsts : ClassesAreFirsts t
   classes_are_firsts = (
-    λ p. chooses t.grammar t.eating t.advancing t.reach (t.grammar p) (t.advancing p) (t.heeding p),
-    chooses t.grammar t.eating t.advancing t.reach t.start t.start_advancing t.start_heeding,
+    λ p. chooses t.grammar t.eating t.advancing t.reach t.settled t.heeding (t.grammar p) (t.heeding p),
+    chooses t.grammar t.eating t.advancing t.reach t.settled t.heeding t.start t.start_heeding,
   )
 
   pub spells_without_classes : SpellsWithoutClasses t
   spells_without_classes n a ts = (
-    λ s. to-reads t.grammar t.eating t.advancing t.reach n (SpellsAt t.grammar t.reach n) (OpensAt t.grammar t.reach n) (spells-reads t.grammar t.eating t.advancing t.reach t.heeding n) t.start t.start_advancing t.start_heeding a ts [] s,
-    λ s. from-reads t.grammar t.eating t.advancing t.reach n (SpellsAt t.grammar t.reach n) (OpensAt t.grammar t.reach n) (reads-spells t.grammar t.eating t.advancing t.reach t.heeding n) t.start t.start_advancing t.start_heeding a ts [] s,
+    λ s. to-reads t.grammar t.eating t.advancing t.reach t.settled t.heeding n (SpellsAt firsts t.grammar n) (OpensAt firsts t.grammar n) (spells-reads t.grammar t.eating t.advancing t.reach t.settled t.heeding n) t.start t.start_advancing t.start_heeding a ts [] s,
+    λ s. from-reads t.grammar t.eating t.advancing t.reach t.settled t.heeding n (SpellsAt firsts t.grammar n) (OpensAt firsts t.grammar n) (reads-spells t.grammar t.eating t.advancing t.reach t.settled t.heeding n) t.start t.start_advancing t.start_heeding a ts [] s,
   )
 
   pub begins_without_classes : BeginsWithoutClasses t
   begins_without_classes n ts = (
-    λ o. to-begins t.grammar t.eating t.advancing t.reach n (SpellsAt t.grammar t.reach n) (OpensAt t.grammar t.reach n) (spells-reads t.grammar t.eating t.advancing t.reach t.heeding n) (opens-begins t.grammar t.eating t.advancing t.reach t.heeding n) t.start t.start_advancing t.start_heeding ts o,
-    λ b. from-begins t.grammar t.eating t.advancing t.reach n (SpellsAt t.grammar t.reach n) (OpensAt t.grammar t.reach n) (reads-spells t.grammar t.eating t.advancing t.reach t.heeding n) (begins-opens t.grammar t.eating t.advancing t.reach t.heeding n) t.start t.start_advancing t.start_heeding ts b,
+    λ o. to-begins t.grammar t.eating t.advancing t.reach t.settled t.heeding n (SpellsAt firsts t.grammar n) (OpensAt firsts t.grammar n) (spells-reads t.grammar t.eating t.advancing t.reach t.settled t.heeding n) (opens-begins t.grammar t.eating t.advancing t.reach t.settled t.heeding n) t.start t.start_advancing t.start_heeding ts o,
+    λ b. from-begins t.grammar t.eating t.advancing t.reach t.settled t.heeding n (SpellsAt firsts t.grammar n) (OpensAt firsts t.grammar n) (reads-spells t.grammar t.eating t.advancing t.reach t.settled t.heeding n) (begins-opens t.grammar t.eating t.advancing t.reach t.settled t.heeding n) t.start t.start_advancing t.start_heeding ts b,
   )

@@ -5,6 +5,7 @@ pub mod Starts
 pub mod Levels
 pub mod Laws
 pub mod Parts
+pub mod FirstsLemmas
 pub mod Choices
 pub mod Turns
 pub mod MarkingLemmas

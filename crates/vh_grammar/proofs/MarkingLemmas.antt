@@ -200,7 +200,7 @@ module _ {T P : Type 0} {V : P → Type 0} (word : T → Bool) (R : (p : P) → 
       (run-judged p v.0 ts m)
       (λ a mid n e. run-judged (q a) (v.1 a) mid n)
   run-judged (act f p) v ts m = judged-act (Shows N word W p ts) m f (run R p ts) (marked word R' p ts m) (run-judged p v ts m)
-  run-judged (alt {A} class p q) v ts m = go (next_is class ts) refl (run-judged p v.1 ts m) (run-judged q v.2 ts m)
+  run-judged (alt {A} class p q) v ts m = go (next_is class ts) refl (run-judged p v.0 ts m) (run-judged q v.1 ts m)
     where
       go : (d : Bool) → next_is class ts ≡ d → Judged (Shows N word W p ts) m (run R p ts) (marked word R' p ts m) → Judged (Shows N word W q ts) m (run R q ts) (marked word R' q ts m) → Judged (Shows N word W (alt class p q) ts) m (cond d (run R p ts) (run R q ts)) (if d then marked word R' p ts m else marked word R' q ts m)
       go true e f g =
@@ -309,7 +309,7 @@ module _ {T P : Type 0} {V : P → Type 0} (word : T → Bool) (R : (p : P) → 
       (λ a mid n. run-same (q a) (v.1 a) mid n)
   run-same (act f p) v ts m =
       same-then (run R p ts) (marked word X p ts m) (marked word Y p ts m) (λ a rest. got (f a) rest) (λ a rest. got (f a.0, a.1) rest) (λ a rest. got (f a.0, a.1) rest) (marks-of p v ts m).0 (marks-of p v ts m).1 (run-same p v ts m) (λ a rest n. refl)
-  run-same (alt class p q) v ts m = go (next_is class ts) (run-same p v.1 ts m) (run-same q v.2 ts m)
+  run-same (alt class p q) v ts m = go (next_is class ts) (run-same p v.0 ts m) (run-same q v.1 ts m)
     where
       go : (d : Bool) → Same (run R p ts) (marked word X p ts m) (marked word Y p ts m) → Same (run R q ts) (marked word X q ts m) (marked word Y q ts m) → Same (cond d (run R p ts) (run R q ts)) (if d then marked word X p ts m else marked word X q ts m) (if d then marked word Y p ts m else marked word Y q ts m)
       go true f g = f

@@ -135,7 +135,7 @@ module _ {T P : Type 0} {V : P → Type 0} (R : (p : P) → List T → Out T (V 
         go : (o : Out T A) → Says_of (Reads N p) (Meets N M p) ts o → Says_of (Reads N (act f p)) (Meets N M (act f p)) ts (then_ o (λ a rest. got (f a) rest))
         go (got a rest) i = (a, refl, i)
         go (stop fault left) i = i
-    run-sound (alt {A} class p q) v ts = go (next_is class ts) refl (run R p ts) (run R q ts) (run-sound p v.1 ts) (run-sound q v.2 ts)
+    run-sound (alt {A} class p q) v ts = go (next_is class ts) refl (run R p ts) (run R q ts) (run-sound p v.0 ts) (run-sound q v.1 ts)
       where
         go : (d : Bool) → next_is class ts ≡ d → (o o' : Out T A) → Says_of (Reads N p) (Meets N M p) ts o → Says_of (Reads N q) (Meets N M q) ts o' → Says_of (Reads N (alt class p q)) (Meets N M (alt class p q)) ts (cond d o o')
         go true e (got a rest) o' i j = inl (e, i)
@@ -156,8 +156,8 @@ module _ {T P : Type 0} {V : P → Type 0} (R : (p : P) → List T → Out T (V 
     run-tree (seq p q) v a ts rest h = rw (run-tree p v.0 a.0 ts h.0 h.1, run-tree q v.1 a.1 h.0 rest h.2)
     run-tree (bind p q) v b ts rest h = rw (run-tree p v.0 h.0 ts h.1 h.2, run-tree (q h.0) (v.1 h.0) b h.1 rest h.3)
     run-tree (act f p) v b ts rest h = rw (run-tree p v h.0 ts rest h.2, h.1)
-    run-tree (alt class p q) v a ts rest (inl h) = rw (h.0, run-tree p v.1 a ts rest h.1)
-    run-tree (alt class p q) v a ts rest (inr h) = rw (h.0, run-tree q v.2 a ts rest h.1)
+    run-tree (alt class p q) v a ts rest (inl h) = rw (h.0, run-tree p v.0 a ts rest h.1)
+    run-tree (alt class p q) v a ts rest (inr h) = rw (h.0, run-tree q v.1 a ts rest h.1)
     run-tree (rep class p) v a ts rest h = many-tree (run R p) (Reads N p) (Meets N M p) class (short-run p v.0) (run-tree p v.1) a (length ts) ts rest (omega arith) h
     run-tree (iter class part s) v a ts rest h = turns-tree (λ u. run R (part u)) (λ u. Reads N (part u)) (λ u. Meets N M (part u)) class (λ u. short-run (part u) (v u).0) (λ u w m r. run-tree (part u) (v u).1 w m r) a rest h.0 (length ts) s ts (omega arith) h.1
     run-tree (nested p) v a ts rest h = nested-tree p a ts rest h
@@ -177,8 +177,8 @@ module _ {T P : Type 0} {V : P → Type 0} (R : (p : P) → List T → Out T (V 
       run-fault (bind p q) v fault ts left (inl h) = rw (run-fault p v.0 fault ts left h)
       run-fault (bind p q) v fault ts left (inr h) = rw (run-tree p v.0 h.0 ts h.1 h.2, run-fault (q h.0) (v.1 h.0) fault h.1 left h.3)
       run-fault (act f p) v fault ts left h = rw (run-fault p v fault ts left h)
-      run-fault (alt class p q) v fault ts left (inl h) = rw (h.0, run-fault p v.1 fault ts left h.1)
-      run-fault (alt class p q) v fault ts left (inr h) = rw (h.0, run-fault q v.2 fault ts left h.1)
+      run-fault (alt class p q) v fault ts left (inl h) = rw (h.0, run-fault p v.0 fault ts left h.1)
+      run-fault (alt class p q) v fault ts left (inr h) = rw (h.0, run-fault q v.1 fault ts left h.1)
       run-fault (rep class p) v fault ts left h = many-fault (run R p) (Reads N p) (Meets N M p) class (short-run p v.0) (run-tree p v.1) (run-fault p v.1) fault left h.0 (length ts) ts (omega arith) h.1
       run-fault (iter class part s) v fault ts left h = turns-fault (λ u. run R (part u)) (λ u. Reads N (part u)) (λ u. Meets N M (part u)) class (λ u. short-run (part u) (v u).0) (λ u w m r. run-tree (part u) (v u).1 w m r) (λ u f m l. run-fault (part u) (v u).1 f m l) fault left h.0 (length ts) s ts (omega arith) h.1
       run-fault (nested p) v fault ts left h = nested-fault p fault ts left h

@@ -150,7 +150,7 @@ module _ {T P : Type 0} {V : P → Type 0} (R : (p : P) → List T → Out T (V 
       (λ a t mid l. cut-run (q a) (v.1 a) (t ∷ mid) zs)
   cut-run (act f p) v us zs =
       cut-then 0 us zs (run R p us) (run R p (us ++ zs)) (λ a rest. got (f a) rest) (λ a rest. got (f a) rest) (cut-run p v us zs) (small-run p us) (λ b. omega arith) (λ b rest e. e) (λ b x rest e. refl)
-  cut-run (alt class p q) v us zs = cut-alt class p q us zs (cut-run p v.1 us zs) (cut-run q v.2 us zs)
+  cut-run (alt class p q) v us zs = cut-alt class p q us zs (cut-run p v.0 us zs) (cut-run q v.1 us zs)
   cut-run (rep class p) v us zs = cut-many (run R p) class (λ ts. rw v.0 at (size-run R each p ts)) zs (λ xs. cut-run p v.1 xs zs) (length us) (length (us ++ zs)) us (omega arith) (omega arith)
   cut-run (iter class part s) v us zs = cut-turns (λ u. run R (part u)) class (λ u ts. rw (v u).0 at (size-run R each (part u) ts)) zs (λ u xs. cut-run (part u) (v u).1 xs zs) (length us) (length (us ++ zs)) s us (omega arith) (omega arith)
   cut-run (nested p) v us zs = nested-cut p us zs

@@ -132,8 +132,8 @@ module _ {T P : Type 0} {V : P → Type 0} (word : T → Bool) (R : (p : P) → 
     run-inside (bind p q) v ts place shown (inl h) = run-inside p v.0 ts place shown h
     run-inside (bind p q) v ts place shown (inr h) = inside-mid ts h.1 place shown (mid-of p v.0 h.0 ts h.1 h.2) (run-inside (q h.0) (v.1 h.0) h.1 place shown h.3)
     run-inside (act f p) v ts place shown h = run-inside p v ts place shown h
-    run-inside (alt class p q) v ts place shown (inl h) = run-inside p v.1 ts place shown h.1
-    run-inside (alt class p q) v ts place shown (inr h) = run-inside q v.2 ts place shown h.1
+    run-inside (alt class p q) v ts place shown (inl h) = run-inside p v.0 ts place shown h.1
+    run-inside (alt class p q) v ts place shown (inr h) = run-inside q v.1 ts place shown h.1
     run-inside (rep {A} class p) v ts place shown h =
         turns-inside {S = Unit {0}} (λ _ _ m r. (next_is class m ≡ true) × ((a : A) × Reads N p a m r)) (λ _ m place shown. (next_is class m ≡ true) × Shows N word W p m place shown) (λ _ _ m r i. mid-of p v.1 i.1.0 m r i.1.1) (λ _ m place shown e. run-inside p v.1 m place shown e.1) h.0 tt ts place shown h.1
     run-inside (iter class part s) v ts place shown h =
@@ -205,8 +205,8 @@ module _ {T P : Type 0} {V : P → Type 0} (word : T → Bool) (R : (p : P) → 
     run-behind (bind p q) v ts place shown (inl h) = behind-then shown (run R p ts) (λ a mid. run R (q a) mid) (run-behind p v.0 ts place shown h) (λ a mid. behind-of (q a) mid)
     run-behind (bind p q) v ts place shown (inr h) = rw (tree-of p v.0 h.0 ts h.1 h.2) (run-behind (q h.0) (v.1 h.0) h.1 place shown h.3)
     run-behind (act f p) v ts place shown h = behind-then shown (run R p ts) (λ a rest. got (f a) rest) (run-behind p v ts place shown h) (λ a rest. omega arith)
-    run-behind (alt class p q) v ts place shown (inl h) = rw h.0 (run-behind p v.1 ts place shown h.1)
-    run-behind (alt class p q) v ts place shown (inr h) = rw h.0 (run-behind q v.2 ts place shown h.1)
+    run-behind (alt class p q) v ts place shown (inl h) = rw h.0 (run-behind p v.0 ts place shown h.1)
+    run-behind (alt class p q) v ts place shown (inr h) = rw h.0 (run-behind q v.1 ts place shown h.1)
     run-behind (rep class p) v ts place shown h = many-behind class p v.0 v.1 (run-behind p v.1) (length ts) h.0 ts place shown (omega arith) h.1
     run-behind (iter class part s) v ts place shown h = turns-behind class part v (λ u. run-behind (part u) (v u).1) (length ts) h.0 s ts place shown (omega arith) h.1
     run-behind (nested p) v ts place shown h = nested-behind p ts place shown h
@@ -293,7 +293,7 @@ module _ {T P : Type 0} {V : P → Type 0} (word : T → Bool) (R : (p : P) → 
     run-front (bind p q) v us zs place (inr h) =
         front-then p v.0 h.0 us zs h.1 (λ a mid. run R (q a) mid) h.2 (length-inside (q h.0) (v.1 h.0) h.1 zs place h.3) (λ m e. run-front (q h.0) (v.1 h.0) m zs place (rw e at h.3)) (λ a. ended-none (q a))
     run-front (act f p) v us zs place h = ended-back f (run R p us) (run-front p v us zs place h)
-    run-front (alt class p q) v us zs place h = front-alt class p q us zs place (run-front p v.1 us zs place) (run-front q v.2 us zs place) h
+    run-front (alt class p q) v us zs place h = front-alt class p q us zs place (run-front p v.0 us zs place) (run-front q v.1 us zs place) h
     run-front (rep class p) v us zs place h = many-front class p v.0 v.1 (run-front p v.1) (length us) h.0 us zs place (omega arith) h.1
     run-front (iter class part s) v us zs place h = turns-front class part v (λ u. run-front (part u) (v u).1) (length us) h.0 s us zs place (omega arith) h.1
     run-front (nested p) v us zs place h = nested-front p us zs place h
@@ -362,8 +362,8 @@ module _ {T P : Type 0} {V : P → Type 0} (word : T → Bool) (R : (p : P) → 
       run-down (bind p q) v us zs k j l (inl h) = inl (run-down p v.0 us zs k j l h)
       run-down (bind p q) v us zs k j l (inr h) = let d : (m : List T) × Reads N p h.0 us m × (h.1 ≡ m ++ zs) = reads-down p v.0 h.0 us zs h.1 h.2 (mid-more (q h.0) (v.1 h.0) h.1 zs k j l h.3) in inr (h.0, d.0, d.1, run-down (q h.0) (v.1 h.0) d.0 zs k j l (rw d.2 at h.3))
       run-down (act f p) v us zs k j l h = run-down p v us zs k j l h
-      run-down (alt class p q) v us zs k j l (inl h) = inl (sym (next-front class us zs (us-more p v.1 us zs k j l h.1)) ∙ h.0, run-down p v.1 us zs k j l h.1)
-      run-down (alt class p q) v us zs k j l (inr h) = inr (sym (next-front class us zs (us-more q v.2 us zs k j l h.1)) ∙ h.0, run-down q v.2 us zs k j l h.1)
+      run-down (alt class p q) v us zs k j l (inl h) = inl (sym (next-front class us zs (us-more p v.0 us zs k j l h.1)) ∙ h.0, run-down p v.0 us zs k j l h.1)
+      run-down (alt class p q) v us zs k j l (inr h) = inr (sym (next-front class us zs (us-more q v.1 us zs k j l h.1)) ∙ h.0, run-down q v.1 us zs k j l h.1)
       run-down (rep {A} class p) v us zs k j l h = (
         h.0,
         turns-down {S = Unit {0}} (λ _ _ m r. (next_is class m ≡ true) × ((a : A) × Reads N p a m r)) (λ _ m place shown. (next_is class m ≡ true) × Shows N word W p m place shown) (λ _ _ m r i. mid-of p v.1 i.1.0 m r i.1.1) (λ _ m place shown e. run-inside nested-inside p v.1 m place shown e.1)
@@ -407,8 +407,8 @@ module _ {T P : Type 0} {V : P → Type 0} (word : T → Bool) (R : (p : P) → 
       run-up (bind p q) v us zs k j (inl h) = inl (run-up p v.0 us zs k j h)
       run-up (bind p q) v us zs k j (inr h) = inr (h.0, h.1 ++ zs, reads-up p v.0 h.0 us zs h.1 h.2 (mid-some (q h.0) (v.1 h.0) h.1 k j h.3), run-up (q h.0) (v.1 h.0) h.1 zs k j h.3)
       run-up (act f p) v us zs k j h = run-up p v us zs k j h
-      run-up (alt class p q) v us zs k j (inl h) = inl (next-front class us zs (mid-some p v.1 us k j h.1) ∙ h.0, run-up p v.1 us zs k j h.1)
-      run-up (alt class p q) v us zs k j (inr h) = inr (next-front class us zs (mid-some q v.2 us k j h.1) ∙ h.0, run-up q v.2 us zs k j h.1)
+      run-up (alt class p q) v us zs k j (inl h) = inl (next-front class us zs (mid-some p v.0 us k j h.1) ∙ h.0, run-up p v.0 us zs k j h.1)
+      run-up (alt class p q) v us zs k j (inr h) = inr (next-front class us zs (mid-some q v.1 us k j h.1) ∙ h.0, run-up q v.1 us zs k j h.1)
       run-up (rep {A} class p) v us zs k j h = (
         h.0,
         turns-up {S = Unit {0}} (λ _ _ m r. (next_is class m ≡ true) × ((a : A) × Reads N p a m r)) (λ _ m place shown. (next_is class m ≡ true) × Shows N word W p m place shown) (λ _ _ m r i. mid-of p v.1 i.1.0 m r i.1.1) (λ _ m place shown e. run-inside nested-inside p v.1 m place shown e.1)

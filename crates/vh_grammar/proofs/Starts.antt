@@ -133,7 +133,7 @@ module _ {T P : Type 0} {V : P → Type 0} (R : (p : P) → List T → Out T (V 
         go (stop deep left) i f g e = absurd e
         go (stop left_out left) i f g e = absurd e
     run-begins (act f p) v ts e = run-begins p v ts (ended-act f (run R p ts) e)
-    run-begins (alt class p q) v ts e = go (next_is class ts) refl (run-begins p v.1 ts) (run-begins q v.2 ts) e
+    run-begins (alt class p q) v ts e = go (next_is class ts) refl (run-begins p v.0 ts) (run-begins q v.1 ts) e
       where
         go : (d : Bool) → next_is class ts ≡ d → (Ended (run R p ts) → Begins N B p ts) → (Ended (run R q ts) → Begins N B q ts) → Ended (cond d (run R p ts) (run R q ts)) → Begins N B (alt class p q) ts
         go true c f g e = inl (c, f e)
@@ -154,8 +154,8 @@ module _ {T P : Type 0} {V : P → Type 0} (R : (p : P) → List T → Out T (V 
     run-ended (bind p q) v ts (inl h) = ended-then (run R p ts) (λ a mid. run R (q a) mid) (run-ended p v.0 ts h) (λ a. ended-run (q a))
     run-ended (bind p q) v ts (inr h) = rw (run-tree R N M each nested-tree p v.0 h.0 ts h.1 h.2) (run-ended (q h.0) (v.1 h.0) h.1 h.3)
     run-ended (act f p) v ts h = ended-back f (run R p ts) (run-ended p v ts h)
-    run-ended (alt class p q) v ts (inl h) = rw h.0 (run-ended p v.1 ts h.1)
-    run-ended (alt class p q) v ts (inr h) = rw h.0 (run-ended q v.2 ts h.1)
+    run-ended (alt class p q) v ts (inl h) = rw h.0 (run-ended p v.0 ts h.1)
+    run-ended (alt class p q) v ts (inr h) = rw h.0 (run-ended q v.1 ts h.1)
     run-ended (rep class p) v ts h = many-ended (run R p) (Reads N p) (Meets N M p) (Begins N B p) class (short-part p v.0) (run-tree R N M each nested-tree p v.1) (run-ended p v.1) h.0 (length ts) ts (omega arith) h.1
     run-ended (iter class part s) v ts h = turns-ended (λ u. run R (part u)) (λ u. Reads N (part u)) (λ u. Meets N M (part u)) (λ u. Begins N B (part u)) class (λ u. short-part (part u) (v u).0) (λ u w m r. run-tree R N M each nested-tree (part u) (v u).1 w m r) (λ u m k. run-ended (part u) (v u).1 m k) h.0 (length ts) s ts (omega arith) h.1
     run-ended (nested p) v ts h = nested-ended p ts h

@@ -3,6 +3,7 @@ pub mod Reading
 pub mod Marking
 pub mod Sentences
 pub mod Conditions
+pub mod Firsts
 pub mod Table
 pub mod Laws
 pub mod Choices

@@ -2,9 +2,10 @@
 -- and one for a whole source.
 use Rattle.std.specs.Prelude.{◌≡◌, ℕ, suc, Bool, true, List, [], ◌∷◌, length, ◌⊎◌}
 use Rattle.vh_grammar.specs.Part.{Part}
-use Rattle.vh_grammar.specs.Reading.{Fault, lost, Out, reader}
+use Rattle.vh_grammar.specs.Reading.{Fault, lost, Out}
 use Rattle.vh_grammar.specs.Marking.{marked_at, marks, answered, answered_whole}
 use Rattle.vh_grammar.specs.Sentences.{ShowsHere, Reads, Begins, Meets, Shows, ReadsAt, BeginsAt, MeetsAt, ShowsAt}
+use Rattle.vh_grammar.specs.Firsts.{first_at}
 use Rattle.vh_grammar.specs.Language.{Spells, Opens, SpellsAt, OpensAt}
 use Rattle.vh_grammar.specs.Conditions.{eats, Advances}
 use Rattle.vh_grammar.specs.Choices.{Heeds}
@@ -27,14 +28,15 @@ pub record Table : Type 1 where
   pub start : Part Token tree_of Source
   -- each production takes a token
   pub eating : (p : Name) → eats (grammar p) ≡ true
-  -- what is chosen by its class takes a token
+  -- each turn of a repetition takes a token
   pub advancing : (p : Name) → Advances (grammar p)
   pub start_advancing : Advances start
-  -- the levels on which a token alone is read, to see where it can stand first
+  -- how many productions deep the first tokens of each are found, and that no more are found deeper
   pub reach : ℕ
+  pub settled : (p : Name) (t : Token) → first_at grammar (suc reach) p t ≡ first_at grammar reach p t
   -- each choice is made right at each token
-  pub heeding : (p : Name) (t : Token) → Heeds (reader grammar reach) (grammar p) t
-  pub start_heeding : (t : Token) → Heeds (reader grammar reach) start t
+  pub heeding : (p : Name) (t : Token) → Heeds (first_at grammar reach) (grammar p) t
+  pub start_heeding : (t : Token) → Heeds (first_at grammar reach) start t
 
 -- What tokens can be read as: a production, which reads a front of them, or a whole source, which reads
 -- all (own).
@@ -102,8 +104,9 @@ whole_source t = record {
 
 -- the tokens are a whole source with this tree, with no word of classes (own)
 abbrev pub SpellsSource : (t : Table) → ℕ → t.Source → List t.Token → Type 0
-SpellsSource t levels a ts = Spells (reader t.grammar t.reach) (SpellsAt t.grammar t.reach levels) t.start a ts []
+SpellsSource t levels a ts = Spells (first_at t.grammar t.reach) (SpellsAt (first_at t.grammar t.reach) t.grammar levels) t.start a ts []
 
 -- the tokens begin a source, with no word of classes (own)
 abbrev pub OpensSource : (t : Table) → ℕ → List t.Token → Type 0
-OpensSource t levels ts = Opens (reader t.grammar t.reach) (SpellsAt t.grammar t.reach levels) (OpensAt t.grammar t.reach levels) t.start ts
+OpensSource t levels ts =
+    Opens (first_at t.grammar t.reach) (SpellsAt (first_at t.grammar t.reach) t.grammar levels) (OpensAt (first_at t.grammar t.reach) t.grammar levels) t.start ts
