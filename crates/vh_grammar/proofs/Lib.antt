@@ -8,6 +8,7 @@ pub mod Parts
 pub mod FirstsLemmas
 pub mod Choices
 pub mod Turns
+pub mod MarkTurns
 pub mod MarkingLemmas
 pub mod ShownLemmas
 pub mod Subjects

@@ -9,4 +9,3 @@ pub mod Laws
 pub mod Choices
 pub mod Language
 pub mod Says
-pub mod Past

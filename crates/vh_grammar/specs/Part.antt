@@ -31,10 +31,14 @@ pub data Part (T : Type 0) {P : Type 0} (V : P → Type 0) : Type 0 → Type 1 w
   -- left out: the grammar goes on as if it weren't
   barred : {A : Type 0} → (A → T → Bool) → Part T V A → Part T V A
 
+-- a token of the class means no more than that it stands there (own)
+abbrev pub only_means : {T : Type 0} → (T → Bool) → T → Option (Unit {0})
+only_means class t = cond (class t) (Some tt) None
+
 module _ {T P : Type 0} {V : P → Type 0} where
   -- one token of the class, whose tree says no more than that it stands there (own)
   abbrev pub only : (T → Bool) → Part T V (Unit {0})
-  only class = tok (λ t. cond (class t) (Some tt) None)
+  only class = tok (only_means class)
 
   -- the part where a token of the class is next, and else nothing (own)
   abbrev pub opt : {A : Type 0} → (T → Bool) → Part T V A → Part T V (Option A)

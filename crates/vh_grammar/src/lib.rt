@@ -17,8 +17,10 @@
 ghost use Rattle.vh_grammar.specs.Table.{Table};
 ghost use Rattle.vh_grammar.specs.Laws.{LawsOfProductions, LawsOfSources, ClassesAreFirsts, SpellsWithoutClasses, BeginsWithoutClasses};
 
+mod cursor;
 mod stop;
 
+pub use cursor::{Cursor, Token};
 pub use stop::Stop;
 
 /// A grammar: a type that stands for a table of productions.
