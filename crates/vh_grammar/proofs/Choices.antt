@@ -10,7 +10,7 @@ use Rattle.vh_grammar.specs.Language.{Spells, Opens, SpellsAt, OpensAt}
 use Rattle.vh_grammar.specs.Choices.{Heeds, IsFirst, ChoosesByFirsts}
 use Rattle.vh_grammar.proofs.Size.{weight, Sized}
 use Rattle.vh_grammar.proofs.Parts.{On, Begun, size-part, tree-part, begins-none}
-use Rattle.vh_grammar.proofs.FirstsLemmas.{and-first, next-same, at-reach, Takes, reads-takes, begins-first, first-begins, production-takes, production-first, production-begins}
+use Rattle.vh_grammar.proofs.FirstsLemmas.{and-second, next-same, at-reach, Takes, reads-takes, begins-first, first-begins, production-takes, production-first, production-begins}
 
 repeats-map : {T A : Type 0} (I J : A → List T → List T → Type 0) (E F : List T → Type 0) → ((a : A) (m r : List T) → I a m r → J a m r) → ((m : List T) → E m → F m) → (list : List A) (ts rest : List T) → Repeats I E list ts rest → Repeats J F list ts rest
 repeats-map I J E F f g [] ts rest h = (h.0, g ts h.1)
@@ -140,7 +140,7 @@ module _ {T P : Type 0} {V : P → Type 0} (grammar : (p : P) → Part T V (V p)
 
       alt-second : {A : Type 0} (class : T → Bool) (p q : Part T V A) → Advances (alt class p q) → ((t : T) → Heeds F (alt class p q) t) → (ts : List T) → Begun grammar n q ts → Begun grammar n (alt class p q) ts
       alt-second class p q v h [] b = inr (refl, b)
-      alt-second class p q v h (t ∷ m) b = inr (and-first (class t) (first F q t) (h t).1 (next-begun n q (λ t. (h t).3) t m b), b)
+      alt-second class p q v h (t ∷ m) b = inr (and-second (first F q t) (class t) (h t).1 (next-begun n q (λ t. (h t).3) t m b), b)
 
       turn-end : {A : Type 0} (class : T → Bool) (p : Part T V A) → ((t : T) → Heeds F p t) → ((t : T) → class t ≡ first F p t) → (ts : List T) → Begun grammar n p ts → (ts ≡ []) ⊎ ((next_is class ts ≡ true) × Begun grammar n p ts)
       turn-end class p h c [] b = inl refl

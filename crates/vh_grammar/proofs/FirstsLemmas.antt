@@ -25,9 +25,9 @@ or-false : (a b : Bool) → (a || b) ≡ false → (a ≡ false) × (b ≡ false
 or-false true b e = cc
 or-false false b e = (refl, e)
 
-pub and-first : (a b : Bool) → (a && b) ≡ false → b ≡ true → a ≡ false
-and-first false b e h = refl
-and-first true b e h = cc
+pub and-second : (a b : Bool) → (a && b) ≡ false → a ≡ true → b ≡ false
+and-second false b e h = cc
+and-second true b e h = e
 
 true-false : (b : Bool) → b ≡ true → b ≡ false → ⊥
 true-false b e d = cc
@@ -297,7 +297,7 @@ module _ {T P : Type 0} {V : P → Type 0} (grammar : (p : P) → Part T V (V p)
           go (inr d) f g =
               let s = behind-some (without_token p) (λ _. first G q t) d.1 in
               let k : behind (without_token p) (λ _. first F q t) ≡ true = rw s.1 (first-more G F within q t s.2) in
-              let c : first F p t ≡ false = and-first (first F p t) (behind (without_token p) (λ _. first F q t)) (h t).0 k in
+              let c : first F p t ≡ false = and-second (behind (without_token p) (λ _. first F q t)) (first F p t) (h t).0 k in
               inr (s.0, t ∷ [], reads-none N p (λ t. (h t).1) s.0 (t ∷ []) s.1 c, g s.2)
       first-begins (bind {A} p q) h t e = go (or-cases (first G p t) (behind (without_token p) (λ a. first G (q a) t)) e) (first-begins p (λ t. (h t).1) t) (λ a. first-begins (q a) (λ t. (h t).2 a) t)
         where
@@ -306,14 +306,14 @@ module _ {T P : Type 0} {V : P → Type 0} (grammar : (p : P) → Part T V (V p)
           go (inr d) f g =
               let s = behind-some (without_token p) (λ a. first G (q a) t) d.1 in
               let k : behind (without_token p) (λ a. first F (q a) t) ≡ true = rw s.1 (first-more G F within (q s.0) t s.2) in
-              let c : first F p t ≡ false = and-first (first F p t) (behind (without_token p) (λ a. first F (q a) t)) (h t).0 k in
+              let c : first F p t ≡ false = and-second (behind (without_token p) (λ a. first F (q a) t)) (first F p t) (h t).0 k in
               inr (s.0, t ∷ [], reads-none N p (λ t. (h t).1) s.0 (t ∷ []) s.1 c, g s.0 s.2)
       first-begins (act f p) h t e = first-begins p h t e
       first-begins (alt class p q) h t e = go (or-cases (first G p t) (first G q t) e) (first-begins p (λ t. (h t).2) t) (first-begins q (λ t. (h t).3) t)
         where
           go : (first G p t ≡ true) ⊎ ((first G p t ≡ false) × (first G q t ≡ true)) → (first G p t ≡ true → Begins N B p (t ∷ [])) → (first G q t ≡ true → Begins N B q (t ∷ [])) → Begins N B (alt class p q) (t ∷ [])
           go (inl d) f g = inl ((h t).0 ∙ first-more G F within p t d, f d)
-          go (inr d) f g = inr (and-first (class t) (first F q t) (h t).1 (first-more G F within q t d.1), g d.1)
+          go (inr d) f g = inr (and-second (first F q t) (class t) (h t).1 (first-more G F within q t d.1), g d.1)
       first-begins (rep class p) h t e = (0, inr ((h t).0 ∙ first-more G F within p t e, first-begins p (λ t. (h t).1) t e))
       first-begins (iter class part s) h t e = (0, inr ((h t s).0 ∙ first-more G F within (part s) t e, first-begins (part s) (λ t. (h t s).1) t e))
       first-begins (nested p) h t e = nested-begins p t e

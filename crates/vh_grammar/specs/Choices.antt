@@ -11,10 +11,10 @@ module _ {T P : Type 0} {V : P → Type 0} (first_of : P → T → Bool) where
   abbrev pub Heeds : {A : Type 0} → Part T V A → T → Type 0
   Heeds (done a) t = Unit {0}
   Heeds (tok meaning) t = Unit {0}
-  Heeds (seq p q) t = ((first first_of p t && behind (without_token p) (λ _. first first_of q t)) ≡ false) × Heeds p t × Heeds q t
-  Heeds (bind {A} p q) t = ((first first_of p t && behind (without_token p) (λ a. first first_of (q a) t)) ≡ false) × Heeds p t × ((a : A) → Heeds (q a) t)
+  Heeds (seq p q) t = ((behind (without_token p) (λ _. first first_of q t) && first first_of p t) ≡ false) × Heeds p t × Heeds q t
+  Heeds (bind {A} p q) t = ((behind (without_token p) (λ a. first first_of (q a) t) && first first_of p t) ≡ false) × Heeds p t × ((a : A) → Heeds (q a) t)
   Heeds (act f p) t = Heeds p t
-  Heeds (alt class p q) t = (class t ≡ first first_of p t) × ((class t && first first_of q t) ≡ false) × Heeds p t × Heeds q t
+  Heeds (alt class p q) t = (class t ≡ first first_of p t) × ((first first_of q t && class t) ≡ false) × Heeds p t × Heeds q t
   Heeds (rep class p) t = (class t ≡ first first_of p t) × Heeds p t
   Heeds (iter {S} class part s) t = (u : S) → (class u t ≡ first first_of (part u) t) × Heeds (part u) t
   Heeds (nested p) t = Unit {0}

@@ -59,3 +59,8 @@ module _ {T P : Type 0} {V : P → Type 0} where
   -- one part, and further ones, each after a separator of the class (own)
   abbrev pub listed : {A B : Type 0} → (T → Bool) → Part T V B → Part T V A → Part T V (List A)
   listed c separator p = two (λ a more. a ∷ more) p (rep c (after separator p))
+
+  -- the part again and again; wherever one more could begin, a token of the second class shows that what
+  -- begins there is left out (own)
+  abbrev pub rep_unless : {A : Type 0} → (T → Bool) → (T → Bool) → Part T V A → Part T V (List A)
+  rep_unless c shows p = unless shows (rep c (before p (unless shows (done (tt {0})))))
