@@ -2,8 +2,8 @@
 use Rattle.std.specs.Prelude.{ℕ, List, map, option_map, Option, Vec, Result}
 use Rattle.vh_grammar.specs.declared.cursor.Cursor.{Cursor}
 use Rattle.vh_grammar.specs.declared.stop.Stop.{Stop}
-use Rattle.vh_grammar.specs.Marking.{marks}
-use Rattle.vh_grammar.specs.Says.{Says, Passes}
+use Rattle.vh_grammar.specs.Reading.{Out}
+use Rattle.vh_grammar.specs.Says.{Says}
 use Rattle.vh_grammar_demo.specs.declared.token.Token.{Token as Held}
 use Rattle.vh_grammar_demo.specs.declared.tree.Expr.{Expr, fold-Expr}
 use Rattle.vh_grammar_demo.specs.declared.tree.Expr.TheOpen as e
@@ -65,6 +65,10 @@ stmt_tree = fold-Stmt StmtTree stmt_layer
 abbrev pub stmt_trees : {A : Type 0} → Vec Stmt A → List StmtTree
 stmt_trees all = map stmt_tree all.items
 
+-- What reading the part from the cursor on gives, with so many levels left (own).
+abbrev pub read_from : {A : Type 0} → ℕ → G A → Cursor Held → Out Token (A × ℕ)
+read_from levels part at = reads levels part (tokens_seen at.tokens.now) at.mark
+
 -- Reading the part from the cursor on, with so many levels left, gives what the code returns (own).
 abbrev pub Reads : {A X : Type 0} → (X → A) → ℕ → G A → Cursor Held → Result (X × Cursor Held) Stop → Type 0
-Reads view levels part at result = Says token_seen view (reads levels part (tokens_seen at.tokens.now) at.mark) result
+Reads view levels part at result = Says token_seen view (read_from levels part at) result
