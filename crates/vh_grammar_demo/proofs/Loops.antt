@@ -4,6 +4,7 @@ use Rattle.std.proofs.lemmas.List.{length-map}
 use Rattle.vh_grammar_demo.specs.declared.token.Token.{Token as Held}
 use Rattle.vh_grammar_demo.specs.Views.{tokens_seen}
 use Rattle.vh_grammar.specs.Part.{rep}
+use Rattle.vh_grammar.specs.Nest.{Row}
 use Rattle.vh_grammar.specs.Reading.{Out, got, stop, then_, next_is}
 use Rattle.vh_grammar.specs.Marking.{joined_marks}
 use Rattle.vh_grammar.proofs.MarkTurns.{marks_less, marks_turn, joined_marks_turn, iter_marks_turn}
@@ -11,8 +12,8 @@ use Rattle.vh_grammar_demo.specs.declared.token.Operator.{Operator}
 use Rattle.vh_grammar_demo.specs.declared.token.Sign.TheVariants as sign
 use Rattle.vh_grammar_demo.specs.Token.{Token, token_seen, is_sign, is_goto, begins_statement}
 use Rattle.vh_grammar_demo.specs.Trees.{PathTree, ExprTree, StmtTree}
-use Rattle.vh_grammar_demo.specs.Grammar.{G, grammar, reads, steps, one_step, goes_on, halves, is_operator, link_with, links_with, chain_at, links_joined, listed_statement, statements, next_slot, more_slots}
-use Rattle.vh_grammar_demo.specs.Table.{eating, advancing, steps_advance, chain_advances, slot_advances}
+use Rattle.vh_grammar_demo.specs.Grammar.{G, grammar, reads, steps, one_step, goes_on, halves, is_operator, link_with, links_with, chain_at, links_joined, listed_statement, statements, next_slot, more_slots, target_turn, targets_go, more_targets}
+use Rattle.vh_grammar_demo.specs.Table.{eating, advancing, steps_advance, chain_advances, slot_advances, targets_advance}
 
 -- a path goes on by a step
 pub step_turn : (depth : ℕ) (p q : PathTree) (ts mid : List Token) (m k : ℕ) → next_is (goes_on p) ts ≡ true → reads depth (one_step p.indexed p) ts m ≡ got (q, k) mid → reads depth (steps p) ts m ≡ reads depth (steps q) mid k
@@ -58,3 +59,10 @@ slot_less depth s ts mid m r = marks_less is_goto grammar eating advancing depth
 -- with the code's tokens
 pub fewer : (us vs : List Held) → length (tokens_seen vs) < length (tokens_seen us) → length vs < length us
 fewer us vs l = omega (arith, length-map us token_seen, length-map vs token_seen)
+
+-- a row of targets goes on
+pub target_row_turn : (depth : ℕ) (r u : Row ExprTree) (ts mid : List Token) (m k : ℕ) → next_is (targets_go r) ts ≡ true → reads depth (target_turn r.wants r.depth r) ts m ≡ got (u, k) mid → reads depth (more_targets r) ts m ≡ reads depth (more_targets u) mid k
+target_row_turn depth r u ts mid m k c e = iter_marks_turn is_goto grammar eating advancing depth targets_go (λ v. target_turn v.wants v.depth v) (λ v. targets_advance v.wants v.depth v) r ts m u k mid c e
+
+pub target_row_less : (depth : ℕ) (r : Row ExprTree) (u : Row ExprTree × ℕ) (ts mid : List Token) (m : ℕ) → reads depth (target_turn r.wants r.depth r) ts m ≡ got u mid → length mid < length ts
+target_row_less depth r u ts mid m e = marks_less is_goto grammar eating advancing depth (target_turn r.wants r.depth r) (targets_advance r.wants r.depth r).1 (targets_advance r.wants r.depth r).0 ts m u mid e

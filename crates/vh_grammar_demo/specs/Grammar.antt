@@ -1,6 +1,7 @@
 -- The grammar of the small language.
 use Rattle.std.specs.Prelude.{ℕ, zero, suc, Bool, true, false, not, ◌&&◌, ◌||◌, is_some, List, [], ◌∷◌, ◌++◌, map, Option, Some, None}
 use Rattle.vh_grammar.specs.Part.{Part, done, tok, seq, bind, act, alt, rep, iter, nested, unless, barred, only, opt, two, after, before, listed, rep_unless}
+use Rattle.vh_grammar.specs.Nest.{Piece, Row, fresh, turn_by, goes_by, row_end}
 use Rattle.vh_grammar.specs.Reading.{Out, got, then_}
 use Rattle.vh_grammar.specs.Marking.{marks}
 use Rattle.vh_grammar_demo.specs.declared.token.Sign.{Sign}
@@ -176,9 +177,40 @@ print_statement =
     (before (act print (act all_of (opt begins_arguments arguments)))
     (seq (the sign.Close) (the sign.Semicolon))))
 
--- assignment = path "=" expr ";" (own)
+-- A path as a target (own).
+abbrev pub target : G ExprTree
+target = act (λ p. p.expr) path
+
+-- What comes next in a row of targets (own).
+unfoldable pub target_turn : Bool → ℕ → Row ExprTree → G (Row ExprTree)
+target_turn wants depth r = turn_by (is_sign sign.OpenBracket) (is_sign sign.Comma) (is_sign sign.CloseBracket) target wants depth r
+
+-- The same where a target has to come, and where not, with so many brackets open behind a closing one (own).
+abbrev pub wanted_turn : Row ExprTree → G (Row ExprTree)
+wanted_turn r = turn_by (is_sign sign.OpenBracket) (is_sign sign.Comma) (is_sign sign.CloseBracket) target true r.depth r
+
+abbrev pub behind_turn : ℕ → Row ExprTree → G (Row ExprTree)
+behind_turn depth r = turn_by (is_sign sign.OpenBracket) (is_sign sign.Comma) (is_sign sign.CloseBracket) target false (suc depth) r
+
+-- The tokens with which a row of targets goes on (own).
+abbrev pub row_goes : Bool → ℕ → Token → Bool
+row_goes wants depth = goes_by (is_sign sign.OpenBracket) (is_sign sign.Comma) (is_sign sign.CloseBracket) (λ t. is_some (name_of t.kind)) wants depth
+
+-- The tokens with which this row goes on (own).
+abbrev pub targets_go : Row ExprTree → Token → Bool
+targets_go r = row_goes r.wants r.depth
+
+-- The rest of a row of targets (own).
+abbrev pub more_targets : Row ExprTree → G (Row ExprTree)
+more_targets r = iter targets_go (λ u. target_turn u.wants u.depth u) r
+
+-- targets = path | "[" targets { "," targets } "]", of any depth and on one level (own)
+unfoldable pub targets : G (List (Piece ExprTree))
+targets = bind (bind (target_turn true 0 fresh) more_targets) (λ r. row_end r.wants r.depth r)
+
+-- assignment = targets "=" expr ";" (own)
 unfoldable pub assignment : G StmtTree
-assignment = two (λ target value. assign target.expr value) path (after (the sign.Assign) (before expression (the sign.Semicolon)))
+assignment = two assign targets (after (the sign.Assign) (before expression (the sign.Semicolon)))
 
 -- stmt = conditional | block | ";" | print | assignment (own)
 unfoldable pub statement : G StmtTree

@@ -1,7 +1,7 @@
 -- The grammar of the small language as a table, with the proofs that it meets the conditions. Each is
 -- computed: production by production, and for the choices token by token.
 use Rattle.std.specs.Prelude.{◌≡◌, ℕ, zero, suc, Bool, true, false, ◌&&◌, ◌||◌, is_some, List, [], ◌∷◌, refl}
-use Rattle.vh_grammar.specs.Part.{two}
+use Rattle.vh_grammar.specs.Part.{Part, two}
 use Rattle.vh_grammar.specs.Conditions.{eats, Advances}
 use Rattle.vh_grammar.specs.Firsts.{behind, without_token, first, first_at}
 use Rattle.vh_grammar.specs.Choices.{Heeds}
@@ -9,9 +9,14 @@ use Rattle.vh_grammar.specs.Table.{Table}
 use Rattle.vh_grammar_demo.specs.declared.token.Sign.TheVariants as sign
 use Rattle.vh_grammar_demo.specs.declared.token.Kind.{Kind}
 use Rattle.vh_grammar_demo.specs.declared.token.Kind.TheVariants.{Number, Name, Fixed}
-use Rattle.vh_grammar_demo.specs.Token.{Token, is_goto, operator_at, begins_statement}
-use Rattle.vh_grammar_demo.specs.Trees.{PathTree, StmtTree, called}
-use Rattle.vh_grammar_demo.specs.Grammar.{Name as Production, expr, stmt, tree_of, grammar, dotted, bracketed, one_step, path, argument, operand, chain_at, expression, inner, otherwise, if_statement, statements, block_statement, slot, more_slots, arguments, print_statement, assignment, statement, goes_with, is_operator, link_with, listed_statement}
+use Rattle.vh_grammar_demo.specs.Token.{Token, is_sign, is_goto, name_of, begins_statement}
+use Rattle.vh_grammar.specs.Nest.{Piece, Row, fresh, goes_by, row_end}
+use Rattle.vh_grammar_demo.specs.Trees.{PathTree, ExprTree, StmtTree, called}
+use Rattle.vh_grammar_demo.specs.Grammar.{Name as Production, expr, stmt, tree_of, grammar, dotted, bracketed, one_step, path, argument, operand, chain_at, expression, inner, otherwise, if_statement, statements, block_statement, slot, more_slots, arguments, print_statement, target_turn, targets, assignment, statement, goes_with, is_operator, link_with, listed_statement}
+
+-- The end of a row of targets (own).
+abbrev the_end : Bool → ℕ → Row ExprTree → Part Token tree_of (List (Piece ExprTree))
+the_end wants depth r = row_end wants depth r
 
 -- Each production takes a token (own).
 or_left : (a b : Bool) → a ≡ true → (a || b) ≡ true
@@ -27,7 +32,7 @@ chain_eats zero = refl
 chain_eats (suc level) = or_left (eats (chain_at level)) false (chain_eats level)
 
 pub eating : (p : Production) → eats (grammar p) ≡ true
-unfolding expression statement if_statement block_statement print_statement assignment path
+unfolding expression statement if_statement block_statement print_statement assignment targets target_turn path
 eating expr = chain_eats 2
 eating stmt = refl
 
@@ -78,9 +83,24 @@ print_advances : Advances print_statement
 unfolding print_statement
 print_advances = (tt, (tt, ((arguments_advance, tt), (tt, tt))))
 
+pub targets_advance : (wants : Bool) (depth : ℕ) (r : Row ExprTree) → (eats (target_turn wants depth r) ≡ true) × Advances (target_turn wants depth r)
+unfolding target_turn path
+targets_advance true depth r = (refl, (tt, path_advances))
+targets_advance false zero r = (refl, tt)
+targets_advance false (suc depth) r = (refl, (tt, tt))
+
+row_advances : (wants : Bool) (depth : ℕ) (r : Row ExprTree) → Advances (the_end wants depth r)
+row_advances true depth r = tt
+row_advances false zero r = tt
+row_advances false (suc depth) r = tt
+
+all_targets_advance : Advances targets
+unfolding targets
+all_targets_advance = (((targets_advance true 0 fresh).1, λ s u. targets_advance u.wants u.depth u), λ r. row_advances r.wants r.depth r)
+
 assignment_advances : Advances assignment
 unfolding assignment
-assignment_advances = (path_advances, (tt, (expression_advances, tt)))
+assignment_advances = (all_targets_advance, (tt, (expression_advances, tt)))
 
 statement_advances : Advances statement
 unfolding statement
@@ -98,7 +118,7 @@ abbrev F : Production → Token → Bool
 F = first_at grammar 1
 
 pub settled : (p : Production) (t : Token) → first_at grammar 2 p t ≡ first_at grammar 1 p t
-unfolding expression chain_at operand path statement if_statement block_statement print_statement assignment
+unfolding expression chain_at operand path statement if_statement block_statement print_statement assignment targets target_turn
 settled expr t = refl
 settled stmt t = refl
 
@@ -168,7 +188,7 @@ unfolding if_statement inner expression chain_at operand path
 if_heeds t = (refl, tt, (refl, (refl, tt, (refl, expression_heeds t, tt)), (refl, tt, otherwise_heeds t.kind t.place)))
 
 statements_heed : (kind : Kind) (place : ℕ) → Heeds F statements (at kind place)
-unfolding statements statement if_statement block_statement print_statement assignment path
+unfolding statements statement if_statement block_statement print_statement assignment targets target_turn path
 statements_heed (Number n) place = (refl, (refl, tt, tt))
 statements_heed (Name n) place = (refl, (refl, tt, tt))
 statements_heed (Fixed sign.If) place = (refl, (refl, tt, tt))
@@ -176,7 +196,7 @@ statements_heed (Fixed _) place = (refl, (refl, tt, tt))
 
 -- What may be absent, and what stands behind it (own).
 block_heeds : (kind : Kind) (place : ℕ) → Heeds F block_statement (at kind place)
-unfolding block_statement statements statement if_statement print_statement assignment path
+unfolding block_statement statements statement if_statement print_statement assignment targets target_turn path
 block_heeds (Number n) place = (refl, tt, (refl, statements_heed (Number n) place, tt))
 block_heeds (Name n) place = (refl, tt, (refl, statements_heed (Name n) place, tt))
 block_heeds (Fixed sign.If) place = (refl, tt, (refl, statements_heed (Fixed sign.If) place, tt))
@@ -203,12 +223,35 @@ print_heeds (Name n) place = (refl, tt, (refl, tt, (refl, (refl, refl, arguments
 print_heeds (Fixed sign.Comma) place = (refl, tt, (refl, tt, (refl, (refl, refl, arguments_heed (Fixed sign.Comma) place, tt), (refl, tt, tt))))
 print_heeds (Fixed s) place = (refl, tt, (refl, tt, (refl, (refl, refl, arguments_heed (Fixed s) place, tt), (refl, tt, tt))))
 
+-- A row of targets, by what has to come (own).
+turn_heeds : (wants : Bool) (depth : ℕ) (r : Row ExprTree) (kind : Kind) (place : ℕ) →
+    (goes_by (is_sign sign.OpenBracket) (is_sign sign.Comma) (is_sign sign.CloseBracket) (λ t. is_some (name_of t.kind)) wants depth (at kind place) ≡ first F (target_turn wants depth r) (at kind place)) × Heeds F (target_turn wants depth r) (at kind place)
+unfolding target_turn path
+turn_heeds true depth r (Number n) place = (refl, (refl, refl, tt, path_heeds (at (Number n) place)))
+turn_heeds true depth r (Name n) place = (refl, (refl, refl, tt, path_heeds (at (Name n) place)))
+turn_heeds true depth r (Fixed sign.OpenBracket) place = (refl, (refl, refl, tt, path_heeds (at (Fixed sign.OpenBracket) place)))
+turn_heeds true depth r (Fixed s) place = (refl, (refl, refl, tt, path_heeds (at (Fixed s) place)))
+turn_heeds false zero r kind place = (refl, tt)
+turn_heeds false (suc depth) r (Number n) place = (refl, (refl, refl, tt, tt))
+turn_heeds false (suc depth) r (Name n) place = (refl, (refl, refl, tt, tt))
+turn_heeds false (suc depth) r (Fixed sign.Comma) place = (refl, (refl, refl, tt, tt))
+turn_heeds false (suc depth) r (Fixed _) place = (refl, (refl, refl, tt, tt))
+
+end_heeds : (wants : Bool) (depth : ℕ) (r : Row ExprTree) (t : Token) → Heeds F (the_end wants depth r) t
+end_heeds true depth r t = tt
+end_heeds false zero r t = tt
+end_heeds false (suc depth) r t = tt
+
+targets_heed : (t : Token) → Heeds F targets t
+unfolding targets target_turn path
+targets_heed t = (refl, (refl, (turn_heeds true 0 fresh t.kind t.place).1, λ s u. turn_heeds u.wants u.depth u t.kind t.place), λ r. end_heeds r.wants r.depth r t)
+
 assignment_heeds : (t : Token) → Heeds F assignment t
-unfolding assignment expression chain_at operand path
-assignment_heeds t = (refl, path_heeds t, (refl, tt, (refl, expression_heeds t, tt)))
+unfolding assignment targets target_turn expression chain_at operand path
+assignment_heeds t = (refl, targets_heed t, (refl, tt, (refl, expression_heeds t, tt)))
 
 statement_heeds : (kind : Kind) (place : ℕ) → Heeds F statement (at kind place)
-unfolding statement if_statement block_statement print_statement assignment path
+unfolding statement if_statement block_statement print_statement assignment targets target_turn path
 statement_heeds (Number n) place = (refl, refl, if_heeds (at (Number n) place), (refl, refl, block_heeds (Number n) place, (refl, refl, tt, (refl, refl, print_heeds (Number n) place, assignment_heeds (at (Number n) place)))))
 statement_heeds (Name n) place = (refl, refl, if_heeds (at (Name n) place), (refl, refl, block_heeds (Name n) place, (refl, refl, tt, (refl, refl, print_heeds (Name n) place, assignment_heeds (at (Name n) place)))))
 statement_heeds (Fixed sign.If) place = (refl, refl, if_heeds (at (Fixed sign.If) place), (refl, refl, block_heeds (Fixed sign.If) place, (refl, refl, tt, (refl, refl, print_heeds (Fixed sign.If) place, assignment_heeds (at (Fixed sign.If) place)))))

@@ -90,7 +90,7 @@ begins_expression (Fixed other) = number other == number sign.Open
 abbrev pub begins_statement : Kind → Bool
 begins_statement (Number n) = false
 begins_statement (Name n) = true
-begins_statement (Fixed other) = is_fixed sign.If (Fixed other) || (is_fixed sign.OpenBrace (Fixed other) || (is_fixed sign.Semicolon (Fixed other) || is_fixed sign.Print (Fixed other)))
+begins_statement (Fixed other) = is_fixed sign.If (Fixed other) || (is_fixed sign.OpenBrace (Fixed other) || (is_fixed sign.OpenBracket (Fixed other) || (is_fixed sign.Semicolon (Fixed other) || is_fixed sign.Print (Fixed other))))
 
 -- The token is of the class (own).
 abbrev pub is_class : Class → Token → Bool

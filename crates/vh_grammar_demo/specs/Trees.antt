@@ -1,5 +1,6 @@
 -- The trees of the small language, as the grammar gives them.
 use Rattle.std.specs.Prelude.{ℕ, Bool, true, false, List, [], ◌∷◌, ◌++◌, Option, Some, None}
+use Rattle.vh_grammar.specs.Nest.{Piece}
 use Rattle.vh_grammar_demo.specs.declared.token.Operator.{Operator}
 
 -- An expression, and expressions in a row (own).
@@ -26,7 +27,7 @@ pub record PathTree : Type 0 where
 mutual
   pub data StmtTree : Type 0 where
     empty : StmtTree
-    assign : ExprTree → ExprTree → StmtTree
+    assign : List (Piece ExprTree) → ExprTree → StmtTree
     conditional : ExprTree → Stmts → StmtTree
     block : Stmts → StmtTree
     print : List (Option ExprTree) → StmtTree

@@ -2,6 +2,8 @@
 use Rattle.std.specs.Prelude.{ℕ, List, map, option_map, Option, Vec, Result}
 use Rattle.vh_grammar.specs.declared.cursor.Cursor.{Cursor}
 use Rattle.vh_grammar.specs.declared.stop.Stop.{Stop}
+use Rattle.vh_grammar.specs.Nest
+use Rattle.vh_grammar.specs.Nest.{Piece, opened, item, closed}
 use Rattle.vh_grammar.specs.Reading.{Out}
 use Rattle.vh_grammar.specs.Says.{Says}
 use Rattle.vh_grammar_demo.specs.declared.token.Token.{Token as Held}
@@ -10,6 +12,9 @@ use Rattle.vh_grammar_demo.specs.declared.tree.Expr.TheOpen as e
 use Rattle.vh_grammar_demo.specs.declared.token.Operator.{Operator}
 use Rattle.vh_grammar_demo.specs.declared.tree.Path.{Path}
 use Rattle.vh_grammar_demo.specs.declared.tree.Links.{Links}
+use Rattle.vh_grammar_demo.specs.declared.tree.Target.{Target}
+use Rattle.vh_grammar_demo.specs.declared.tree.Target.TheVariants as targets
+use Rattle.vh_grammar_demo.specs.declared.tree.Row.{Row}
 use Rattle.vh_grammar_demo.specs.declared.tree.Stmt.{Stmt, fold-Stmt}
 use Rattle.vh_grammar_demo.specs.declared.tree.Stmt.TheOpen as s
 use Rattle.vh_grammar_demo.specs.Token.{Token, token_seen}
@@ -49,10 +54,24 @@ links_tree l = (l.operators.items, map expr_tree l.operands.items)
 abbrev pub slot_trees : {A : Type 0} → Vec (Option Expr) A → List (Option ExprTree)
 slot_trees arguments = map (option_map expr_tree) arguments.items
 
+-- What stands in a row of targets of the code (own).
+abbrev pub piece_tree : Target → Piece ExprTree
+piece_tree targets.Opened = opened
+piece_tree (targets.Place e) = item (expr_tree e)
+piece_tree targets.Closed = closed
+
+-- A row of targets of the code (own).
+abbrev pub row_tree : Row → Nest.Row ExprTree
+row_tree r = record { depth = r.open; wants = r.wants; pieces = map piece_tree r.pieces.items }
+
+-- A row of targets that is whole (own).
+abbrev pub piece_trees : {A : Type 0} → Vec Target A → List (Piece ExprTree)
+piece_trees pieces = map piece_tree pieces.items
+
 -- One layer of a statement of the code (own).
 abbrev pub stmt_layer : s.Stmt-F StmtTree → StmtTree
 stmt_layer s.Empty = empty
-stmt_layer (s.Assign target value) = assign (expr_tree target) (expr_tree value)
+stmt_layer (s.Assign target value) = assign (piece_trees target) (expr_tree value)
 stmt_layer (s.If e parts) = conditional (expr_tree e) (stmts parts.items)
 stmt_layer (s.Block parts) = block (stmts parts.items)
 stmt_layer (s.Print arguments) = print (slot_trees arguments)

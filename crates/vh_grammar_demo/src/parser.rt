@@ -1,6 +1,6 @@
 //! The parser: a function for each production, which ensures one equation with the reading of its part.
 
-ghost use Rattle.std.specs.Prelude.{◌≡◌, suc, option_map, IfOk};
+ghost use Rattle.std.specs.Prelude.{◌≡◌, ◌<◌, ◌-◌, suc, option_map, IfOk};
 ghost use Rattle.vh_grammar.specs.Part.{act, opt, nested};
 ghost use Rattle.vh_grammar.specs.Reading.{next_is};
 ghost use Rattle.vh_grammar.specs.Marking.{mark_at};
@@ -8,12 +8,12 @@ ghost use Rattle.vh_grammar.specs.Table.{source, IsSource};
 ghost use Rattle.vh_grammar.specs.Says.{Accepts};
 ghost use Rattle.vh_grammar_demo.specs.Table.{arithmetic};
 ghost use Rattle.vh_grammar_demo.specs.Trees.{all_of};
-ghost use Rattle.vh_grammar_demo.specs.Views.{Reads, tokens_seen, expr_tree, path_tree, link_tree, links_tree, slot_trees, stmt_tree, stmt_trees};
-ghost use Rattle.vh_grammar_demo.specs.Grammar.{a_number, a_name, an_operator, goes_with, is_loop, begins_arguments, next_slot, path_start, steps, dotted, bracketed, one_step, path, argument, operand, chain_at, link_with, links_with, expression, inner, otherwise, if_statement, listed_statement, statements, block_statement, slot, more_slots, arguments, print_statement, assignment, statement, expr, stmt};
+ghost use Rattle.vh_grammar_demo.specs.Views.{Reads, tokens_seen, expr_tree, path_tree, link_tree, links_tree, slot_trees, row_tree, piece_trees, stmt_tree, stmt_trees};
+ghost use Rattle.vh_grammar_demo.specs.Grammar.{a_number, a_name, an_operator, goes_with, is_loop, begins_arguments, next_slot, path_start, steps, dotted, bracketed, one_step, path, argument, operand, chain_at, link_with, links_with, expression, inner, otherwise, if_statement, listed_statement, statements, block_statement, slot, more_slots, arguments, print_statement, wanted_turn, behind_turn, target_turn, row_goes, more_targets, targets, assignment, statement, expr, stmt};
 
 use crate::Arithmetic;
 use crate::token::{Class, Kind, Operator, Sign, Token, operator_of};
-use crate::tree::{Expr, Links, Path, Stmt};
+use crate::tree::{Expr, Links, Path, Row, Stmt, Target};
 use std::alloc::Global;
 use vh_grammar::{Cursor, Stop, exact};
 
@@ -103,8 +103,7 @@ fn step<'t, 'a>(
 fn continues(indexed: bool, at: At<'_, '_>) -> bool
     ensures { result ≡ next_is (goes_with indexed) (tokens_seen at.entry.tokens.now) }
 {
-    at.next_is(Class::Is(Sign::Dot))
-        || (!indexed && at.next_is(Class::Is(Sign::OpenBracket)))
+    at.next_is(Class::Is(Sign::Dot)) || (!indexed && at.next_is(Class::Is(Sign::OpenBracket)))
 }
 
 // The first name of a path.
@@ -534,20 +533,132 @@ fn print<'t, 'a>(alloc: Global, depth: usize, at: At<'t, 'a>) -> Result<(Stmt, A
     Ok((Stmt::Print(all), rest))
 }
 
-// An assignment.
-#[tactic(auto, unfolding(crate::specs::Grammar::assignment))]
-fn assigned<'t, 'a>(
+// A target, or an opening bracket.
+fn wanted_target<'t, 'a>(
+    alloc: Global,
+    depth: usize,
+    mut row: Row,
+    at: At<'t, 'a>,
+) -> Result<(Row, At<'t, 'a>), Stop>
+    ensures { Reads row_tree depth (wanted_turn (row_tree row)) at.entry result }
+{
+    if at.next_is(Class::Is(Sign::OpenBracket)) {
+        let rest = at.take(Class::Is(Sign::OpenBracket))?;
+        let Some(open) = row.open.checked_add(1) else {
+            return Err(Stop::Memory);
+        };
+        row.pieces.push(Target::Opened)?;
+        row.open = open;
+        row.wants = true;
+        return Ok((row, rest));
+    }
+    let (path, rest) = path(alloc, depth, at)?;
+    row.pieces.push(Target::Place(path.expr))?;
+    row.wants = false;
+    Ok((row, rest))
+}
+
+// A comma, or a closing bracket.
+fn behind_target<'t, 'a>(
+    depth: usize,
+    mut row: Row,
+    at: At<'t, 'a>,
+) -> Result<(Row, At<'t, 'a>), Stop>
+    requires { 0 < row.open }
+    ensures { Reads row_tree depth (behind_turn (row.open - 1) (row_tree row)) at.entry result }
+{
+    if at.next_is(Class::Is(Sign::Comma)) {
+        let rest = at.take(Class::Is(Sign::Comma))?;
+        row.wants = true;
+        return Ok((row, rest));
+    }
+    let rest = at.take(Class::Is(Sign::CloseBracket))?;
+    row.pieces.push(Target::Closed)?;
+    row.open -= 1;
+    row.wants = false;
+    Ok((row, rest))
+}
+
+// What comes next in a row of targets.
+#[tactic(auto, unfolding(crate::specs::Grammar::target_turn))]
+fn target_turn<'t, 'a>(
+    alloc: Global,
+    depth: usize,
+    row: Row,
+    at: At<'t, 'a>,
+) -> Result<(Row, At<'t, 'a>), Stop>
+    ensures { Reads row_tree depth (target_turn row.wants row.open (row_tree row)) at.entry result }
+{
+    if row.wants {
+        return wanted_target(alloc, depth, row, at);
+    }
+    if row.open == 0 {
+        return Err(at.lost());
+    }
+    behind_target(depth, row, at)
+}
+
+// Whether a row of targets goes on.
+fn targets_go(wants: bool, depth: usize, at: At<'_, '_>) -> bool
+    ensures { result ≡ next_is (row_goes wants depth) (tokens_seen at.entry.tokens.now) }
+{
+    if wants {
+        return at.next_is(Class::Is(Sign::OpenBracket)) || at.next_is(Class::Name);
+    }
+    depth > 0 && (at.next_is(Class::Is(Sign::Comma)) || at.next_is(Class::Is(Sign::CloseBracket)))
+}
+
+// The rest of a row of targets.
+fn more_targets<'t, 'a>(
+    alloc: Global,
+    depth: usize,
+    first: Row,
+    at: At<'t, 'a>,
+) -> Result<(Row, At<'t, 'a>), Stop>
+    ensures { Reads row_tree depth (more_targets (row_tree first)) at.entry result }
+{
+    let mut row = first;
+    let mut rest = at;
+    'targets: while targets_go(row.wants, row.open, rest) {
+        let (longer, behind) = target_turn(alloc, depth, row, rest)?;
+        row = longer;
+        rest = behind;
+    }
+    Ok((row, rest))
+}
+
+// Targets, in brackets of any depth, on one level.
+#[tactic(auto, unfolding(crate::specs::Grammar::targets))]
+fn targets<'t, 'a>(
     alloc: Global,
     depth: usize,
     at: At<'t, 'a>,
-) -> Result<(Stmt, At<'t, 'a>), Stop>
+) -> Result<(Vec<Target>, At<'t, 'a>), Stop>
+    ensures { Reads piece_trees depth targets at.entry result }
+{
+    let fresh = Row {
+        open: 0,
+        wants: true,
+        pieces: Vec::new(alloc),
+    };
+    let (first, more) = target_turn(alloc, depth, fresh, at)?;
+    let (row, rest) = more_targets(alloc, depth, first, more)?;
+    if row.wants || row.open > 0 {
+        return Err(rest.lost());
+    }
+    Ok((row.pieces, rest))
+}
+
+// An assignment.
+#[tactic(auto, unfolding(crate::specs::Grammar::assignment))]
+fn assigned<'t, 'a>(alloc: Global, depth: usize, at: At<'t, 'a>) -> Result<(Stmt, At<'t, 'a>), Stop>
     ensures { Reads stmt_tree depth assignment at.entry result }
 {
-    let (target, sign) = path(alloc, depth, at)?;
+    let (targets, sign) = targets(alloc, depth, at)?;
     let behind = sign.take(Class::Is(Sign::Assign))?;
     let (value, end) = expression(alloc, depth, behind)?;
     let rest = end.take(Class::Is(Sign::Semicolon))?;
-    Ok((Stmt::Assign(target.expr, value), rest))
+    Ok((Stmt::Assign(targets, value), rest))
 }
 
 // A statement.

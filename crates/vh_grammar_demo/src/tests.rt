@@ -56,7 +56,7 @@ fn answer(alloc: Global, levels: usize, text: &str) -> Result<usize, Stop> {
     Ok(all_read(alloc, levels, text)?.len())
 }
 
-static ROWS: [(usize, &str, Result<usize, Stop>); 55] = [
+static ROWS: [(usize, &str, Result<usize, Stop>); 61] = [
     (3, "", Ok(0)),
     (3, "a=1;", Ok(1)),
     (3, "a=1;;b=a;", Ok(3)),
@@ -72,6 +72,13 @@ static ROWS: [(usize, &str, Result<usize, Stop>); 55] = [
     (3, "P(,a,);", Ok(1)),
     (3, "P(ab);", Err(Stop::Lost(3))),
     (3, "P(,", Err(Stop::Lost(0))),
+    // targets in brackets of any depth, which take no level
+    (3, "[a,b.c]=1;", Ok(1)),
+    (1, "[a,[b,[[c]]],d]=e;", Ok(1)),
+    (3, "[]=1;", Err(Stop::Lost(4))),
+    (3, "[a]]=1;", Err(Stop::Lost(4))),
+    (3, "[a,", Err(Stop::Lost(0))),
+    (3, "[a,f(1)]=2;", Err(Stop::LeftOut(8))),
     // no token that could stand there, and a missing one
     (3, "a", Err(Stop::Lost(0))),
     (3, "a=1", Err(Stop::Lost(0))),
@@ -136,10 +143,9 @@ fn answers(rt: HostRuntime) {
 fn trees(rt: HostRuntime) -> Result<(), Stop> {
     let all = all_read(rt.alloc(), 3, "a=1+2*3-b;")?;
     let found = match all.as_slice() {
-        [
-            Stmt::Assign(Expr::Name(0, _), Expr::Chain(first, operators, operands)),
-        ] => {
-            matches!(**first, Expr::Number(2, 1))
+        [Stmt::Assign(targets, Expr::Chain(first, operators, operands))] => {
+            matches!(targets.as_slice(), [Target::Place(Expr::Name(0, _))])
+                && matches!(**first, Expr::Number(2, 1))
                 && matches!(operators.as_slice(), [Operator::Add, Operator::Subtract])
                 && matches!(operands.as_slice(), [Expr::Chain(..), Expr::Name(8, _)])
         }

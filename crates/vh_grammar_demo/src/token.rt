@@ -98,8 +98,11 @@ impl<'a> vh_grammar::Token for Token<'a> {
     type Class = Class;
 
     ghost Seen = { Token };
+
     ghost seen = { token_seen };
+
     ghost word = { is_goto };
+
     ghost has = { is_class };
 
     fn is(&self, class: Class) -> bool {
@@ -119,6 +122,7 @@ impl<'a> vh_grammar::Token for Token<'a> {
                 Kind::Fixed(_) => {
                     is(*self.kind, Sign::If)
                         || is(*self.kind, Sign::OpenBrace)
+                        || is(*self.kind, Sign::OpenBracket)
                         || is(*self.kind, Sign::Semicolon)
                         || is(*self.kind, Sign::Print)
                 }

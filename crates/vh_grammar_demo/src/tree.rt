@@ -28,11 +28,27 @@ pub struct Path {
     pub indexed: bool,
 }
 
+/// What stands in a row of targets, which may stand in brackets of any depth.
+#[derive(Drop)]
+pub enum Target {
+    Opened,
+    Place(Expr),
+    Closed,
+}
+
+/// How far a row of targets has come: how many brackets are open, and whether a target has to come.
+#[derive(Drop)]
+pub struct Row {
+    pub open: usize,
+    pub wants: bool,
+    pub pieces: Vec<Target>,
+}
+
 /// A statement.
 #[derive(Drop)]
 pub enum Stmt {
     Empty,
-    Assign(Expr, Expr),
+    Assign(Vec<Target>, Expr),
     If(Expr, Vec<Stmt>),
     Block(Vec<Stmt>),
     /// What is printed, where an argument may be absent.
