@@ -1,5 +1,5 @@
 -- A turn of each loop of the parser.
-use Rattle.std.proofs.Common.{◌≡◌, ℕ, ◌<◌, true, false, List, [], ◌∷◌, ◌++◌, length, Option, refl, sym, ap, ap₂, ◌∙◌, arith, append_assoc}
+use Rattle.std.proofs.Common.{◌≡◌, ℕ, ◌<◌, Bool, true, false, List, [], ◌∷◌, ◌++◌, length, Option, refl, sym, ap, ap₂, ◌∙◌, arith, append_assoc}
 use Rattle.std.proofs.lemmas.List.{length-map}
 use Rattle.vh_grammar_demo.specs.declared.token.Token.{Token as Held}
 use Rattle.vh_grammar_demo.specs.Views.{tokens_seen}
@@ -12,8 +12,8 @@ use Rattle.vh_grammar_demo.specs.declared.token.Operator.{Operator}
 use Rattle.vh_grammar_demo.specs.declared.token.Sign.TheVariants as sign
 use Rattle.vh_grammar_demo.specs.Token.{Token, token_seen, is_sign, is_goto, begins_statement}
 use Rattle.vh_grammar_demo.specs.Trees.{PathTree, ExprTree, StmtTree}
-use Rattle.vh_grammar_demo.specs.Grammar.{G, grammar, reads, steps, one_step, goes_on, halves, is_operator, link_with, links_with, chain_at, links_joined, listed_statement, statements, next_slot, more_slots, target_turn, targets_go, more_targets}
-use Rattle.vh_grammar_demo.specs.Table.{eating, advancing, steps_advance, chain_advances, slot_advances, targets_advance}
+use Rattle.vh_grammar_demo.specs.Grammar.{G, grammar, reads, steps, one_step, goes_on, halves, is_operator, link_with, links_with, chain_at, links_joined, listed_statement, statements, next_slot, more_slots, next_declared, more_declared, target_turn, targets_go, more_targets}
+use Rattle.vh_grammar_demo.specs.Table.{eating, advancing, steps_advance, chain_advances, slot_advances, next_advances, targets_advance}
 
 -- a path goes on by a step
 pub step_turn : (depth : ℕ) (p q : PathTree) (ts mid : List Token) (m k : ℕ) → next_is (goes_on p) ts ≡ true → reads depth (one_step p.indexed p) ts m ≡ got (q, k) mid → reads depth (steps p) ts m ≡ reads depth (steps q) mid k
@@ -66,3 +66,11 @@ target_row_turn depth r u ts mid m k c e = iter_marks_turn is_goto grammar eatin
 
 pub target_row_less : (depth : ℕ) (r : Row ExprTree) (u : Row ExprTree × ℕ) (ts mid : List Token) (m : ℕ) → reads depth (target_turn r.wants r.depth r) ts m ≡ got u mid → length mid < length ts
 target_row_less depth r u ts mid m e = marks_less is_goto grammar eating advancing depth (target_turn r.wants r.depth r) (targets_advance r.wants r.depth r).1 (targets_advance r.wants r.depth r).0 ts m u mid e
+
+-- a list of declared names goes on by one
+pub declared_turn : (depth : ℕ) (front : List (Bool × ℕ)) (d : Bool × ℕ) (ts mid : List Token) (m k : ℕ) → next_is (is_sign sign.Comma) ts ≡ true → reads depth next_declared ts m ≡ got (d, k) mid →
+    joined_marks front (reads depth more_declared ts m) ≡ joined_marks (front ++ d ∷ []) (reads depth more_declared mid k)
+declared_turn depth front d ts mid m k c r = joined_marks_turn is_goto grammar eating advancing depth (is_sign sign.Comma) next_declared next_advances.1 next_advances.0 front ts m d k mid c r
+
+pub declared_less : (depth : ℕ) (d : (Bool × ℕ) × ℕ) (ts mid : List Token) (m : ℕ) → reads depth next_declared ts m ≡ got d mid → length mid < length ts
+declared_less depth d ts mid m r = marks_less is_goto grammar eating advancing depth next_declared next_advances.1 next_advances.0 ts m d mid r

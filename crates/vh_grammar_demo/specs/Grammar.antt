@@ -8,7 +8,7 @@ use Rattle.vh_grammar_demo.specs.declared.token.Sign.{Sign}
 use Rattle.vh_grammar_demo.specs.declared.token.Sign.TheVariants as sign
 use Rattle.vh_grammar_demo.specs.declared.token.Operator.{Operator}
 use Rattle.vh_grammar_demo.specs.Token.{Token, is_sign, is_goto, number_of, name_of, operator_at, begins_expression, begins_statement}
-use Rattle.vh_grammar_demo.specs.Trees.{PathTree, with_name, with_index, called, ExprTree, number, name, StmtTree, empty, assign, conditional, block, print, stmts, chained, branches, all_of}
+use Rattle.vh_grammar_demo.specs.Trees.{PathTree, with_name, with_index, called, ExprTree, number, name, StmtTree, empty, assign, conditional, block, print, declare, stmts, chained, branches, all_of}
 
 -- The productions that are nested (own).
 pub data Name : Type 0 where
@@ -177,6 +177,29 @@ print_statement =
     (before (act print (act all_of (opt begins_arguments arguments)))
     (seq (the sign.Close) (the sign.Semicolon))))
 
+-- A name that opens a group: "ref" NAME; and one that goes on with the last group (own).
+unfoldable pub head : G (Bool × ℕ)
+head = act (λ n. (true, n)) (after (the sign.Ref) a_name)
+
+unfoldable pub member : G (Bool × ℕ)
+member = act (λ n. (false, n)) a_name
+
+-- "," ( "ref" NAME | NAME ): the token behind the comma chooses (own)
+abbrev pub next_declared : G (Bool × ℕ)
+next_declared = after (the sign.Comma) (alt (is_sign sign.Ref) head member)
+
+-- { "," ( "ref" NAME | NAME ) } (own)
+abbrev pub more_declared : G (List (Bool × ℕ))
+more_declared = rep (is_sign sign.Comma) next_declared
+
+-- names = "ref" NAME { "," ( "ref" NAME | NAME ) } (own)
+unfoldable pub names : G (List (Bool × ℕ))
+names = two (λ first more. first ∷ more) head more_declared
+
+-- declaration = "var" names ";" (own)
+unfoldable pub declaration : G StmtTree
+declaration = after (the sign.Var) (before (act declare names) (the sign.Semicolon))
+
 -- A path as a target (own).
 abbrev pub target : G ExprTree
 target = act (λ p. p.expr) path
@@ -212,13 +235,14 @@ targets = bind (bind (target_turn true 0 fresh) more_targets) (λ r. row_end r.w
 unfoldable pub assignment : G StmtTree
 assignment = two assign targets (after (the sign.Assign) (before expression (the sign.Semicolon)))
 
--- stmt = conditional | block | ";" | print | assignment (own)
+-- stmt = conditional | block | ";" | print | declaration | assignment (own)
 unfoldable pub statement : G StmtTree
 statement =
     alt (is_sign sign.If) if_statement
     (alt (is_sign sign.OpenBrace) block_statement
     (alt (is_sign sign.Semicolon) (act (λ _. empty) (the sign.Semicolon))
-    (alt (is_sign sign.Print) print_statement assignment)))
+    (alt (is_sign sign.Print) print_statement
+    (alt (is_sign sign.Var) declaration assignment))))
 
 -- The table (own).
 abbrev pub grammar : (p : Name) → G (tree_of p)

@@ -12,7 +12,7 @@ use Rattle.vh_grammar_demo.specs.declared.token.Kind.TheVariants.{Number, Name, 
 use Rattle.vh_grammar_demo.specs.Token.{Token, is_sign, is_goto, name_of, begins_statement}
 use Rattle.vh_grammar.specs.Nest.{Piece, Row, fresh, goes_by, row_end}
 use Rattle.vh_grammar_demo.specs.Trees.{PathTree, ExprTree, StmtTree, called}
-use Rattle.vh_grammar_demo.specs.Grammar.{Name as Production, expr, stmt, tree_of, grammar, dotted, bracketed, one_step, path, argument, operand, chain_at, expression, inner, otherwise, if_statement, statements, block_statement, slot, more_slots, arguments, print_statement, target_turn, targets, assignment, statement, goes_with, is_operator, link_with, listed_statement}
+use Rattle.vh_grammar_demo.specs.Grammar.{Name as Production, expr, stmt, tree_of, grammar, dotted, bracketed, one_step, path, argument, operand, chain_at, expression, inner, otherwise, if_statement, statements, block_statement, slot, more_slots, arguments, print_statement, head, member, next_declared, more_declared, names, declaration, target_turn, targets, assignment, statement, goes_with, is_operator, link_with, listed_statement}
 
 -- The end of a row of targets (own).
 abbrev the_end : Bool → ℕ → Row ExprTree → Part Token tree_of (List (Piece ExprTree))
@@ -32,7 +32,7 @@ chain_eats zero = refl
 chain_eats (suc level) = or_left (eats (chain_at level)) false (chain_eats level)
 
 pub eating : (p : Production) → eats (grammar p) ≡ true
-unfolding expression statement if_statement block_statement print_statement assignment targets target_turn path
+unfolding expression statement if_statement block_statement print_statement declaration assignment targets target_turn path
 eating expr = chain_eats 2
 eating stmt = refl
 
@@ -102,9 +102,21 @@ assignment_advances : Advances assignment
 unfolding assignment
 assignment_advances = (all_targets_advance, (tt, (expression_advances, tt)))
 
+head_advances : Advances head
+unfolding head
+head_advances = (tt, tt)
+
+pub next_advances : (eats next_declared ≡ true) × Advances next_declared
+unfolding head member
+next_advances = (refl, (tt, ((tt, tt), tt)))
+
+declaration_advances : Advances declaration
+unfolding declaration names
+declaration_advances = (tt, ((head_advances, next_advances), tt))
+
 statement_advances : Advances statement
 unfolding statement
-statement_advances = (if_advances, (block_advances, (tt, (print_advances, assignment_advances))))
+statement_advances = (if_advances, (block_advances, (tt, (print_advances, (declaration_advances, assignment_advances)))))
 
 pub advancing : (p : Production) → Advances (grammar p)
 advancing expr = expression_advances
@@ -118,7 +130,7 @@ abbrev F : Production → Token → Bool
 F = first_at grammar 1
 
 pub settled : (p : Production) (t : Token) → first_at grammar 2 p t ≡ first_at grammar 1 p t
-unfolding expression chain_at operand path statement if_statement block_statement print_statement assignment targets target_turn
+unfolding expression chain_at operand path statement if_statement block_statement print_statement declaration assignment targets target_turn
 settled expr t = refl
 settled stmt t = refl
 
@@ -188,7 +200,7 @@ unfolding if_statement inner expression chain_at operand path
 if_heeds t = (refl, tt, (refl, (refl, tt, (refl, expression_heeds t, tt)), (refl, tt, otherwise_heeds t.kind t.place)))
 
 statements_heed : (kind : Kind) (place : ℕ) → Heeds F statements (at kind place)
-unfolding statements statement if_statement block_statement print_statement assignment targets target_turn path
+unfolding statements statement if_statement block_statement print_statement declaration assignment targets target_turn path
 statements_heed (Number n) place = (refl, (refl, tt, tt))
 statements_heed (Name n) place = (refl, (refl, tt, tt))
 statements_heed (Fixed sign.If) place = (refl, (refl, tt, tt))
@@ -196,7 +208,7 @@ statements_heed (Fixed _) place = (refl, (refl, tt, tt))
 
 -- What may be absent, and what stands behind it (own).
 block_heeds : (kind : Kind) (place : ℕ) → Heeds F block_statement (at kind place)
-unfolding block_statement statements statement if_statement print_statement assignment targets target_turn path
+unfolding block_statement statements statement if_statement print_statement declaration assignment targets target_turn path
 block_heeds (Number n) place = (refl, tt, (refl, statements_heed (Number n) place, tt))
 block_heeds (Name n) place = (refl, tt, (refl, statements_heed (Name n) place, tt))
 block_heeds (Fixed sign.If) place = (refl, tt, (refl, statements_heed (Fixed sign.If) place, tt))
@@ -250,12 +262,29 @@ assignment_heeds : (t : Token) → Heeds F assignment t
 unfolding assignment targets target_turn expression chain_at operand path
 assignment_heeds t = (refl, targets_heed t, (refl, tt, (refl, expression_heeds t, tt)))
 
+next_heeds : (kind : Kind) (place : ℕ) → Heeds F next_declared (at kind place)
+unfolding head member
+next_heeds (Number n) place = (refl, tt, (refl, refl, (refl, tt, tt), tt))
+next_heeds (Name n) place = (refl, tt, (refl, refl, (refl, tt, tt), tt))
+next_heeds (Fixed sign.Ref) place = (refl, tt, (refl, refl, (refl, tt, tt), tt))
+next_heeds (Fixed _) place = (refl, tt, (refl, refl, (refl, tt, tt), tt))
+
+more_heeds : (kind : Kind) (place : ℕ) → Heeds F more_declared (at kind place)
+more_heeds (Number n) place = (refl, next_heeds (Number n) place)
+more_heeds (Name n) place = (refl, next_heeds (Name n) place)
+more_heeds (Fixed sign.Comma) place = (refl, next_heeds (Fixed sign.Comma) place)
+more_heeds (Fixed s) place = (refl, next_heeds (Fixed s) place)
+
+declaration_heeds : (t : Token) → Heeds F declaration t
+unfolding declaration names head
+declaration_heeds t = (refl, tt, (refl, (refl, (refl, tt, tt), more_heeds t.kind t.place), tt))
+
 statement_heeds : (kind : Kind) (place : ℕ) → Heeds F statement (at kind place)
-unfolding statement if_statement block_statement print_statement assignment targets target_turn path
-statement_heeds (Number n) place = (refl, refl, if_heeds (at (Number n) place), (refl, refl, block_heeds (Number n) place, (refl, refl, tt, (refl, refl, print_heeds (Number n) place, assignment_heeds (at (Number n) place)))))
-statement_heeds (Name n) place = (refl, refl, if_heeds (at (Name n) place), (refl, refl, block_heeds (Name n) place, (refl, refl, tt, (refl, refl, print_heeds (Name n) place, assignment_heeds (at (Name n) place)))))
-statement_heeds (Fixed sign.If) place = (refl, refl, if_heeds (at (Fixed sign.If) place), (refl, refl, block_heeds (Fixed sign.If) place, (refl, refl, tt, (refl, refl, print_heeds (Fixed sign.If) place, assignment_heeds (at (Fixed sign.If) place)))))
-statement_heeds (Fixed s) place = (refl, refl, if_heeds (at (Fixed s) place), (refl, refl, block_heeds (Fixed s) place, (refl, refl, tt, (refl, refl, print_heeds (Fixed s) place, assignment_heeds (at (Fixed s) place)))))
+unfolding statement if_statement block_statement print_statement declaration assignment targets target_turn path
+statement_heeds (Number n) place = (refl, refl, if_heeds (at (Number n) place), (refl, refl, block_heeds (Number n) place, (refl, refl, tt, (refl, refl, print_heeds (Number n) place, (refl, refl, declaration_heeds (at (Number n) place), assignment_heeds (at (Number n) place))))))
+statement_heeds (Name n) place = (refl, refl, if_heeds (at (Name n) place), (refl, refl, block_heeds (Name n) place, (refl, refl, tt, (refl, refl, print_heeds (Name n) place, (refl, refl, declaration_heeds (at (Name n) place), assignment_heeds (at (Name n) place))))))
+statement_heeds (Fixed sign.If) place = (refl, refl, if_heeds (at (Fixed sign.If) place), (refl, refl, block_heeds (Fixed sign.If) place, (refl, refl, tt, (refl, refl, print_heeds (Fixed sign.If) place, (refl, refl, declaration_heeds (at (Fixed sign.If) place), assignment_heeds (at (Fixed sign.If) place))))))
+statement_heeds (Fixed s) place = (refl, refl, if_heeds (at (Fixed s) place), (refl, refl, block_heeds (Fixed s) place, (refl, refl, tt, (refl, refl, print_heeds (Fixed s) place, (refl, refl, declaration_heeds (at (Fixed s) place), assignment_heeds (at (Fixed s) place))))))
 
 pub heeding : (p : Production) (t : Token) → Heeds F (grammar p) t
 heeding expr t = expression_heeds t

@@ -37,8 +37,10 @@ number sign.Semicolon = 12
 number sign.If = 13
 number sign.Else = 14
 number sign.Print = 15
-number sign.While = 16
-number sign.Goto = 17
+number sign.Var = 16
+number sign.Ref = 17
+number sign.While = 18
+number sign.Goto = 19
 
 -- The kind is this sign (own).
 abbrev pub is_fixed : Sign → Kind → Bool
@@ -90,7 +92,7 @@ begins_expression (Fixed other) = number other == number sign.Open
 abbrev pub begins_statement : Kind → Bool
 begins_statement (Number n) = false
 begins_statement (Name n) = true
-begins_statement (Fixed other) = is_fixed sign.If (Fixed other) || (is_fixed sign.OpenBrace (Fixed other) || (is_fixed sign.OpenBracket (Fixed other) || (is_fixed sign.Semicolon (Fixed other) || is_fixed sign.Print (Fixed other))))
+begins_statement (Fixed other) = is_fixed sign.If (Fixed other) || (is_fixed sign.OpenBrace (Fixed other) || (is_fixed sign.OpenBracket (Fixed other) || (is_fixed sign.Semicolon (Fixed other) || (is_fixed sign.Print (Fixed other) || is_fixed sign.Var (Fixed other)))))
 
 -- The token is of the class (own).
 abbrev pub is_class : Class → Token → Bool

@@ -31,6 +31,7 @@ mutual
     conditional : ExprTree → Stmts → StmtTree
     block : Stmts → StmtTree
     print : List (Option ExprTree) → StmtTree
+    declare : List (Bool × ℕ) → StmtTree
 
   pub data Stmts : Type 0 where
     no_stmt : Stmts

@@ -1,5 +1,5 @@
 -- How contracts see what the code holds: tokens and trees without pointers.
-use Rattle.std.specs.Prelude.{ℕ, List, map, option_map, Option, Vec, Result}
+use Rattle.std.specs.Prelude.{ℕ, Bool, List, map, option_map, Option, Vec, Result}
 use Rattle.vh_grammar.specs.declared.cursor.Cursor.{Cursor}
 use Rattle.vh_grammar.specs.declared.stop.Stop.{Stop}
 use Rattle.vh_grammar.specs.Nest
@@ -11,6 +11,7 @@ use Rattle.vh_grammar_demo.specs.declared.tree.Expr.{Expr, fold-Expr}
 use Rattle.vh_grammar_demo.specs.declared.tree.Expr.TheOpen as e
 use Rattle.vh_grammar_demo.specs.declared.token.Operator.{Operator}
 use Rattle.vh_grammar_demo.specs.declared.tree.Path.{Path}
+use Rattle.vh_grammar_demo.specs.declared.tree.Declared.{Declared}
 use Rattle.vh_grammar_demo.specs.declared.tree.Links.{Links}
 use Rattle.vh_grammar_demo.specs.declared.tree.Target.{Target}
 use Rattle.vh_grammar_demo.specs.declared.tree.Target.TheVariants as targets
@@ -18,7 +19,7 @@ use Rattle.vh_grammar_demo.specs.declared.tree.Row.{Row}
 use Rattle.vh_grammar_demo.specs.declared.tree.Stmt.{Stmt, fold-Stmt}
 use Rattle.vh_grammar_demo.specs.declared.tree.Stmt.TheOpen as s
 use Rattle.vh_grammar_demo.specs.Token.{Token, token_seen}
-use Rattle.vh_grammar_demo.specs.Trees.{PathTree, ExprTree, number, name, member, index, call, chain, StmtTree, empty, assign, conditional, block, print, exprs, stmts}
+use Rattle.vh_grammar_demo.specs.Trees.{PathTree, ExprTree, number, name, member, index, call, chain, StmtTree, empty, assign, conditional, block, print, declare, exprs, stmts}
 use Rattle.vh_grammar_demo.specs.Grammar.{G, reads}
 
 -- Tokens of the code (own).
@@ -68,6 +69,13 @@ row_tree r = record { depth = r.open; wants = r.wants; pieces = map piece_tree r
 abbrev pub piece_trees : {A : Type 0} → Vec Target A → List (Piece ExprTree)
 piece_trees pieces = map piece_tree pieces.items
 
+-- Declared names, each with whether a group begins with it (own).
+abbrev pub declared_tree : Declared → Bool × ℕ
+declared_tree d = (d.opens, d.name)
+
+abbrev pub declared_trees : {A : Type 0} → Vec Declared A → List (Bool × ℕ)
+declared_trees all = map declared_tree all.items
+
 -- One layer of a statement of the code (own).
 abbrev pub stmt_layer : s.Stmt-F StmtTree → StmtTree
 stmt_layer s.Empty = empty
@@ -75,6 +83,7 @@ stmt_layer (s.Assign target value) = assign (piece_trees target) (expr_tree valu
 stmt_layer (s.If e parts) = conditional (expr_tree e) (stmts parts.items)
 stmt_layer (s.Block parts) = block (stmts parts.items)
 stmt_layer (s.Print arguments) = print (slot_trees arguments)
+stmt_layer (s.Declare all) = declare (declared_trees all)
 
 -- A statement of the code (own).
 abbrev pub stmt_tree : Stmt → StmtTree

@@ -17,7 +17,7 @@ mod tree;
 
 pub use parser::read;
 pub use token::{Class, Kind, Operator, Sign, Token};
-pub use tree::{Expr, Links, Path, Row, Stmt, Target};
+pub use tree::{Declared, Expr, Links, Path, Row, Stmt, Target};
 
 /// The small language.
 pub struct Arithmetic;

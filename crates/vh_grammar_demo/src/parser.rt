@@ -8,12 +8,12 @@ ghost use Rattle.vh_grammar.specs.Table.{source, IsSource};
 ghost use Rattle.vh_grammar.specs.Says.{Accepts};
 ghost use Rattle.vh_grammar_demo.specs.Table.{arithmetic};
 ghost use Rattle.vh_grammar_demo.specs.Trees.{all_of};
-ghost use Rattle.vh_grammar_demo.specs.Views.{Reads, tokens_seen, expr_tree, path_tree, link_tree, links_tree, slot_trees, row_tree, piece_trees, stmt_tree, stmt_trees};
-ghost use Rattle.vh_grammar_demo.specs.Grammar.{a_number, a_name, an_operator, goes_with, is_loop, begins_arguments, next_slot, path_start, steps, dotted, bracketed, one_step, path, argument, operand, chain_at, link_with, links_with, expression, inner, otherwise, if_statement, listed_statement, statements, block_statement, slot, more_slots, arguments, print_statement, wanted_turn, behind_turn, target_turn, row_goes, more_targets, targets, assignment, statement, expr, stmt};
+ghost use Rattle.vh_grammar_demo.specs.Views.{Reads, tokens_seen, expr_tree, path_tree, link_tree, links_tree, slot_trees, declared_tree, declared_trees, row_tree, piece_trees, stmt_tree, stmt_trees};
+ghost use Rattle.vh_grammar_demo.specs.Grammar.{a_number, a_name, an_operator, goes_with, is_loop, begins_arguments, next_slot, path_start, steps, dotted, bracketed, one_step, path, argument, operand, chain_at, link_with, links_with, expression, inner, otherwise, if_statement, listed_statement, statements, block_statement, slot, more_slots, arguments, print_statement, head, member, next_declared, names, declaration, wanted_turn, behind_turn, target_turn, row_goes, more_targets, targets, assignment, statement, expr, stmt};
 
 use crate::Arithmetic;
 use crate::token::{Class, Kind, Operator, Sign, Token, operator_of};
-use crate::tree::{Expr, Links, Path, Row, Stmt, Target};
+use crate::tree::{Declared, Expr, Links, Path, Row, Stmt, Target};
 use std::alloc::Global;
 use vh_grammar::{Cursor, Stop, exact};
 
@@ -533,6 +533,71 @@ fn print<'t, 'a>(alloc: Global, depth: usize, at: At<'t, 'a>) -> Result<(Stmt, A
     Ok((Stmt::Print(all), rest))
 }
 
+// A name that opens a group.
+#[tactic(auto, unfolding(crate::specs::Grammar::head))]
+fn head<'t, 'a>(depth: usize, at: At<'t, 'a>) -> Result<(Declared, At<'t, 'a>), Stop>
+    ensures { Reads declared_tree depth head at.entry result }
+{
+    let named = at.take(Class::Is(Sign::Ref))?;
+    let (name, rest) = name(named)?;
+    Ok((Declared { opens: true, name }, rest))
+}
+
+// A name that goes on with the last group.
+#[tactic(auto, unfolding(crate::specs::Grammar::member))]
+fn member<'t, 'a>(depth: usize, at: At<'t, 'a>) -> Result<(Declared, At<'t, 'a>), Stop>
+    ensures { Reads declared_tree depth member at.entry result }
+{
+    let (name, rest) = name(at)?;
+    Ok((Declared { opens: false, name }, rest))
+}
+
+// A further declared name.
+fn next_declared<'t, 'a>(depth: usize, at: At<'t, 'a>) -> Result<(Declared, At<'t, 'a>), Stop>
+    ensures { Reads declared_tree depth next_declared at.entry result }
+{
+    let behind = at.take(Class::Is(Sign::Comma))?;
+    if behind.next_is(Class::Is(Sign::Ref)) {
+        return head(depth, behind);
+    }
+    member(depth, behind)
+}
+
+// Declared names.
+#[tactic(auto, unfolding(crate::specs::Grammar::names))]
+fn names<'t, 'a>(
+    alloc: Global,
+    depth: usize,
+    at: At<'t, 'a>,
+) -> Result<(Vec<Declared>, At<'t, 'a>), Stop>
+    ensures { Reads declared_trees depth names at.entry result }
+{
+    let mut all = Vec::new(alloc);
+    let (first, mut rest) = head(depth, at)?;
+    all.push(first)?;
+    'all: while rest.next_is(Class::Is(Sign::Comma)) {
+        let (next, behind) = next_declared(depth, rest)?;
+        all.push(next)?;
+        rest = behind;
+    }
+    Ok((all, rest))
+}
+
+// A declaration.
+#[tactic(auto, unfolding(crate::specs::Grammar::declaration))]
+fn declaration<'t, 'a>(
+    alloc: Global,
+    depth: usize,
+    at: At<'t, 'a>,
+) -> Result<(Stmt, At<'t, 'a>), Stop>
+    ensures { Reads stmt_tree depth declaration at.entry result }
+{
+    let named = at.take(Class::Is(Sign::Var))?;
+    let (all, end) = names(alloc, depth, named)?;
+    let rest = end.take(Class::Is(Sign::Semicolon))?;
+    Ok((Stmt::Declare(all), rest))
+}
+
 // A target, or an opening bracket.
 fn wanted_target<'t, 'a>(
     alloc: Global,
@@ -683,6 +748,9 @@ fn statement<'t, 'a>(
     }
     if at.next_is(Class::Is(Sign::Print)) {
         return print(alloc, depth, at);
+    }
+    if at.next_is(Class::Is(Sign::Var)) {
+        return declaration(alloc, depth, at);
     }
     assigned(alloc, depth, at)
 }

@@ -4,7 +4,7 @@ use super::*;
 use std::alloc::{AllocError, Global};
 use vh_grammar::Stop;
 
-// A byte as a token: `I`, `E`, `P`, `W` and `G` are the words.
+// A byte as a token: `I`, `E`, `P`, `V`, `R`, `W` and `G` are the words.
 fn kind_of(byte: u8) -> Option<Kind> {
     let kind = match byte {
         b'0'..=b'9' => Kind::Number(u32::from(byte - b'0')),
@@ -25,6 +25,8 @@ fn kind_of(byte: u8) -> Option<Kind> {
         b'I' => Kind::Fixed(Sign::If),
         b'E' => Kind::Fixed(Sign::Else),
         b'P' => Kind::Fixed(Sign::Print),
+        b'V' => Kind::Fixed(Sign::Var),
+        b'R' => Kind::Fixed(Sign::Ref),
         b'W' => Kind::Fixed(Sign::While),
         b'G' => Kind::Fixed(Sign::Goto),
         _ => return None,
@@ -56,7 +58,7 @@ fn answer(alloc: Global, levels: usize, text: &str) -> Result<usize, Stop> {
     Ok(all_read(alloc, levels, text)?.len())
 }
 
-static ROWS: [(usize, &str, Result<usize, Stop>); 61] = [
+static ROWS: [(usize, &str, Result<usize, Stop>); 64] = [
     (3, "", Ok(0)),
     (3, "a=1;", Ok(1)),
     (3, "a=1;;b=a;", Ok(3)),
@@ -72,6 +74,10 @@ static ROWS: [(usize, &str, Result<usize, Stop>); 61] = [
     (3, "P(,a,);", Ok(1)),
     (3, "P(ab);", Err(Stop::Lost(3))),
     (3, "P(,", Err(Stop::Lost(0))),
+    // groups, where the token behind the comma chooses
+    (3, "VRa,b,Rc,d;", Ok(1)),
+    (3, "Va;", Err(Stop::Lost(2))),
+    (3, "VRa,;", Err(Stop::Lost(1))),
     // targets in brackets of any depth, which take no level
     (3, "[a,b.c]=1;", Ok(1)),
     (1, "[a,[b,[[c]]],d]=e;", Ok(1)),

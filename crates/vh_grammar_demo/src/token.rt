@@ -23,6 +23,8 @@ pub enum Sign {
     If,
     Else,
     Print,
+    Var,
+    Ref,
     While,
     Goto,
 }
@@ -125,6 +127,7 @@ impl<'a> vh_grammar::Token for Token<'a> {
                         || is(*self.kind, Sign::OpenBracket)
                         || is(*self.kind, Sign::Semicolon)
                         || is(*self.kind, Sign::Print)
+                        || is(*self.kind, Sign::Var)
                 }
             },
         }

@@ -44,6 +44,13 @@ pub struct Row {
     pub pieces: Vec<Target>,
 }
 
+/// A declared name, and whether a group begins with it.
+#[derive(Clone, Copy, Debug, PartialEq, Eq)]
+pub struct Declared {
+    pub opens: bool,
+    pub name: u32,
+}
+
 /// A statement.
 #[derive(Drop)]
 pub enum Stmt {
@@ -53,4 +60,5 @@ pub enum Stmt {
     Block(Vec<Stmt>),
     /// What is printed, where an argument may be absent.
     Print(Vec<Option<Expr>>),
+    Declare(Vec<Declared>),
 }
