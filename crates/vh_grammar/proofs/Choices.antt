@@ -1,8 +1,8 @@
 -- Where each choice is made right at each token, the classes add nothing to the grammar: they are the
 -- first tokens of what is chosen, and without them the same tokens are spelled and begun.
-use Rattle.std.proofs.Common.{◌≡◌, ℕ, zero, suc, ◌+◌, ◌<◌, ◌≤◌, Bool, true, false, ◌&&◌, List, [], ◌∷◌, length, ◌⊎◌, inl, inr, ◌↔◌, refl, sym, ap, ◌∙◌, arith}
+use Rattle.std.proofs.Common.{◌≡◌, ℕ, zero, suc, ◌+◌, ◌<◌, ◌≤◌, Bool, true, false, List, [], ◌∷◌, length, ◌⊎◌, inl, inr, ◌↔◌, refl, sym, ap, ◌∙◌, arith}
 use Rattle.vh_grammar.specs.Part.{Part, done, tok, seq, bind, act, alt, rep, iter, nested, unless, barred}
-use Rattle.vh_grammar.specs.Reading.{got, next_is, reader, read}
+use Rattle.vh_grammar.specs.Reading.{got, next_is}
 use Rattle.vh_grammar.specs.Firsts.{without_token, first, first_at}
 use Rattle.vh_grammar.specs.Sentences.{Repeats, AfterTurns, ReadsAt, BeginsAt}
 use Rattle.vh_grammar.specs.Conditions.{eats, Advances}
@@ -10,7 +10,7 @@ use Rattle.vh_grammar.specs.Language.{Spells, Opens, SpellsAt, OpensAt}
 use Rattle.vh_grammar.specs.Choices.{Heeds, IsFirst, ChoosesByFirsts}
 use Rattle.vh_grammar.proofs.Size.{weight, Sized}
 use Rattle.vh_grammar.proofs.Parts.{On, Begun, size-part, tree-part, begins-none}
-use Rattle.vh_grammar.proofs.FirstsLemmas.{and-second, next-same, at-reach, Takes, reads-takes, begins-first, first-begins, production-takes, production-first, production-begins}
+use Rattle.vh_grammar.proofs.FirstsLemmas.{and-second, next-same, Takes, reads-takes, begins-first, first-begins, production-takes, production-first, production-begins}
 
 repeats-map : {T A : Type 0} (I J : A → List T → List T → Type 0) (E F : List T → Type 0) → ((a : A) (m r : List T) → I a m r → J a m r) → ((m : List T) → E m → F m) → (list : List A) (ts rest : List T) → Repeats I E list ts rest → Repeats J F list ts rest
 repeats-map I J E F f g [] ts rest h = (h.0, g ts h.1)

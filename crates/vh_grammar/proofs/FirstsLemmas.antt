@@ -1,12 +1,12 @@
 -- The first sets are the tokens with which a part begins, and a part that takes none is known.
 use Rattle.std.proofs.Common.{◌≡◌, ℕ, zero, suc, ◌+◌, ◌<◌, ◌≤◌, Bool, true, false, ◌&&◌, ◌||◌, is_some, Option, Some, None, option_map, List, [], ◌∷◌, length, ◌⊎◌, inl, inr, refl, sym, ap, ◌∙◌, arith, add_comm, suc-add, zero-add}
 use Rattle.vh_grammar.specs.Part.{Part, done, tok, seq, bind, act, alt, rep, iter, nested, unless, barred}
-use Rattle.vh_grammar.specs.Reading.{Out, got, next_is, run, reader}
+use Rattle.vh_grammar.specs.Reading.{next_is}
 use Rattle.vh_grammar.specs.Firsts.{behind, both, decided, without_token, first, first_at}
 use Rattle.vh_grammar.specs.Sentences.{Repeats, AfterTurns, Reads, Begins, ReadsAt, BeginsAt}
 use Rattle.vh_grammar.specs.Conditions.{eats, Advances}
 use Rattle.vh_grammar.specs.Choices.{Heeds}
-use Rattle.vh_grammar.proofs.Size.{weight, Sized, size-reader}
+use Rattle.vh_grammar.proofs.Size.{size-reader}
 use Rattle.vh_grammar.proofs.Outcomes.{one, reader-tree}
 
 pub or-left : (a b : Bool) → a ≡ true → (a || b) ≡ true

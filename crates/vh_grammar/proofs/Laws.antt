@@ -1,21 +1,21 @@
 -- The laws of reading: what is known of each production and of a whole source.
 use Rattle.std.proofs.Common.{◌≡◌, ℕ, zero, suc, ◌+◌, ◌<◌, ◌≤◌, Bool, true, false, List, [], ◌∷◌, ◌++◌, length, ◌⊎◌, inl, inr, ◌↔◌, refl, sym, ap, ◌∙◌, arith, length-append, append_assoc, append-nil, suc-add, zero-add}
 use Rattle.vh_grammar.specs.Part.{Part, done, tok, seq, bind, act, alt, rep, iter, nested, unless, barred}
-use Rattle.vh_grammar.specs.Reading.{Fault, lost, deep, left_out, Out, got, stop, then_, next_is, past_levels, run, reader, read, whole}
-use Rattle.vh_grammar.specs.Marking.{mark_at, refusal, refused, marked_past, marked, marked_at, marks, unmarked, answered, answered_whole}
+use Rattle.vh_grammar.specs.Reading.{Fault, lost, deep, left_out, Out, got, stop, next_is, past_levels, reader, read, whole}
+use Rattle.vh_grammar.specs.Marking.{mark_at, refusal, marked_past, marked_at, marks, answered, answered_whole}
 use Rattle.vh_grammar.specs.Sentences.{Repeats, AfterTurns, ShowsHere, Reads, Meets, MeetsPast, Shows, ReadsAt, MeetsAt, ShowsAt}
 use Rattle.vh_grammar.specs.Conditions.{eats, Advances}
 use Rattle.vh_grammar.specs.Firsts.{first_at}
 use Rattle.vh_grammar.specs.Language.{SpellsAt, OpensAt}
-use Rattle.vh_grammar.specs.Table.{Table, Subject, production, whole_source, IsLeft}
+use Rattle.vh_grammar.specs.Table.{Table, production, whole_source, IsLeft}
 use Rattle.vh_grammar.specs.Laws.{LawsOfProductions, LawsOfSources, ClassesAreFirsts, SpellsWithoutClasses, BeginsWithoutClasses}
-use Rattle.vh_grammar.proofs.Size.{weight, Sized, size-less, size-run, size-reader}
+use Rattle.vh_grammar.proofs.Size.{weight, Sized, size-less, size-reader}
 use Rattle.vh_grammar.proofs.Outcomes.{Says_of, reader-sound, reader-tree, reader-fault}
 use Rattle.vh_grammar.proofs.Places.{Late, Cut, cut-reader}
 use Rattle.vh_grammar.proofs.Starts.{Ended, reader-begins, reader-ended}
 use Rattle.vh_grammar.proofs.Levels.{Below, none-lost, reader-below}
-use Rattle.vh_grammar.proofs.Parts.{On, Met, Begun, size-part, cut-part, tree-part, fault-part, sound-part, begins-part, ended-part, below-part}
-use Rattle.vh_grammar.proofs.MarkingLemmas.{attached, Peak, peak-at, peak-map, peak-then, Judged, refusal-then, run-judged, reader-judged, Same, same-of, run-same}
+use Rattle.vh_grammar.proofs.Parts.{On, Met, size-part, cut-part, tree-part, fault-part, sound-part, begins-part, ended-part, below-part}
+use Rattle.vh_grammar.proofs.MarkingLemmas.{attached, Peak, peak-at, peak-map, peak-then, Judged, run-judged, reader-judged, Same, same-of, run-same}
 use Rattle.vh_grammar.proofs.ShownLemmas.{Behind, Inside, inside-here, inside-mid, inside-next, here-down, here-up, got-cut, run-inside, run-behind, run-front, run-down, run-up, reader-inside, reader-behind, reader-front, reader-down, reader-up}
 use Rattle.vh_grammar.proofs.Subjects.{Pure, Facts, laws}
 use Rattle.vh_grammar.proofs.Choices.{chooses, to-reads, from-reads, to-begins, from-begins, spells-reads, reads-spells, opens-begins, begins-opens}

@@ -1,12 +1,12 @@
 -- A repetition turn by turn, with its marks, for the loops of a parser: what one turn and the end make of
 -- the reading.
-use Rattle.std.proofs.Common.{◌≡◌, if◌then◌else◌, ℕ, zero, suc, ◌+◌, ◌<◌, ◌≤◌, Bool, true, false, List, [], ◌∷◌, ◌++◌, length, refl, sym, ap, ◌∙◌, arith, append_assoc, append-nil}
+use Rattle.std.proofs.Common.{◌≡◌, if◌then◌else◌, ℕ, zero, suc, ◌+◌, ◌<◌, ◌≤◌, Bool, true, false, List, [], ◌∷◌, ◌++◌, length, refl, sym, ap, ◌∙◌, arith, append_assoc}
 use Rattle.vh_grammar.specs.Part.{Part, rep, iter}
-use Rattle.vh_grammar.specs.Reading.{Fault, Out, got, stop, then_, next_is, turns, reader, read}
-use Rattle.vh_grammar.specs.Marking.{refusal, marked_many, marked, marked_at, marks, joined_marks}
+use Rattle.vh_grammar.specs.Reading.{Out, got, stop, then_, next_is, turns, reader, read}
+use Rattle.vh_grammar.specs.Marking.{marked_many, marked_at, marks, joined_marks}
 use Rattle.vh_grammar.specs.Conditions.{eats, Advances}
 use Rattle.vh_grammar.specs.Sentences.{ReadsAt, MeetsAt, ShowsAt, Shows}
-use Rattle.vh_grammar.proofs.Size.{Sized, size-run, size-reader}
+use Rattle.vh_grammar.proofs.Size.{size-run, size-reader}
 use Rattle.vh_grammar.proofs.Outcomes.{reader-sound, reader-tree}
 use Rattle.vh_grammar.proofs.MarkingLemmas.{attached, Judged, run-judged, reader-judged}
 

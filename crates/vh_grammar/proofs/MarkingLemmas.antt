@@ -1,12 +1,12 @@
 -- What is answered is the reading of the pure grammar, with the first place of what is shown to be left
 -- out as its mark.
-use Rattle.std.proofs.Common.{◌≡◌, if◌then◌else◌, ℕ, zero, suc, ◌<◌, ◌≤◌, max, Bool, true, false, cond, Option, Some, None, List, [], ◌∷◌, length, ◌⊎◌, inl, inr, refl, sym, ap, ◌∙◌, arith}
+use Rattle.std.proofs.Common.{◌≡◌, if◌then◌else◌, ℕ, zero, suc, ◌≤◌, max, Bool, true, false, cond, Option, Some, None, List, [], ◌∷◌, length, ◌⊎◌, inl, inr, refl, sym, ap, ◌∙◌, arith}
 use Rattle.std.proofs.Math.Nat.{le-max_left, le-max_right, max-eq_left, max-eq_right}
 use Rattle.std.proofs.lemmas.Bool.Decides.{leb_tells}
 use Rattle.vh_grammar.specs.Part.{Part, done, tok, seq, bind, act, alt, rep, iter, nested, unless, barred}
 use Rattle.vh_grammar.specs.Reading.{Fault, lost, deep, left_out, Out, got, stop, then_, next_is, taken, token_of, past_levels, many, turns, run, reader}
-use Rattle.vh_grammar.specs.Marking.{with_mark, mark_at, refusal, refused, taken_from, marked_token, marked_past, marked_many, marked, marked_at}
-use Rattle.vh_grammar.specs.Sentences.{AfterTurns, NoToken, ShowsHere, Reads, Meets, Shows, ReadsAt, MeetsAt, ShowsAt}
+use Rattle.vh_grammar.specs.Marking.{mark_at, refusal, taken_from, marked_token, marked_past, marked_many, marked, marked_at}
+use Rattle.vh_grammar.specs.Sentences.{AfterTurns, ShowsHere, Reads, Shows, ReadsAt, MeetsAt, ShowsAt}
 use Rattle.vh_grammar.specs.Conditions.{eats, Advances}
 use Rattle.vh_grammar.proofs.Size.{Sized, size-run, size-reader}
 use Rattle.vh_grammar.proofs.Outcomes.{Says_of, one, shorter_mid, run-sound, run-tree, reader-sound, reader-tree}

@@ -1,9 +1,9 @@
 -- When what is shown to be left out counts: the tokens before the one that shows it begin the part, and
 -- those behind it don't matter.
-use Rattle.std.proofs.Common.{◌≡◌, ℕ, zero, suc, ◌+◌, ◌<◌, ◌≤◌, Bool, true, false, cond, Option, Some, None, List, [], ◌∷◌, ◌++◌, length, ◌⊎◌, inl, inr, refl, sym, ap, ◌∙◌, arith, length-append}
+use Rattle.std.proofs.Common.{◌≡◌, ℕ, zero, suc, ◌+◌, ◌<◌, ◌≤◌, Bool, true, Option, List, [], ◌∷◌, ◌++◌, length, inl, inr, refl, sym, ap, ◌∙◌, arith, length-append}
 use Rattle.vh_grammar.specs.Part.{Part, done, tok, seq, bind, act, alt, rep, iter, nested, unless, barred}
-use Rattle.vh_grammar.specs.Reading.{Fault, lost, deep, left_out, Out, got, stop, then_, next_is, taken, token_of, past_levels, many, turns, run, reader}
-use Rattle.vh_grammar.specs.Sentences.{AfterTurns, NoToken, ShowsHere, Reads, Meets, Shows, ReadsAt, MeetsAt, ShowsAt}
+use Rattle.vh_grammar.specs.Reading.{Fault, lost, deep, left_out, Out, got, stop, then_, next_is, token_of, past_levels, many, turns, run, reader}
+use Rattle.vh_grammar.specs.Sentences.{AfterTurns, NoToken, ShowsHere, Reads, Shows, ReadsAt, MeetsAt, ShowsAt}
 use Rattle.vh_grammar.specs.Conditions.{eats, Advances}
 use Rattle.vh_grammar.proofs.Size.{weight, Sized, size-less, size-many, size-turns, size-run, size-past, size-reader}
 use Rattle.vh_grammar.proofs.Outcomes.{Says_of, one, shorter_mid, run-sound, run-tree, reader-sound, reader-tree}

@@ -1,7 +1,7 @@
 -- The laws of anything that tokens can be read as, from what is known of its reading in the pure grammar.
-use Rattle.std.proofs.Common.{◌≡◌, ℕ, zero, suc, ◌+◌, ◌-◌, ◌<◌, ◌≤◌, Bool, true, false, Option, Some, None, List, [], ◌∷◌, ◌++◌, length, take, drop, ◌⊎◌, inl, inr, ◌↔◌, refl, sym, ap, ◌∙◌, arith, length-append, append_assoc, append-nil, take-append-drop, length-drop, add_comm}
+use Rattle.std.proofs.Common.{◌≡◌, ℕ, zero, suc, ◌+◌, ◌-◌, ◌<◌, ◌≤◌, List, [], ◌∷◌, ◌++◌, length, take, drop, ◌⊎◌, inl, inr, ◌↔◌, refl, sym, ap, ◌∙◌, arith, length-append, append_assoc, take-append-drop, length-drop, add_comm}
 use Rattle.vh_grammar.specs.Reading.{Fault, lost, deep, left_out, Out, got, stop}
-use Rattle.vh_grammar.specs.Marking.{refusal, unmarked, answered}
+use Rattle.vh_grammar.specs.Marking.{answered}
 use Rattle.vh_grammar.specs.Table.{Subject}
 use Rattle.vh_grammar.specs.Laws.{NoneLeftOut, IsFirstLeftOut, Answers, Front, RefusesFirst, CountsFirst, Laws}
 use Rattle.vh_grammar.proofs.Size.{Sized}

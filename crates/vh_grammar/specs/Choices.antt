@@ -1,5 +1,5 @@
 -- The classes by which a table makes its choices: what is asked of them, token by token, and what they are.
-use Rattle.std.specs.Prelude.{◌≡◌, ℕ, Bool, true, false, ◌&&◌, List, [], ◌∷◌, ◌↔◌}
+use Rattle.std.specs.Prelude.{◌≡◌, ℕ, Bool, true, false, ◌&&◌, [], ◌∷◌, ◌↔◌}
 use Rattle.vh_grammar.specs.Part.{Part, done, tok, seq, bind, act, alt, rep, iter, nested, unless, barred}
 use Rattle.vh_grammar.specs.Firsts.{behind, without_token, first}
 use Rattle.vh_grammar.specs.Sentences.{Begins, ReadsAt, BeginsAt}

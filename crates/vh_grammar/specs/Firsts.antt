@@ -1,5 +1,5 @@
 -- The first sets of a grammar: with which tokens a part begins, computed by cases on parts.
-use Rattle.std.specs.Prelude.{ℕ, zero, suc, Bool, false, ◌&&◌, ◌||◌, is_some, Option, Some, None, option_map, List, []}
+use Rattle.std.specs.Prelude.{ℕ, zero, suc, Bool, false, ◌||◌, is_some, Option, Some, None, option_map, []}
 use Rattle.vh_grammar.specs.Part.{Part, done, tok, seq, bind, act, alt, rep, iter, nested, unless, barred}
 
 -- what is asked of a tree, if there is one (own)

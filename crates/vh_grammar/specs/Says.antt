@@ -1,5 +1,5 @@
 -- What a parser's function ensures: one equation with the reading of its part.
-use Rattle.std.specs.Prelude.{◌≡◌, ℕ, map, List, [], Result, Ok, Err}
+use Rattle.std.specs.Prelude.{◌≡◌, ℕ, map, [], Result, Ok, Err}
 use Rattle.vh_grammar.specs.declared.stop.Stop.{Stop}
 use Rattle.vh_grammar.specs.declared.stop.Stop.TheVariants.{Lost, Deep, LeftOut, Memory}
 use Rattle.vh_grammar.specs.declared.cursor.Cursor.{Cursor}

@@ -1,5 +1,5 @@
 -- A turn of each loop of the parser.
-use Rattle.std.proofs.Common.{◌≡◌, ℕ, ◌<◌, Bool, true, false, List, [], ◌∷◌, ◌++◌, length, Option, refl, sym, ap, ap₂, ◌∙◌, arith, append_assoc}
+use Rattle.std.proofs.Common.{◌≡◌, ℕ, ◌<◌, Bool, true, List, [], ◌∷◌, ◌++◌, length, Option, refl, sym, ap, ap₂, ◌∙◌, arith, append_assoc}
 use Rattle.std.proofs.lemmas.List.{length-map}
 use Rattle.vh_grammar_demo.specs.declared.token.Token.{Token as Held}
 use Rattle.vh_grammar_demo.specs.Views.{tokens_seen}
@@ -12,7 +12,7 @@ use Rattle.vh_grammar_demo.specs.declared.token.Operator.{Operator}
 use Rattle.vh_grammar_demo.specs.declared.token.Sign.TheVariants as sign
 use Rattle.vh_grammar_demo.specs.Token.{Token, token_seen, is_sign, is_goto, begins_statement}
 use Rattle.vh_grammar_demo.specs.Trees.{PathTree, ExprTree, StmtTree}
-use Rattle.vh_grammar_demo.specs.Grammar.{G, grammar, reads, steps, one_step, goes_on, halves, is_operator, link_with, links_with, chain_at, links_joined, listed_statement, statements, next_slot, more_slots, next_declared, more_declared, target_turn, targets_go, more_targets}
+use Rattle.vh_grammar_demo.specs.Grammar.{G, grammar, reads, steps, one_step, goes_on, halves, is_operator, link_with, links_with, chain_at, links_joined, listed_statement, next_slot, more_slots, next_declared, more_declared, target_turn, targets_go, more_targets}
 use Rattle.vh_grammar_demo.specs.Table.{eating, advancing, steps_advance, chain_advances, slot_advances, next_advances, targets_advance}
 
 -- a path goes on by a step

@@ -1,5 +1,5 @@
 -- The grammar of the small language.
-use Rattle.std.specs.Prelude.{ℕ, zero, suc, Bool, true, false, not, ◌&&◌, ◌||◌, is_some, List, [], ◌∷◌, ◌++◌, map, Option, Some, None}
+use Rattle.std.specs.Prelude.{ℕ, zero, suc, Bool, true, false, not, ◌&&◌, ◌||◌, is_some, List, ◌∷◌, ◌++◌, map, Option, Some, None}
 use Rattle.vh_grammar.specs.Part.{Part, done, tok, seq, bind, act, alt, rep, iter, nested, unless, barred, only, opt, two, after, before, listed, rep_unless}
 use Rattle.vh_grammar.specs.Nest.{Piece, Row, fresh, turn_by, goes_by, row_end}
 use Rattle.vh_grammar.specs.Reading.{Out, got, then_}

@@ -1,18 +1,18 @@
 -- The grammar of the small language as a table, with the proofs that it meets the conditions. Each is
 -- computed: production by production, and for the choices token by token.
-use Rattle.std.specs.Prelude.{◌≡◌, ℕ, zero, suc, Bool, true, false, ◌&&◌, ◌||◌, is_some, List, [], ◌∷◌, refl}
+use Rattle.std.specs.Prelude.{◌≡◌, ℕ, zero, suc, Bool, true, false, ◌||◌, is_some, List, refl}
 use Rattle.vh_grammar.specs.Part.{Part, two}
 use Rattle.vh_grammar.specs.Conditions.{eats, Advances}
-use Rattle.vh_grammar.specs.Firsts.{behind, without_token, first, first_at}
+use Rattle.vh_grammar.specs.Firsts.{first, first_at}
 use Rattle.vh_grammar.specs.Choices.{Heeds}
 use Rattle.vh_grammar.specs.Table.{Table}
 use Rattle.vh_grammar_demo.specs.declared.token.Sign.TheVariants as sign
 use Rattle.vh_grammar_demo.specs.declared.token.Kind.{Kind}
 use Rattle.vh_grammar_demo.specs.declared.token.Kind.TheVariants.{Number, Name, Fixed}
-use Rattle.vh_grammar_demo.specs.Token.{Token, is_sign, is_goto, name_of, begins_statement}
+use Rattle.vh_grammar_demo.specs.Token.{Token, is_sign, is_goto, name_of}
 use Rattle.vh_grammar.specs.Nest.{Piece, Row, fresh, goes_by, row_end}
 use Rattle.vh_grammar_demo.specs.Trees.{PathTree, ExprTree, StmtTree, called}
-use Rattle.vh_grammar_demo.specs.Grammar.{Name as Production, expr, stmt, tree_of, grammar, dotted, bracketed, one_step, path, argument, operand, chain_at, expression, inner, otherwise, if_statement, statements, block_statement, slot, more_slots, arguments, print_statement, head, member, next_declared, more_declared, names, declaration, target_turn, targets, assignment, statement, goes_with, is_operator, link_with, listed_statement}
+use Rattle.vh_grammar_demo.specs.Grammar.{Name as Production, expr, stmt, tree_of, grammar, dotted, bracketed, one_step, path, argument, operand, chain_at, expression, inner, otherwise, if_statement, statements, block_statement, slot, arguments, print_statement, head, member, next_declared, more_declared, names, declaration, target_turn, targets, assignment, statement, goes_with, is_operator, link_with}
 
 -- The end of a row of targets (own).
 abbrev the_end : Bool → ℕ → Row ExprTree → Part Token tree_of (List (Piece ExprTree))

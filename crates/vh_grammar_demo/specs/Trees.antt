@@ -1,5 +1,5 @@
 -- The trees of the small language, as the grammar gives them.
-use Rattle.std.specs.Prelude.{ℕ, Bool, true, false, List, [], ◌∷◌, ◌++◌, Option, Some, None}
+use Rattle.std.specs.Prelude.{ℕ, Bool, true, false, List, [], ◌∷◌, Option, Some, None}
 use Rattle.vh_grammar.specs.Nest.{Piece}
 use Rattle.vh_grammar_demo.specs.declared.token.Operator.{Operator}
 
