@@ -2,13 +2,14 @@
 //! token, which may carry its place, and in the names of the productions.
 //!
 //! What it is for stands in `specs/`: the parts that productions are written with (`Part`), the one total
-//! function that reads them (`Reading`), what reading means, by cases on parts (`Sentences`), the language
-//! without the classes of its choices (`Language`), and what a table has to meet (`Conditions`, `Choices`,
-//! `Table`).
+//! function that reads them (`Reading`), with a mark of what is left out (`Marking`), what reading means, by
+//! cases on parts (`Sentences`), the language without the classes of its choices (`Language`), and what a
+//! table has to meet (`Conditions`, `Choices`, `Table`). The README says how a grammar is written.
 //!
-//! The contract that the crates above use is that of [`exact`]: for each table, reading gives a tree
-//! exactly where the tokens spell it, and a fault exactly at the first token that the grammar refuses. A
-//! parser's functions each ensure one equation with the reading of their part (`Says`, `Passes`), and so
+//! The contract that the crates above use is that of [`exact`]: for each table, each production and a
+//! whole source, reading gives a tree exactly where the tokens spell it, a fault exactly at the first token
+//! that the grammar refuses, and what is left out exactly where it is shown before one. A parser's functions
+//! read by [`Cursor`] and each ensure one equation with the reading of their part (`Says`, `Passes`), and so
 //! have all the laws.
 //!
 //! The crate stands on std alone.
