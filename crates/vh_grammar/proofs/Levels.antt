@@ -1,7 +1,7 @@
 -- On more levels nothing changes but what was too deep.
 use Rattle.std.proofs.Common.{◌≡◌, ℕ, zero, suc, ◌+◌, Bool, true, false, cond, List, [], ◌∷◌, length, refl, ap, arith, suc-add, zero-add}
 use Rattle.vh_grammar.specs.Part.{Part, done, tok, seq, bind, act, alt, rep, iter, nested, unless, barred}
-use Rattle.vh_grammar.specs.Reading.{lost, deep, left_out, Out, got, stop, then_, next_is, token_of, refused, many, turns, run, reader}
+use Rattle.vh_grammar.specs.Reading.{lost, deep, left_out, Out, got, stop, then_, next_is, token_of, many, turns, run, reader}
 use Rattle.vh_grammar.specs.Conditions.{eats}
 use Rattle.vh_grammar.proofs.Size.{Sized, size-reader}
 use Rattle.vh_grammar.proofs.Starts.{Ended}
@@ -65,13 +65,11 @@ module _ {T P : Type 0} {V : P → Type 0} (R R' : (p : P) → List T → Out T 
   run-below (rep class p) ts = below-many (run R p) (run R' p) class (λ m. run-below p m) (length ts) ts
   run-below (iter class part s) ts = below-turns (λ u. run R (part u)) (λ u. run R' (part u)) class (λ u m. run-below (part u) m) (length ts) s ts
   run-below (nested p) ts = nested-below p ts
-  run-below (unless class p) ts = below-cond (next_is class ts) (refused ts) (refused ts) (run R p ts) (run R' p ts) refl (run-below p ts)
-  run-below (barred {A} class p) ts =
-      let test : A → List T → Out T A = λ a rest. cond (next_is (class a) rest) (refused ts) (got a rest) in
-      below-then (run R p ts) (run R' p ts) test test (run-below p ts) (λ a rest. below-same (test a rest))
+  run-below (unless class p) ts = run-below p ts
+  run-below (barred class p) ts = run-below p ts
 
 module _ {T P : Type 0} {V : P → Type 0} (grammar : (p : P) → Part T V (V p)) (eating : (p : P) → eats (grammar p) ≡ true) where
-  none-lost : {A : Type 0} (o : Out T A) → Sized {T = T} 1 [] o → o ≡ stop lost 0
+  pub none-lost : {A : Type 0} (o : Out T A) → Sized {T = T} 1 [] o → o ≡ stop lost 0
   none-lost (got a rest) s = absurd (omega arith)
   none-lost (stop lost left) s = let e : left ≡ 0 = omega arith in ap (λ (n : ℕ). stop lost n) e
   none-lost (stop deep left) s = absurd (omega arith)

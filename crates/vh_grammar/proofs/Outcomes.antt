@@ -1,7 +1,7 @@
 -- Reading gives a tree exactly where the tokens spell the part, and a fault exactly where one is met.
 use Rattle.std.proofs.Common.{◌≡◌, ℕ, zero, suc, ◌≤◌, Bool, true, false, cond, Option, Some, None, List, [], ◌∷◌, length, inl, inr, refl, sym, ap, arith}
 use Rattle.vh_grammar.specs.Part.{Part, done, tok, seq, bind, act, alt, rep, iter, nested, unless, barred}
-use Rattle.vh_grammar.specs.Reading.{Fault, Out, got, stop, then_, next_is, taken, token_of, refused, past_levels, many, turns, run, reader}
+use Rattle.vh_grammar.specs.Reading.{Fault, Out, got, stop, then_, next_is, taken, token_of, past_levels, many, turns, run, reader}
 use Rattle.vh_grammar.specs.Sentences.{Repeats, AfterTurns, Reads, Meets, MeetsPast, ReadsAt, MeetsAt}
 use Rattle.vh_grammar.specs.Conditions.{eats, Advances}
 use Rattle.vh_grammar.proofs.Size.{Sized, size-run, size-reader}
@@ -135,7 +135,7 @@ module _ {T P : Type 0} {V : P → Type 0} (R : (p : P) → List T → Out T (V 
         go : (o : Out T A) → Says_of (Reads N p) (Meets N M p) ts o → Says_of (Reads N (act f p)) (Meets N M (act f p)) ts (then_ o (λ a rest. got (f a) rest))
         go (got a rest) i = (a, refl, i)
         go (stop fault left) i = i
-    run-sound (alt {A} class p q) v ts = go (next_is class ts) refl (run R p ts) (run R q ts) (run-sound p v.1 ts) (run-sound q v.2 ts)
+    run-sound (alt {A} class p q) v ts = go (next_is class ts) refl (run R p ts) (run R q ts) (run-sound p v.0 ts) (run-sound q v.1 ts)
       where
         go : (d : Bool) → next_is class ts ≡ d → (o o' : Out T A) → Says_of (Reads N p) (Meets N M p) ts o → Says_of (Reads N q) (Meets N M q) ts o' → Says_of (Reads N (alt class p q)) (Meets N M (alt class p q)) ts (cond d o o')
         go true e (got a rest) o' i j = inl (e, i)
@@ -145,21 +145,8 @@ module _ {T P : Type 0} {V : P → Type 0} (R : (p : P) → List T → Out T (V 
     run-sound (rep class p) v ts = many-sound (run R p) (Reads N p) (Meets N M p) class (short-run p v.0) (λ m. run-sound p v.1 m) (length ts) ts (omega arith)
     run-sound (iter class part s) v ts = turns-sound (λ u. run R (part u)) (λ u. Reads N (part u)) (λ u. Meets N M (part u)) class (λ u. short-run (part u) (v u).0) (λ u m. run-sound (part u) (v u).1 m) (length ts) s ts (omega arith)
     run-sound (nested p) v ts = nested-sound p ts
-    run-sound (unless {A} class p) v ts = go (next_is class ts) refl (run R p ts) (run-sound p v ts)
-      where
-        go : (d : Bool) → next_is class ts ≡ d → (o : Out T A) → Says_of (Reads N p) (Meets N M p) ts o → Says_of (Reads N (unless class p)) (Meets N M (unless class p)) ts (cond d (refused ts) o)
-        go true e o i = inl (e, refl, refl)
-        go false e (got a rest) i = (e, i)
-        go false e (stop fault left) i = inr (e, i)
-    run-sound (barred {A} class p) v ts = go (run R p ts) (run-sound p v ts)
-      where
-        test : (a : A) (rest : List T) → Reads N p a ts rest → (d : Bool) → next_is (class a) rest ≡ d → Says_of (Reads N (barred class p)) (Meets N M (barred class p)) ts (cond d (refused ts) (got a rest))
-        test a rest i true e = inr (a, rest, i, e, refl, refl)
-        test a rest i false e = (i, e)
-
-        go : (o : Out T A) → Says_of (Reads N p) (Meets N M p) ts o → Says_of (Reads N (barred class p)) (Meets N M (barred class p)) ts (then_ o (λ a rest. cond (next_is (class a) rest) (refused ts) (got a rest)))
-        go (got a rest) i = test a rest i (next_is (class a) rest) refl
-        go (stop fault left) i = inl i
+    run-sound (unless class p) v ts = run-sound p v ts
+    run-sound (barred class p) v ts = run-sound p v ts
 
   -- what is so is read
   module _ (nested-tree : (p : P) (a : V p) (ts rest : List T) → N p a ts rest → R p ts ≡ got a rest) where
@@ -169,13 +156,13 @@ module _ {T P : Type 0} {V : P → Type 0} (R : (p : P) → List T → Out T (V 
     run-tree (seq p q) v a ts rest h = rw (run-tree p v.0 a.0 ts h.0 h.1, run-tree q v.1 a.1 h.0 rest h.2)
     run-tree (bind p q) v b ts rest h = rw (run-tree p v.0 h.0 ts h.1 h.2, run-tree (q h.0) (v.1 h.0) b h.1 rest h.3)
     run-tree (act f p) v b ts rest h = rw (run-tree p v h.0 ts rest h.2, h.1)
-    run-tree (alt class p q) v a ts rest (inl h) = rw (h.0, run-tree p v.1 a ts rest h.1)
-    run-tree (alt class p q) v a ts rest (inr h) = rw (h.0, run-tree q v.2 a ts rest h.1)
+    run-tree (alt class p q) v a ts rest (inl h) = rw (h.0, run-tree p v.0 a ts rest h.1)
+    run-tree (alt class p q) v a ts rest (inr h) = rw (h.0, run-tree q v.1 a ts rest h.1)
     run-tree (rep class p) v a ts rest h = many-tree (run R p) (Reads N p) (Meets N M p) class (short-run p v.0) (run-tree p v.1) a (length ts) ts rest (omega arith) h
     run-tree (iter class part s) v a ts rest h = turns-tree (λ u. run R (part u)) (λ u. Reads N (part u)) (λ u. Meets N M (part u)) class (λ u. short-run (part u) (v u).0) (λ u w m r. run-tree (part u) (v u).1 w m r) a rest h.0 (length ts) s ts (omega arith) h.1
     run-tree (nested p) v a ts rest h = nested-tree p a ts rest h
-    run-tree (unless class p) v a ts rest h = rw (h.0, run-tree p v a ts rest h.1)
-    run-tree (barred class p) v a ts rest h = rw (run-tree p v a ts rest h.0, h.1)
+    run-tree (unless class p) v a ts rest h = run-tree p v a ts rest h
+    run-tree (barred class p) v a ts rest h = run-tree p v a ts rest h
 
     module _ (nested-fault : (p : P) (fault : Fault) (ts : List T) (left : ℕ) → M p fault ts left → R p ts ≡ stop fault left) where
       token-fault : {A : Type 0} (meaning : T → Option A) (fault : Fault) (ts : List T) (left : ℕ) → Meets N M (one V meaning) fault ts left → token_of meaning ts ≡ stop fault left
@@ -190,15 +177,13 @@ module _ {T P : Type 0} {V : P → Type 0} (R : (p : P) → List T → Out T (V 
       run-fault (bind p q) v fault ts left (inl h) = rw (run-fault p v.0 fault ts left h)
       run-fault (bind p q) v fault ts left (inr h) = rw (run-tree p v.0 h.0 ts h.1 h.2, run-fault (q h.0) (v.1 h.0) fault h.1 left h.3)
       run-fault (act f p) v fault ts left h = rw (run-fault p v fault ts left h)
-      run-fault (alt class p q) v fault ts left (inl h) = rw (h.0, run-fault p v.1 fault ts left h.1)
-      run-fault (alt class p q) v fault ts left (inr h) = rw (h.0, run-fault q v.2 fault ts left h.1)
+      run-fault (alt class p q) v fault ts left (inl h) = rw (h.0, run-fault p v.0 fault ts left h.1)
+      run-fault (alt class p q) v fault ts left (inr h) = rw (h.0, run-fault q v.1 fault ts left h.1)
       run-fault (rep class p) v fault ts left h = many-fault (run R p) (Reads N p) (Meets N M p) class (short-run p v.0) (run-tree p v.1) (run-fault p v.1) fault left h.0 (length ts) ts (omega arith) h.1
       run-fault (iter class part s) v fault ts left h = turns-fault (λ u. run R (part u)) (λ u. Reads N (part u)) (λ u. Meets N M (part u)) class (λ u. short-run (part u) (v u).0) (λ u w m r. run-tree (part u) (v u).1 w m r) (λ u f m l. run-fault (part u) (v u).1 f m l) fault left h.0 (length ts) s ts (omega arith) h.1
       run-fault (nested p) v fault ts left h = nested-fault p fault ts left h
-      run-fault (unless class p) v fault ts left (inl h) = rw (h.0, h.1, h.2)
-      run-fault (unless class p) v fault ts left (inr h) = rw (h.0, run-fault p v fault ts left h.1)
-      run-fault (barred class p) v fault ts left (inl h) = rw (run-fault p v fault ts left h)
-      run-fault (barred class p) v fault ts left (inr h) = rw (run-tree p v h.0 ts h.1 h.2, h.3, h.4, h.5)
+      run-fault (unless class p) v fault ts left h = run-fault p v fault ts left h
+      run-fault (barred class p) v fault ts left h = run-fault p v fault ts left h
 
 past-sound : {T : Type 0} (A : Type 0) (ts : List T) → Says_of (λ (a : A) m r. ⊥) MeetsPast ts (past_levels {A = A} ts)
 past-sound A [] = (refl, refl)

@@ -2,7 +2,7 @@
 -- reading that has come to the end of some tokens goes on behind them.
 use Rattle.std.proofs.Common.{◌≡◌, ℕ, zero, suc, ◌+◌, ◌≤◌, Bool, true, false, cond, Option, Some, None, List, [], ◌∷◌, ◌++◌, length, refl, ap, arith, length-append}
 use Rattle.vh_grammar.specs.Part.{Part, done, tok, seq, bind, act, alt, rep, iter, nested, unless, barred}
-use Rattle.vh_grammar.specs.Reading.{lost, deep, left_out, Out, got, stop, then_, next_is, taken, token_of, refused, past_levels, many, turns, run, reader}
+use Rattle.vh_grammar.specs.Reading.{lost, deep, left_out, Out, got, stop, then_, next_is, taken, token_of, past_levels, many, turns, run, reader}
 use Rattle.vh_grammar.specs.Conditions.{eats, Advances}
 use Rattle.vh_grammar.proofs.Size.{weight, Sized, size-then, size-less, size-many, size-turns, size-run, size-past, size-reader}
 
@@ -72,9 +72,6 @@ cut-got a (t ∷ us) zs = refl
 length-more : {T : Type 0} (ts zs : List T) → suc (length (ts ++ zs)) ≡ suc (length ts) + length zs
 length-more ts zs = omega (arith, length-append ts zs)
 
-cut-refused : {T A : Type 0} (t : T) (ts zs : List T) → Cut zs (refused {A = A} (t ∷ ts)) (refused (t ∷ (ts ++ zs)))
-cut-refused t ts zs = ap (λ (n : ℕ). stop left_out n) (length-more ts zs)
-
 late-taken : {T A : Type 0} (o : Option A) (zs : List T) → Late zs (taken o zs) → Late zs (taken o zs)
 late-taken o zs h = h
 
@@ -133,20 +130,9 @@ module _ {T P : Type 0} {V : P → Type 0} (R : (p : P) → List T → Out T (V 
   late-run : {A : Type 0} (p : Part T V A) (zs mid : List T) → length mid ≤ length zs → Late zs (run R p mid)
   late-run p zs mid l = late-of 0 zs mid (run R p mid) l (small-run p mid)
 
-  cut-unless : {A : Type 0} (class : T → Bool) (p : Part T V A) (us zs : List T) → Cut zs (run R p us) (run R p (us ++ zs)) → Cut zs (run R (unless class p) us) (run R (unless class p) (us ++ zs))
-  cut-unless class p [] zs h = cut-end 0 zs (run R p []) (run R (unless class p) zs) (small-run p []) (late-cond zs (next_is class zs) (refused zs) (run R p zs) tt (late-run p zs zs (omega arith)))
-  cut-unless class p (t ∷ us) zs h = cut-cond zs (class t) (refused (t ∷ us)) (refused (t ∷ (us ++ zs))) (run R p (t ∷ us)) (run R p (t ∷ (us ++ zs))) (cut-refused t us zs) h
-
   cut-alt : {A : Type 0} (class : T → Bool) (p q : Part T V A) (us zs : List T) → Cut zs (run R p us) (run R p (us ++ zs)) → Cut zs (run R q us) (run R q (us ++ zs)) → Cut zs (run R (alt class p q) us) (run R (alt class p q) (us ++ zs))
   cut-alt class p q [] zs h k = cut-end 0 zs (run R q []) (run R (alt class p q) zs) (small-run q []) (late-cond zs (next_is class zs) (run R p zs) (run R q zs) (late-run p zs zs (omega arith)) (late-run q zs zs (omega arith)))
   cut-alt class p q (t ∷ us) zs h k = cut-cond zs (class t) (run R p (t ∷ us)) (run R p (t ∷ (us ++ zs))) (run R q (t ∷ us)) (run R q (t ∷ (us ++ zs))) h k
-
-  cut-barred : {A : Type 0} (class : A → T → Bool) (p : Part T V A) (us zs : List T) → Cut zs (run R p us) (run R p (us ++ zs)) → Cut zs (run R (barred class p) us) (run R (barred class p) (us ++ zs))
-  cut-barred {A} class p us zs h =
-      cut-then 0 us zs (run R p us) (run R p (us ++ zs)) (λ a rest. cond (next_is (class a) rest) (refused us) (got a rest)) (λ a rest. cond (next_is (class a) rest) (refused (us ++ zs)) (got a rest)) h (small-run p us)
-      (λ a. omega arith)
-      (λ a mid l. late-cond zs (next_is (class a) mid) (refused (us ++ zs)) (got a mid) tt l)
-      (λ a t mid l. cut-cond zs (class a t) (refused us) (refused (us ++ zs)) (got a (t ∷ mid)) (got a (t ∷ (mid ++ zs))) (ap (λ (n : ℕ). stop left_out n) (length-append us zs)) refl)
 
   pub cut-run : {A : Type 0} (p : Part T V A) → Advances p → (us zs : List T) → Cut zs (run R p us) (run R p (us ++ zs))
   cut-run (done a) v us zs = cut-got a us zs
@@ -164,12 +150,12 @@ module _ {T P : Type 0} {V : P → Type 0} (R : (p : P) → List T → Out T (V 
       (λ a t mid l. cut-run (q a) (v.1 a) (t ∷ mid) zs)
   cut-run (act f p) v us zs =
       cut-then 0 us zs (run R p us) (run R p (us ++ zs)) (λ a rest. got (f a) rest) (λ a rest. got (f a) rest) (cut-run p v us zs) (small-run p us) (λ b. omega arith) (λ b rest e. e) (λ b x rest e. refl)
-  cut-run (alt class p q) v us zs = cut-alt class p q us zs (cut-run p v.1 us zs) (cut-run q v.2 us zs)
+  cut-run (alt class p q) v us zs = cut-alt class p q us zs (cut-run p v.0 us zs) (cut-run q v.1 us zs)
   cut-run (rep class p) v us zs = cut-many (run R p) class (λ ts. rw v.0 at (size-run R each p ts)) zs (λ xs. cut-run p v.1 xs zs) (length us) (length (us ++ zs)) us (omega arith) (omega arith)
   cut-run (iter class part s) v us zs = cut-turns (λ u. run R (part u)) class (λ u ts. rw (v u).0 at (size-run R each (part u) ts)) zs (λ u xs. cut-run (part u) (v u).1 xs zs) (length us) (length (us ++ zs)) s us (omega arith) (omega arith)
   cut-run (nested p) v us zs = nested-cut p us zs
-  cut-run (unless class p) v us zs = cut-unless class p us zs (cut-run p v us zs)
-  cut-run (barred class p) v us zs = cut-barred class p us zs (cut-run p v us zs)
+  cut-run (unless class p) v us zs = cut-run p v us zs
+  cut-run (barred class p) v us zs = cut-run p v us zs
 
 module _ {T P : Type 0} {V : P → Type 0} (grammar : (p : P) → Part T V (V p)) (eating : (p : P) → eats (grammar p) ≡ true) (advancing : (p : P) → Advances (grammar p)) where
   cut-past : (A : Type 0) (us zs : List T) → Cut zs (past_levels {A = A} us) (past_levels (us ++ zs))

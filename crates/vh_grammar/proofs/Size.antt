@@ -2,7 +2,7 @@
 -- place is at a token, or for a missing token after the last.
 use Rattle.std.proofs.Common.{◌≡◌, ℕ, zero, suc, ◌+◌, ◌<◌, ◌≤◌, Bool, true, false, cond, ◌&&◌, ◌||◌, Option, Some, None, List, [], ◌∷◌, length, arith}
 use Rattle.vh_grammar.specs.Part.{Part, done, tok, seq, bind, act, alt, rep, iter, nested, unless, barred}
-use Rattle.vh_grammar.specs.Reading.{lost, deep, left_out, Out, got, stop, then_, next_is, taken, token_of, refused, past_levels, many, turns, run, reader}
+use Rattle.vh_grammar.specs.Reading.{lost, deep, left_out, Out, got, stop, then_, next_is, taken, token_of, past_levels, many, turns, run, reader}
 use Rattle.vh_grammar.specs.Conditions.{eats}
 
 abbrev pub weight : Bool → ℕ
@@ -71,21 +71,7 @@ weight-and_right true true = omega arith
 weight-and_right true false = omega arith
 weight-and_right false b = omega arith
 
-refused-next : {T A : Type 0} (w : ℕ) (class : T → Bool) (ts : List T) (o : Out T A) → Sized w ts o → Sized w ts (cond (next_is class ts) (refused ts) o)
-refused-next w class [] o h = h
-refused-next w class (t ∷ ts) o h = size-cond w (t ∷ ts) (class t) (refused (t ∷ ts)) o (omega arith, omega arith) h
-
-refused-after : {T A : Type 0} (w : ℕ) (class : T → Bool) (ts rest : List T) (a : A) → w + length rest ≤ length ts → Sized w ts (cond (next_is class rest) (refused ts) (got a rest))
-refused-after w class ts [] a h = h
-refused-after w class ts (t ∷ rest) a h = size-cond w ts (class t) (refused ts) (got a (t ∷ rest)) (omega arith, omega arith) h
-
 module _ {T P : Type 0} {V : P → Type 0} (R : (p : P) → List T → Out T (V p)) (each : (p : P) (ts : List T) → Sized 1 ts (R p ts)) where
-  size-barred : {A : Type 0} (w : ℕ) (class : A → T → Bool) (ts : List T) (o : Out T A) → Sized w ts o → Sized w ts (then_ o (λ a rest. cond (next_is (class a) rest) (refused ts) (got a rest)))
-  size-barred w class ts (got a rest) h = refused-after w (class a) ts rest a h
-  size-barred w class ts (stop lost left) h = h
-  size-barred w class ts (stop deep left) h = h
-  size-barred w class ts (stop left_out left) h = h
-
   pub size-run : {A : Type 0} (p : Part T V A) (ts : List T) → Sized (weight (eats p)) ts (run R p ts)
   size-run (done a) ts = omega arith
   size-run (tok meaning) ts = size-token meaning ts
@@ -103,8 +89,8 @@ module _ {T P : Type 0} {V : P → Type 0} (R : (p : P) → List T → Out T (V 
   size-run (rep class p) ts = size-many (run R p) class (length ts) ts (λ m. size-less (weight (eats p)) 0 m (run R p m) (omega arith) (size-run p m))
   size-run (iter class part s) ts = size-turns (λ u. run R (part u)) class (length ts) s ts (λ u m. size-less (weight (eats (part u))) 0 m (run R (part u) m) (omega arith) (size-run (part u) m))
   size-run (nested p) ts = each p ts
-  size-run (unless class p) ts = refused-next (weight (eats p)) class ts (run R p ts) (size-run p ts)
-  size-run (barred class p) ts = size-barred (weight (eats p)) class ts (run R p ts) (size-run p ts)
+  size-run (unless class p) ts = size-run p ts
+  size-run (barred class p) ts = size-run p ts
 
 pub size-past : {T : Type 0} (A : Type 0) (ts : List T) → Sized 1 ts (past_levels {A = A} ts)
 size-past A [] = omega arith

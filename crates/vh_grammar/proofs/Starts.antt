@@ -1,7 +1,7 @@
 -- Tokens begin a part exactly where reading them comes to their end.
 use Rattle.std.proofs.Common.{◌≡◌, ℕ, zero, suc, ◌≤◌, Bool, true, false, cond, Option, Some, None, List, [], ◌∷◌, length, ◌⊎◌, inl, inr, refl, ap, arith}
 use Rattle.vh_grammar.specs.Part.{Part, done, tok, seq, bind, act, alt, rep, iter, nested, unless, barred}
-use Rattle.vh_grammar.specs.Reading.{Fault, lost, deep, left_out, Out, got, stop, then_, next_is, taken, token_of, refused, past_levels, many, turns, run, reader}
+use Rattle.vh_grammar.specs.Reading.{Fault, lost, deep, left_out, Out, got, stop, then_, next_is, taken, token_of, past_levels, many, turns, run, reader}
 use Rattle.vh_grammar.specs.Sentences.{AfterTurns, Reads, Begins, Meets, ReadsAt, BeginsAt, MeetsAt}
 use Rattle.vh_grammar.specs.Conditions.{eats, Advances}
 use Rattle.vh_grammar.proofs.Size.{weight, Sized, size-less, size-many, size-turns, size-run, size-reader}
@@ -21,19 +21,19 @@ ended-size w (stop lost left) s = omega arith
 ended-size w (stop deep left) s = omega arith
 ended-size w (stop left_out left) s = omega arith
 
-ended-act : {T A B : Type 0} (f : A → B) (o : Out T A) → Ended (then_ o (λ b rest. got (f b) rest)) → Ended o
+pub ended-act : {T A B : Type 0} (f : A → B) (o : Out T A) → Ended (then_ o (λ b rest. got (f b) rest)) → Ended o
 ended-act f (got a rest) h = h
 ended-act f (stop lost left) h = h
 ended-act f (stop deep left) h = h
 ended-act f (stop left_out left) h = h
 
-ended-back : {T A B : Type 0} (f : A → B) (o : Out T A) → Ended o → Ended (then_ o (λ b rest. got (f b) rest))
+pub ended-back : {T A B : Type 0} (f : A → B) (o : Out T A) → Ended o → Ended (then_ o (λ b rest. got (f b) rest))
 ended-back f (got a rest) h = h
 ended-back f (stop lost left) h = h
 ended-back f (stop deep left) h = h
 ended-back f (stop left_out left) h = h
 
-ended-then : {T A B : Type 0} (o : Out T A) (k : A → List T → Out T B) → Ended o → ((a : A) → Ended (k a [])) → Ended (then_ o k)
+pub ended-then : {T A B : Type 0} (o : Out T A) (k : A → List T → Out T B) → Ended o → ((a : A) → Ended (k a [])) → Ended (then_ o k)
 ended-then (got a rest) k h f = rw h (f a)
 ended-then (stop lost left) k h f = h
 ended-then (stop deep left) k h f = h
@@ -133,7 +133,7 @@ module _ {T P : Type 0} {V : P → Type 0} (R : (p : P) → List T → Out T (V 
         go (stop deep left) i f g e = absurd e
         go (stop left_out left) i f g e = absurd e
     run-begins (act f p) v ts e = run-begins p v ts (ended-act f (run R p ts) e)
-    run-begins (alt class p q) v ts e = go (next_is class ts) refl (run-begins p v.1 ts) (run-begins q v.2 ts) e
+    run-begins (alt class p q) v ts e = go (next_is class ts) refl (run-begins p v.0 ts) (run-begins q v.1 ts) e
       where
         go : (d : Bool) → next_is class ts ≡ d → (Ended (run R p ts) → Begins N B p ts) → (Ended (run R q ts) → Begins N B q ts) → Ended (cond d (run R p ts) (run R q ts)) → Begins N B (alt class p q) ts
         go true c f g e = inl (c, f e)
@@ -141,22 +141,8 @@ module _ {T P : Type 0} {V : P → Type 0} (R : (p : P) → List T → Out T (V 
     run-begins (rep class p) v ts e = many-begins (run R p) (Reads N p) (Meets N M p) (Begins N B p) class (short-part p v.0) (run-sound R N M each nested-sound p v.1) (run-begins p v.1) (length ts) ts (omega arith) e
     run-begins (iter class part s) v ts e = turns-begins (λ u. run R (part u)) (λ u. Reads N (part u)) (λ u. Meets N M (part u)) (λ u. Begins N B (part u)) class (λ u. short-part (part u) (v u).0) (λ u m. run-sound R N M each nested-sound (part u) (v u).1 m) (λ u m k. run-begins (part u) (v u).1 m k) (length ts) s ts (omega arith) e
     run-begins (nested p) v ts e = nested-begins p ts e
-    run-begins (unless class p) v ts e = go (next_is class ts) refl (run-begins p v ts) e
-      where
-        go : (d : Bool) → next_is class ts ≡ d → (Ended (run R p ts) → Begins N B p ts) → Ended (cond d (refused ts) (run R p ts)) → Begins N B (unless class p) ts
-        go true c f e = absurd e
-        go false c f e = (c, f e)
-    run-begins (barred {A} class p) v ts e = go (run R p ts) (run-begins p v ts) e
-      where
-        test : (d : Bool) (a : A) (rest : List T) → Ended {A = A} (cond d (refused ts) (got a rest)) → rest ≡ []
-        test true a rest e = absurd e
-        test false a rest e = e
-
-        go : (o : Out T A) → (Ended o → Begins N B p ts) → Ended (then_ o (λ a rest. cond (next_is (class a) rest) (refused ts) (got a rest))) → Begins N B p ts
-        go (got a rest) f e = f (test (next_is (class a) rest) a rest e)
-        go (stop lost left) f e = f e
-        go (stop deep left) f e = absurd e
-        go (stop left_out left) f e = absurd e
+    run-begins (unless class p) v ts e = run-begins p v ts e
+    run-begins (barred class p) v ts e = run-begins p v ts e
 
   module _ (nested-tree : (p : P) (a : V p) (ts rest : List T) → N p a ts rest → R p ts ≡ got a rest) (nested-ended : (p : P) (ts : List T) → B p ts → Ended (R p ts)) where
     pub run-ended : {A : Type 0} (p : Part T V A) → Advances p → (ts : List T) → Begins N B p ts → Ended (run R p ts)
@@ -168,13 +154,13 @@ module _ {T P : Type 0} {V : P → Type 0} (R : (p : P) → List T → Out T (V 
     run-ended (bind p q) v ts (inl h) = ended-then (run R p ts) (λ a mid. run R (q a) mid) (run-ended p v.0 ts h) (λ a. ended-run (q a))
     run-ended (bind p q) v ts (inr h) = rw (run-tree R N M each nested-tree p v.0 h.0 ts h.1 h.2) (run-ended (q h.0) (v.1 h.0) h.1 h.3)
     run-ended (act f p) v ts h = ended-back f (run R p ts) (run-ended p v ts h)
-    run-ended (alt class p q) v ts (inl h) = rw h.0 (run-ended p v.1 ts h.1)
-    run-ended (alt class p q) v ts (inr h) = rw h.0 (run-ended q v.2 ts h.1)
+    run-ended (alt class p q) v ts (inl h) = rw h.0 (run-ended p v.0 ts h.1)
+    run-ended (alt class p q) v ts (inr h) = rw h.0 (run-ended q v.1 ts h.1)
     run-ended (rep class p) v ts h = many-ended (run R p) (Reads N p) (Meets N M p) (Begins N B p) class (short-part p v.0) (run-tree R N M each nested-tree p v.1) (run-ended p v.1) h.0 (length ts) ts (omega arith) h.1
     run-ended (iter class part s) v ts h = turns-ended (λ u. run R (part u)) (λ u. Reads N (part u)) (λ u. Meets N M (part u)) (λ u. Begins N B (part u)) class (λ u. short-part (part u) (v u).0) (λ u w m r. run-tree R N M each nested-tree (part u) (v u).1 w m r) (λ u m k. run-ended (part u) (v u).1 m k) h.0 (length ts) s ts (omega arith) h.1
     run-ended (nested p) v ts h = nested-ended p ts h
-    run-ended (unless class p) v ts h = rw h.0 (run-ended p v ts h.1)
-    run-ended (barred class p) v ts h = ended-then (run R p ts) (λ a rest. cond (next_is (class a) rest) (refused ts) (got a rest)) (run-ended p v ts h) (λ a. refl)
+    run-ended (unless class p) v ts h = run-ended p v ts h
+    run-ended (barred class p) v ts h = run-ended p v ts h
 
 past-begins : {T : Type 0} (A : Type 0) (ts : List T) → Ended (past_levels {A = A} ts) → ts ≡ []
 past-begins A [] e = refl

@@ -1,38 +1,30 @@
 -- The classes by which a table makes its choices: what is asked of them, token by token, and what they are.
-use Rattle.std.specs.Prelude.{◌≡◌, ℕ, Bool, true, false, ◌&&◌, List, [], ◌∷◌, ◌⊎◌, ◌↔◌}
+use Rattle.std.specs.Prelude.{◌≡◌, ℕ, Bool, true, false, ◌&&◌, [], ◌∷◌, ◌↔◌}
 use Rattle.vh_grammar.specs.Part.{Part, done, tok, seq, bind, act, alt, rep, iter, nested, unless, barred}
-use Rattle.vh_grammar.specs.Reading.{Out, got, stop, lost, deep, left_out, run}
-use Rattle.vh_grammar.specs.Sentences.{Begins, Meets, ReadsAt, BeginsAt, MeetsAt}
-use Rattle.vh_grammar.specs.Language.{can_begin}
+use Rattle.vh_grammar.specs.Firsts.{behind, without_token, first}
+use Rattle.vh_grammar.specs.Sentences.{Begins, ReadsAt, BeginsAt}
 
--- the levels were enough to read the token (own)
-abbrev pub is_settled : {T A : Type 0} → Out T A → Bool
-is_settled (got a ts) = true
-is_settled (stop lost left) = true
-is_settled (stop deep left) = false
-is_settled (stop left_out left) = true
-
-module _ {T P : Type 0} {V : P → Type 0} (R : (p : P) → List T → Out T (V p)) where
+module _ {T P : Type 0} {V : P → Type 0} (first_of : P → T → Bool) where
   -- at this token each choice in the part is made right: its class has the token exactly where the token
-  -- can begin what is chosen, and then it can begin no other branch (own)
+  -- can begin what is chosen, and then it can begin no other branch. What follows a part that may take no
+  -- token begins with no token that the part begins with (own)
   abbrev pub Heeds : {A : Type 0} → Part T V A → T → Type 0
   Heeds (done a) t = Unit {0}
   Heeds (tok meaning) t = Unit {0}
-  Heeds (seq p q) t = Heeds p t × Heeds q t
-  Heeds (bind {A} p q) t = Heeds p t × ((a : A) → Heeds (q a) t)
+  Heeds (seq p q) t = ((behind (without_token p) (λ _. first first_of q t) && first first_of p t) ≡ false) × Heeds p t × Heeds q t
+  Heeds (bind {A} p q) t = ((behind (without_token p) (λ a. first first_of (q a) t) && first first_of p t) ≡ false) × Heeds p t × ((a : A) → Heeds (q a) t)
   Heeds (act f p) t = Heeds p t
-  Heeds (alt class p q) t =
-      (class t ≡ can_begin R p t) × (is_settled (run R p (t ∷ [])) ≡ true) × ((class t && can_begin R q t) ≡ false) × Heeds p t × Heeds q t
-  Heeds (rep class p) t = (class t ≡ can_begin R p t) × (is_settled (run R p (t ∷ [])) ≡ true) × Heeds p t
-  Heeds (iter {S} class part s) t = (u : S) → (class u t ≡ can_begin R (part u) t) × (is_settled (run R (part u) (t ∷ [])) ≡ true) × Heeds (part u) t
+  Heeds (alt class p q) t = (class t ≡ first first_of p t) × ((first first_of q t && class t) ≡ false) × Heeds p t × Heeds q t
+  Heeds (rep class p) t = (class t ≡ first first_of p t) × Heeds p t
+  Heeds (iter {S} class part s) t = (u : S) → (class u t ≡ first first_of (part u) t) × Heeds (part u) t
   Heeds (nested p) t = Unit {0}
   Heeds (unless class p) t = Heeds p t
   Heeds (barred class p) t = Heeds p t
 
 module _ {T P : Type 0} {V : P → Type 0} (grammar : (p : P) → Part T V (V p)) where
-  -- on some number of levels the token begins the part, or shows there that a construct is left out (own)
+  -- on some number of levels the token begins the part (own)
   abbrev pub IsFirst : {A : Type 0} → Part T V A → T → Type 0
-  IsFirst p t = (levels : ℕ) × (Begins (ReadsAt grammar levels) (BeginsAt grammar levels) p (t ∷ []) ⊎ Meets (ReadsAt grammar levels) (MeetsAt grammar levels) p left_out (t ∷ []) 1)
+  IsFirst p t = (levels : ℕ) × Begins (ReadsAt grammar levels) (BeginsAt grammar levels) p (t ∷ [])
 
   -- the class of each choice in the part is the set of the first tokens of what is chosen (own)
   abbrev pub ChoosesByFirsts : {A : Type 0} → Part T V A → Type 0

@@ -18,15 +18,14 @@ module _ {T P : Type 0} {V : P → Type 0} where
   eats (unless class p) = eats p
   eats (barred class p) = eats p
 
-  -- what is chosen by its class takes a token: the first branch of each choice in the part, and each turn
-  -- of each repetition (own)
+  -- each turn of each repetition in the part takes a token (own)
   abbrev pub Advances : {A : Type 0} → Part T V A → Type 0
   Advances (done a) = Unit {0}
   Advances (tok meaning) = Unit {0}
   Advances (seq p q) = Advances p × Advances q
   Advances (bind {A} p q) = Advances p × ((a : A) → Advances (q a))
   Advances (act f p) = Advances p
-  Advances (alt class p q) = (eats p ≡ true) × Advances p × Advances q
+  Advances (alt class p q) = Advances p × Advances q
   Advances (rep class p) = (eats p ≡ true) × Advances p
   Advances (iter {S} class part s) = (u : S) → (eats (part u) ≡ true) × Advances (part u)
   Advances (nested p) = Unit {0}

@@ -1,87 +1,84 @@
 -- The laws of reading, each for a table that meets the conditions, for each number of levels and each list
--- of tokens.
-use Rattle.std.specs.Prelude.{◌≡◌, ℕ, suc, ◌+◌, ◌≤◌, List, [], ◌∷◌, ◌++◌, length, ◌⊎◌, ◌↔◌}
-use Rattle.vh_grammar.specs.Reading.{Fault, lost, deep, left_out, Out, got, stop, reader}
-use Rattle.vh_grammar.specs.Sentences.{ReadsAt, MeetsAt}
+-- of tokens: of each production, which reads a front of its tokens, and of a whole source.
+use Rattle.std.specs.Prelude.{◌≡◌, ℕ, suc, ◌+◌, ◌<◌, ◌≤◌, List, [], ◌∷◌, ◌++◌, length, ◌⊎◌, ◌↔◌}
+use Rattle.vh_grammar.specs.Reading.{Fault, lost, deep, left_out, got, stop}
 use Rattle.vh_grammar.specs.Choices.{ChoosesByFirsts}
-use Rattle.vh_grammar.specs.Table.{Table, source, IsSource, BeginsSource, MeetsFault, SpellsSource, OpensSource}
+use Rattle.vh_grammar.specs.Table.{Table, Subject, production, whole_source, IsSource, BeginsSource, SpellsSource, OpensSource}
 
--- reading a production gives a tree and a rest exactly where the tokens up to the rest spell it with that
--- tree (own)
-abbrev pub ReadsWhatIsSpelled : Table → Type 0
-ReadsWhatIsSpelled t =
-    (levels : ℕ) (p : t.Name) (a : t.tree_of p) (ts rest : List t.Token) → (reader t.grammar levels p ts ≡ got a rest) ↔ ReadsAt t.grammar levels p a ts rest
+-- no token shows that a construct is left out before one is refused (own)
+abbrev pub NoneLeftOut : (s : Subject) → ℕ → List s.Token → Type 0
+NoneLeftOut s levels ts = (place shown : ℕ) → s.LeavesOut levels ts place shown → ⊥
 
--- reading a production gives a fault, of each of the three kinds, exactly where going on as the grammar
--- does meets it (own)
-abbrev pub RefusesWhatIsMet : Table → Type 0
-RefusesWhatIsMet t =
-    (levels : ℕ) (p : t.Name) (fault : Fault) (ts : List t.Token) (left : ℕ) → (reader t.grammar levels p ts ≡ stop fault left) ↔ MeetsAt t.grammar levels p fault ts left
+-- of the constructs that are left out the one with the first place has so many tokens left there (own)
+pub record IsFirstLeftOut (s : Subject) (levels : ℕ) (ts : List s.Token) (place : ℕ) : Type 0 where
+  -- how many are left at the token that shows it
+  pub shown : ℕ
+  pub is : s.LeavesOut levels ts place shown
+  -- no other one has an earlier place
+  pub first : (other by : ℕ) → s.LeavesOut levels ts other by → other ≤ place
 
--- so tokens spell a production with one tree at most, and leave one rest (own)
-abbrev pub HasOneTree : Table → Type 0
-HasOneTree t =
-    (levels : ℕ) (p : t.Name) (a b : t.tree_of p) (ts rest end : List t.Token) → ReadsAt t.grammar levels p a ts rest → ReadsAt t.grammar levels p b ts end → (a ≡ b) × (rest ≡ end)
+-- The answer is what the tokens are, both ways (own).
+pub record Answers (s : Subject) : Type 0 where
+  -- a tree exactly where they are spelled so, and nothing is left out
+  pub tree : (levels : ℕ) (a : s.Tree) (ts rest : List s.Token) → (s.answer levels ts ≡ got a rest) ↔ (s.Is levels a ts rest × NoneLeftOut s levels ts)
+  -- a token that could not stand there exactly where they meet one, and nothing is left out
+  pub no_token : (levels : ℕ) (ts : List s.Token) (left : ℕ) → (s.answer levels ts ≡ stop lost left) ↔ (s.Refuses levels lost ts left × NoneLeftOut s levels ts)
+  -- too deep exactly where they come past the last level, and nothing is left out
+  pub too_deep : (levels : ℕ) (ts : List s.Token) (left : ℕ) → (s.answer levels ts ≡ stop deep left) ↔ (s.Refuses levels deep ts left × NoneLeftOut s levels ts)
+  -- left out exactly where a construct is, and then it is the one with the first place
+  pub is_left_out : (levels : ℕ) (ts : List s.Token) (place : ℕ) → (s.answer levels ts ≡ stop left_out place) ↔ IsFirstLeftOut s levels ts place
+  -- so tokens are spelled with one tree at most, and leave one rest
+  pub one_tree : (levels : ℕ) (a b : s.Tree) (ts rest end : List s.Token) → s.Is levels a ts rest → s.Is levels b ts end → (a ≡ b) × (rest ≡ end)
 
--- reading a source gives a tree exactly where all its tokens are one with that tree (own)
-abbrev pub AcceptsSources : Table → Type 0
-AcceptsSources t = (levels : ℕ) (a : t.Source) (ts : List t.Token) → (source t levels ts ≡ got a []) ↔ IsSource t levels a ts
+-- the tokens before the one with so many left (own)
+pub record Front (s : Subject) (ts : List s.Token) (left : ℕ) : Type 0 where
+  pub front : List s.Token
+  pub rest : List s.Token
+  pub split : ts ≡ front ++ rest
+  pub count : length rest ≡ left
 
--- a tree of a source leaves no token (own)
-abbrev pub LeavesNothing : Table → Type 0
-LeavesNothing t = (levels : ℕ) (a : t.Source) (ts rest : List t.Token) → source t levels ts ≡ got a rest → rest ≡ []
+-- Where the pure grammar refuses tokens (own).
+pub record RefusesFirst (s : Subject) : Type 0 where
+  -- the tokens before the place of a fault begin it
+  pub front_begins : (levels : ℕ) (ts : List s.Token) (fault : Fault) (left : ℕ) → s.Refuses levels fault ts left → (f : Front s ts left) × s.Starts levels f.front
+  -- with a token that could not stand there they don't, on however many levels
+  pub not_next : (levels any : ℕ) (front : List s.Token) (next : s.Token) (more : List s.Token) → s.Refuses levels lost (front ++ next ∷ more) (suc (length more)) → s.Starts any (front ++ next ∷ []) → ⊥
+  -- the first token with which the tokens so far don't begin it is refused, unless they are a whole one
+  -- and it is left over
+  pub is_refused : (levels : ℕ) (front : List s.Token) (next : s.Token) (more : List s.Token) → s.Starts levels front → (s.Starts levels (front ++ next ∷ []) → ⊥) →
+      ((fault : Fault) × s.Refuses levels fault (front ++ next ∷ more) (suc (length more))) ⊎ ((a : s.Tree) × s.Is levels a (front ++ next ∷ more) (next ∷ more))
+  -- a token is missing after the last exactly where all begin it and aren't a whole one
+  pub too_soon : (levels : ℕ) (ts : List s.Token) → s.Refuses levels lost ts 0 ↔ (s.Starts levels ts × ((a : s.Tree) → s.Is levels a ts [] → ⊥))
+  -- a place is that of a token, or the one after the last, where only a missing token can stand
+  pub inside : (levels : ℕ) (ts : List s.Token) (fault : Fault) (left : ℕ) → s.Refuses levels fault ts left → (left ≤ length ts) × (left ≡ 0 → fault ≡ lost)
+  -- on more levels nothing changes but what was too deep
+  pub only_depth : (levels more : ℕ) (ts : List s.Token) → ((left : ℕ) → s.Refuses levels deep ts left → ⊥) → s.answer (more + levels) ts ≡ s.answer levels ts
 
--- so tokens are a source with one tree at most (own)
-abbrev pub HasOneSource : Table → Type 0
-HasOneSource t = (levels : ℕ) (a b : t.Source) (ts : List t.Token) → IsSource t levels a ts → IsSource t levels b ts → a ≡ b
+-- When a construct that is left out counts (own).
+pub record CountsFirst (s : Subject) : Type 0 where
+  -- no token before the one that shows it is refused, on these levels: they begin it
+  pub front_begins : (levels : ℕ) (ts : List s.Token) (place shown : ℕ) → s.LeavesOut levels ts place shown → (f : Front s ts shown) × s.Starts levels f.front
+  -- it is shown at its place or behind, by a token
+  pub inside : (levels : ℕ) (ts : List s.Token) (place shown : ℕ) → s.LeavesOut levels ts place shown → (0 < shown) × (shown ≤ place) × (place ≤ length ts)
+  -- a token that is refused may show it, but none behind one
+  pub not_behind : (levels : ℕ) (ts : List s.Token) (place shown : ℕ) (fault : Fault) (left : ℕ) → s.LeavesOut levels ts place shown → s.Refuses levels fault ts left → left ≤ shown
+  -- what follows the token that shows it doesn't matter
+  pub whatever_follows : (levels : ℕ) (front : List s.Token) (next : s.Token) (more other : List s.Token) (before : ℕ) →
+      s.LeavesOut levels (front ++ next ∷ more) (before + length more) (suc (length more)) → s.LeavesOut levels (front ++ next ∷ other) (before + length other) (suc (length other))
 
--- a missing token stands after the last one exactly where all tokens begin a source and aren't a whole
--- one (own)
-abbrev pub EndsTooSoon : Table → Type 0
-EndsTooSoon t = (levels : ℕ) (ts : List t.Token) → (source t levels ts ≡ stop lost 0) ↔ (BeginsSource t levels ts × ((a : t.Source) → IsSource t levels a ts → ⊥))
+-- The laws of a production, or of a whole source (own).
+pub record Laws (s : Subject) : Type 0 where
+  pub answers : Answers s
+  pub refuses : RefusesFirst s
+  pub counts : CountsFirst s
 
--- the tokens before the place of a fault, of each kind, begin a source (own)
-abbrev pub FrontBegins : Table → Type 0
-FrontBegins t =
-    (levels : ℕ) (ts : List t.Token) (fault : Fault) (left : ℕ) → source t levels ts ≡ stop fault left →
-    (front : List t.Token) × (rest : List t.Token) × (ts ≡ front ++ rest) × (length rest ≡ left) × BeginsSource t levels front
+-- of each production (own)
+abbrev pub LawsOfProductions : Table → Type 0
+LawsOfProductions t = (p : t.Name) → Laws (production t p)
 
--- a token that could not stand there is the first with which the tokens so far don't begin a source, on
--- however many levels (own)
-abbrev pub FaultIsFirst : Table → Type 0
-FaultIsFirst t =
-    (levels : ℕ) (ts : List t.Token) (left : ℕ) → source t levels ts ≡ stop lost left →
-    (front : List t.Token) × (rest : List t.Token) × (ts ≡ front ++ rest) × (length rest ≡ left) × BeginsSource t levels front ×
-    ((next : t.Token) (more : List t.Token) → rest ≡ next ∷ more → (any : ℕ) → BeginsSource t any (front ++ next ∷ []) → ⊥)
-
--- the refusal stands there, or is of a construct that is left out and begins before or there (own)
-abbrev pub RefusedAt : {T A : Type 0} → ℕ → Out T A → Type 0
-RefusedAt left o = (o ≡ stop lost left) ⊎ ((o ≡ stop deep left) ⊎ ((place : ℕ) × (o ≡ stop left_out place) × (left ≤ place)))
-
--- the first token with which the tokens so far don't begin a source is refused, whatever follows (own)
-abbrev pub FirstIsRefused : Table → Type 0
-FirstIsRefused t =
-    (levels : ℕ) (front : List t.Token) (next : t.Token) (more : List t.Token) → BeginsSource t levels front → (BeginsSource t levels (front ++ next ∷ []) → ⊥) →
-    RefusedAt (suc (length more)) (source t levels (front ++ next ∷ more))
-
--- a token is too deep exactly where going on as the grammar does comes to a nested production past the
--- last level there (own)
-abbrev pub IsTooDeep : Table → Type 0
-IsTooDeep t = (levels : ℕ) (ts : List t.Token) (left : ℕ) → (source t levels ts ≡ stop deep left) ↔ MeetsFault t levels deep ts left
-
--- a construct is refused as left out exactly where going on as the grammar does shows it (own)
-abbrev pub IsLeftOut : Table → Type 0
-IsLeftOut t = (levels : ℕ) (ts : List t.Token) (left : ℕ) → (source t levels ts ≡ stop left_out left) ↔ MeetsFault t levels left_out ts left
-
--- on more levels nothing changes but what was too deep (own)
-abbrev pub OnlyDepthNeedsLevels : Table → Type 0
-OnlyDepthNeedsLevels t =
-    (levels more : ℕ) (ts : List t.Token) → ((left : ℕ) → source t levels ts ≡ stop deep left → ⊥) → source t (more + levels) ts ≡ source t levels ts
-
--- each place is that of a token of the source, or the one after the last, where only a missing token can
--- stand (own)
-abbrev pub PlacesAreInside : Table → Type 0
-PlacesAreInside t = (levels : ℕ) (ts : List t.Token) (fault : Fault) (left : ℕ) → source t levels ts ≡ stop fault left → (left ≤ length ts) × (left ≡ 0 → fault ≡ lost)
+-- of a whole source (own)
+abbrev pub LawsOfSources : Table → Type 0
+LawsOfSources t = Laws (whole_source t)
 
 -- the class of each choice of the table is the set of the first tokens of what is chosen (own)
 abbrev pub ClassesAreFirsts : Table → Type 0

@@ -24,16 +24,21 @@ pub data Part (T : Type 0) {P : Type 0} (V : P → Type 0) : Type 0 → Type 1 w
   iter : {S : Type 0} → (S → T → Bool) → (S → Part T V S) → S → Part T V S
   -- a whole production, one level deeper
   nested : (p : P) → Part T V (V p)
-  -- the part, unless a token of the class is next: that begins a construct that is left out
+  -- the part, where a token of the class that is next shows that what begins there is left out: the
+  -- grammar goes on as if it weren't
   unless : {A : Type 0} → (T → Bool) → Part T V A → Part T V A
-  -- the part, unless a token of the class follows it: that shows that what begins where the part
-  -- begins is a construct that is left out
+  -- the part, where a token of the class behind it shows that what begins where the part begins is
+  -- left out: the grammar goes on as if it weren't
   barred : {A : Type 0} → (A → T → Bool) → Part T V A → Part T V A
+
+-- a token of the class means no more than that it stands there (own)
+abbrev pub only_means : {T : Type 0} → (T → Bool) → T → Option (Unit {0})
+only_means class t = cond (class t) (Some tt) None
 
 module _ {T P : Type 0} {V : P → Type 0} where
   -- one token of the class, whose tree says no more than that it stands there (own)
   abbrev pub only : (T → Bool) → Part T V (Unit {0})
-  only class = tok (λ t. cond (class t) (Some tt) None)
+  only class = tok (only_means class)
 
   -- the part where a token of the class is next, and else nothing (own)
   abbrev pub opt : {A : Type 0} → (T → Bool) → Part T V A → Part T V (Option A)
@@ -54,3 +59,8 @@ module _ {T P : Type 0} {V : P → Type 0} where
   -- one part, and further ones, each after a separator of the class (own)
   abbrev pub listed : {A B : Type 0} → (T → Bool) → Part T V B → Part T V A → Part T V (List A)
   listed c separator p = two (λ a more. a ∷ more) p (rep c (after separator p))
+
+  -- the part again and again; wherever one more could begin, a token of the second class shows that what
+  -- begins there is left out (own)
+  abbrev pub rep_unless : {A : Type 0} → (T → Bool) → (T → Bool) → Part T V A → Part T V (List A)
+  rep_unless c shows p = unless shows (rep c (before p (unless shows (done (tt {0})))))

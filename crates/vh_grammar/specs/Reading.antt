@@ -1,9 +1,9 @@
--- Reading: one total function from a part and a list of tokens to a tree with the tokens that are left,
--- or to a fault with its place.
+-- Reading the pure grammar: one total function from a part and a list of tokens to a tree with the tokens
+-- that are left, or to a fault with its place. What is left out isn't looked at here (`Marking` does).
 use Rattle.std.specs.Prelude.{ℕ, zero, suc, Bool, false, cond, Option, Some, None, List, [], ◌∷◌, ◌++◌, length}
 use Rattle.vh_grammar.specs.Part.{Part, done, tok, seq, bind, act, alt, rep, iter, nested, unless, barred}
 
--- Why tokens are refused (own).
+-- Why tokens are refused. Of two faults at one token the later one here counts (own).
 pub data Fault : Type 0 where
   -- no token that could stand here
   lost : Fault
@@ -40,10 +40,6 @@ abbrev pub token_of : {T A : Type 0} → (T → Option A) → List T → Out T A
 token_of meaning [] = stop lost 0
 token_of meaning (t ∷ ts) = taken (meaning t) ts
 
--- the refusal of a construct that is left out and begins here (own)
-abbrev pub refused : {T A : Type 0} → List T → Out T A
-refused ts = stop left_out (length ts)
-
 -- where no level is left: too deep at a token, and nothing to be had after the last (own)
 abbrev pub past_levels : {T A : Type 0} → List T → Out T A
 past_levels [] = stop lost 0
@@ -72,8 +68,8 @@ module _ {T P : Type 0} {V : P → Type 0} (R : (p : P) → List T → Out T (V 
   run (rep class p) ts = many (run p) class (length ts) ts
   run (iter class part s) ts = turns (λ u. run (part u)) class (length ts) s ts
   run (nested p) ts = R p ts
-  run (unless class p) ts = cond (next_is class ts) (refused ts) (run p ts)
-  run (barred class p) ts = then_ (run p ts) (λ a rest. cond (next_is (class a) rest) (refused ts) (got a rest))
+  run (unless class p) ts = run p ts
+  run (barred class p) ts = run p ts
 
 module _ {T P : Type 0} {V : P → Type 0} (grammar : (p : P) → Part T V (V p)) where
   -- reads a production with so many levels left (own)

@@ -2,23 +2,26 @@
 //! token, which may carry its place, and in the names of the productions.
 //!
 //! What it is for stands in `specs/`: the parts that productions are written with (`Part`), the one total
-//! function that reads them (`Reading`), what reading means, by cases on parts (`Sentences`), the language
-//! without the classes of its choices (`Language`), and what a table has to meet (`Conditions`, `Choices`,
-//! `Table`).
+//! function that reads them (`Reading`), with a mark of what is left out (`Marking`), what reading means, by
+//! cases on parts (`Sentences`), the language without the classes of its choices (`Language`), and what a
+//! table has to meet (`Conditions`, `Choices`, `Table`). The README says how a grammar is written.
 //!
-//! The contract that the crates above use is that of [`exact`]: for each table, reading gives a tree
-//! exactly where the tokens spell it, and a fault exactly at the first token that the grammar refuses. A
-//! parser's functions each ensure one equation with the reading of their part (`Says`, `Passes`), and so
+//! The contract that the crates above use is that of [`exact`]: for each table, each production and a
+//! whole source, reading gives a tree exactly where the tokens spell it, a fault exactly at the first token
+//! that the grammar refuses, and what is left out exactly where it is shown before one. A parser's functions
+//! read by [`Cursor`] and each ensure one equation with the reading of their part (`Says`, `Passes`), and so
 //! have all the laws.
 //!
 //! The crate stands on std alone.
 #![tactic(auto)]
 
 ghost use Rattle.vh_grammar.specs.Table.{Table};
-ghost use Rattle.vh_grammar.specs.Laws.{ReadsWhatIsSpelled, RefusesWhatIsMet, HasOneTree, AcceptsSources, LeavesNothing, HasOneSource, EndsTooSoon, FrontBegins, FaultIsFirst, FirstIsRefused, IsTooDeep, IsLeftOut, OnlyDepthNeedsLevels, PlacesAreInside, ClassesAreFirsts, SpellsWithoutClasses, BeginsWithoutClasses};
+ghost use Rattle.vh_grammar.specs.Laws.{LawsOfProductions, LawsOfSources, ClassesAreFirsts, SpellsWithoutClasses, BeginsWithoutClasses};
 
+mod cursor;
 mod stop;
 
+pub use cursor::{Cursor, Token};
 pub use stop::Stop;
 
 /// A grammar: a type that stands for a table of productions.
@@ -29,20 +32,8 @@ pub trait Grammar {
 
 /// The laws of reading, for every grammar. The body does nothing: the contract is the theorem.
 pub fn exact<G: Grammar>()
-    ensures read { ReadsWhatIsSpelled G.table }
-    ensures refused { RefusesWhatIsMet G.table }
-    ensures one_tree { HasOneTree G.table }
-    ensures accepted { AcceptsSources G.table }
-    ensures nothing_left { LeavesNothing G.table }
-    ensures one_source { HasOneSource G.table }
-    ensures too_soon { EndsTooSoon G.table }
-    ensures front { FrontBegins G.table }
-    ensures first { FaultIsFirst G.table }
-    ensures first_refused { FirstIsRefused G.table }
-    ensures too_deep { IsTooDeep G.table }
-    ensures left_out { IsLeftOut G.table }
-    ensures levels { OnlyDepthNeedsLevels G.table }
-    ensures inside { PlacesAreInside G.table }
+    ensures productions { LawsOfProductions G.table }
+    ensures sources { LawsOfSources G.table }
     ensures firsts { ClassesAreFirsts G.table }
     ensures spelled { SpellsWithoutClasses G.table }
     ensures begun { BeginsWithoutClasses G.table }

@@ -1,7 +1,6 @@
 //! Why a parser stops.
 
 ghost use Rattle.std.specs.Prelude.{◌≡◌};
-ghost use Rattle.vh_grammar.specs.Past.{past_stop};
 ghost use Rattle.vh_grammar.specs.declared.stop.Stop.TheVariants.{Memory};
 
 use std::alloc::{AllocError, AllocFailed};
@@ -33,18 +32,5 @@ impl<T: Drop> From<AllocFailed<T>> for Stop {
 
     fn from(_failed: AllocFailed<T>) -> Stop {
         Stop::Memory
-    }
-}
-
-impl Stop {
-    /// Where no level is left: too deep at a token, and a missing token after the last.
-    pub fn past<T>(tokens: &[T]) -> Stop
-        ensures { result ≡ past_stop tokens.now }
-    {
-        if tokens.is_empty() {
-            Stop::Lost(0)
-        } else {
-            Stop::Deep(tokens.len())
-        }
     }
 }

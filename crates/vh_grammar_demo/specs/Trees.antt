@@ -1,58 +1,66 @@
 -- The trees of the small language, as the grammar gives them.
-use Rattle.std.specs.Prelude.{ℕ, Bool, true, false, List, [], ◌∷◌, ◌++◌, Option, Some, None}
-use Rattle.vh_grammar_demo.specs.declared.tree.Step.{Step}
-use Rattle.vh_grammar_demo.specs.declared.tree.Step.TheVariants.{Name, Index}
-use Rattle.vh_grammar_demo.specs.declared.tree.Operator.{Operator}
+use Rattle.std.specs.Prelude.{ℕ, Bool, true, false, List, [], ◌∷◌, Option, Some, None}
+use Rattle.vh_grammar.specs.Nest.{Piece}
+use Rattle.vh_grammar_demo.specs.declared.token.Operator.{Operator}
 
--- a path with the place of its first name (own)
-pub record PathTree : Type 0 where
-  pub place : ℕ
-  pub steps : List Step
-  -- the last step is an index
-  pub indexed : Bool
-
--- a path that goes on with a name (own)
-abbrev pub with_name : PathTree → ℕ → PathTree
-with_name p n = record { place = p.place; steps = p.steps ++ Name n ∷ []; indexed = false }
-
--- a path that goes on with an index (own)
-abbrev pub with_index : PathTree → ℕ → PathTree
-with_index p n = record { place = p.place; steps = p.steps ++ Index n ∷ []; indexed = true }
-
--- an expression, and expressions in a row (own)
+-- An expression, and expressions in a row (own).
 mutual
   pub data ExprTree : Type 0 where
     number : ℕ → ℕ → ExprTree
-    place : PathTree → ExprTree
+    name : ℕ → ℕ → ExprTree
+    member : ExprTree → ℕ → ExprTree
+    index : ExprTree → ExprTree → ExprTree
+    call : ExprTree → ExprTree → ExprTree
     chain : ExprTree → List Operator → Exprs → ExprTree
 
   pub data Exprs : Type 0 where
     no_expr : Exprs
     one_expr : ExprTree → Exprs → Exprs
 
--- a statement, and statements in a row (own)
+-- A path (own).
+pub record PathTree : Type 0 where
+  pub expr : ExprTree
+  -- its last step is an index
+  pub indexed : Bool
+
+-- A statement, and statements in a row (own).
 mutual
   pub data StmtTree : Type 0 where
     empty : StmtTree
-    assign : PathTree → ExprTree → StmtTree
+    assign : List (Piece ExprTree) → ExprTree → StmtTree
     conditional : ExprTree → Stmts → StmtTree
     block : Stmts → StmtTree
+    print : List (Option ExprTree) → StmtTree
+    declare : List (Bool × ℕ) → StmtTree
 
   pub data Stmts : Type 0 where
     no_stmt : Stmts
     one_stmt : StmtTree → Stmts → Stmts
 
--- expressions of a list (own)
+-- A path that goes on with a name (own).
+abbrev pub with_name : PathTree → ℕ → PathTree
+with_name p n = record { expr = member p.expr n; indexed = false }
+
+-- A path that goes on with an index (own).
+abbrev pub with_index : PathTree → ExprTree → PathTree
+with_index p e = record { expr = index p.expr e; indexed = true }
+
+-- A path, or a call of it (own).
+abbrev pub called : PathTree → Option ExprTree → ExprTree
+called p None = p.expr
+called p (Some argument) = call p.expr argument
+
+-- Expressions of a list (own).
 abbrev pub exprs : List ExprTree → Exprs
 exprs [] = no_expr
 exprs (e ∷ more) = one_expr e (exprs more)
 
--- statements of a list (own)
+-- Statements of a list (own).
 abbrev pub stmts : List StmtTree → Stmts
 stmts [] = no_stmt
 stmts (s ∷ more) = one_stmt s (stmts more)
 
--- a single operand is itself (own)
+-- A single operand is itself (own).
 abbrev pub chained : ExprTree → List Operator × List ExprTree → ExprTree
 chained first links = joined first links.0 links.1
   where
@@ -60,7 +68,12 @@ chained first links = joined first links.0 links.1
     joined first [] operands = first
     joined first (o ∷ operators) operands = chain first (o ∷ operators) (exprs operands)
 
--- the branches of an `if` (own)
+-- The branches of an `if` (own).
 abbrev pub branches : StmtTree → Option StmtTree → List StmtTree
 branches first None = first ∷ []
 branches first (Some second) = first ∷ (second ∷ [])
+
+-- The arguments of a list, or none (own).
+abbrev pub all_of : Option (List (Option ExprTree)) → List (Option ExprTree)
+all_of None = []
+all_of (Some arguments) = arguments

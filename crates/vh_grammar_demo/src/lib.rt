@@ -16,8 +16,8 @@ mod token;
 mod tree;
 
 pub use parser::read;
-pub use token::{Kind, Sign, Token};
-pub use tree::{Expr, Links, Operator, Path, Step, Stmt};
+pub use token::{Class, Kind, Operator, Sign, Token};
+pub use tree::{Declared, Expr, Links, Path, Row, Stmt, Target};
 
 /// The small language.
 pub struct Arithmetic;

@@ -1,8 +1,8 @@
 -- Depth falls first. What a block's loop has read stands in front of what is left.
 use Rattle.std.proofs.Common.{◌≡◌, length, map, ◌+◌, ◌*◌}
-use Rattle.vh_grammar.specs.Reading.{joined}
-use Rattle.vh_grammar_demo.specs.Views.{stmt_tree}
-use Rattle.vh_grammar_demo.specs.Grammar.{reads, statements}
+use Rattle.vh_grammar.specs.Marking.{joined_marks}
+use Rattle.vh_grammar_demo.specs.Views.{read_from, stmt_tree}
+use Rattle.vh_grammar_demo.proofs.Loops.{all_listed}
 use Rattle.vh_grammar_demo.proofs.parser.+statement.Given as goal
 
 abbrev pub decreases-nested_statement : goal.decreases-nested_statement
@@ -27,7 +27,10 @@ abbrev pub decreases-statement : goal.decreases-statement
 decreases-statement l = 8 * l.depth + 4
 
 abbrev pub invariant-all_statements-all : goal.invariant-all_statements-all
-invariant-all_statements-all l = reads l.depth statements l.tokens ≡ joined (map stmt_tree l.all.items) (reads l.depth statements l.rest)
+invariant-all_statements-all l = read_from l.depth all_listed l.initial.rest ≡ joined_marks (map stmt_tree l.all.items) (read_from l.depth all_listed l.rest)
 
 abbrev pub decreases-all_statements-all : goal.decreases-all_statements-all
-decreases-all_statements-all l = length l.rest
+decreases-all_statements-all l = length l.rest.tokens.now
+
+abbrev pub decreases-next_statement : goal.decreases-next_statement
+decreases-next_statement l = 8 * l.depth + 1

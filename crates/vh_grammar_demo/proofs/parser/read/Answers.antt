@@ -4,10 +4,10 @@ use Rattle.vh_grammar.specs.declared.stop.Stop.{Stop}
 use Rattle.vh_grammar.specs.Reading.{got}
 use Rattle.vh_grammar.specs.Says.{Accepts}
 use Rattle.vh_grammar.specs.Table.{source, IsSource}
-use Rattle.vh_grammar_demo.specs.declared.token.Token.{Token}
+use Rattle.vh_grammar_demo.specs.Token.{Token}
 use Rattle.vh_grammar_demo.specs.declared.tree.Stmt.{Stmt}
 use Rattle.vh_grammar_demo.specs.Trees.{StmtTree}
-use Rattle.vh_grammar_demo.specs.Views.{stmt_trees}
+use Rattle.vh_grammar_demo.specs.Views.{tokens_seen, stmt_trees}
 use Rattle.vh_grammar_demo.specs.Table.{arithmetic}
 use Rattle.vh_grammar_demo.proofs.parser.read.Goals as goal
 
@@ -16,4 +16,4 @@ spelled levels ts (Ok all) h e = h (stmt_trees all) e
 spelled levels ts (Err stop) h e = tt
 
 pub returns-clause-spelled : goal.returns-clause-spelled
-returns-clause-spelled c = spelled _ _ _ (λ a. (c.exact.ensures.accepted c.args.levels a c.args.tokens.now).0) c.all_read.ensures
+returns-clause-spelled c = spelled _ _ _ (λ a e. ((c.exact.ensures.sources.answers.tree c.args.levels a (tokens_seen c.args.tokens.now) []).0 e).0.0) c.all_read.ensures
