@@ -72,7 +72,7 @@ one-acted s u v l one other =
     let first = by-label (slice_get s.scripts one.who.script) (slice_get s.variables one.who.script) one.who (without_top s) u one.given l one.makes in
     let second = by-label (slice_get s.scripts other.who.script) (slice_get s.variables other.who.script) other.who (without_top s) v other.given l other.makes in
     let alike = ap (λ (x : Activation). activation_move (slice_get s.scripts x.script) (slice_get s.variables x.script) x (without_top s) (given_in l))
-        (one-activation s one.who other.who one.on other.on) in
+    (one-activation s one.who other.who one.on other.on) in
     ap (λ (m : Move). m.1) (sym first ∙ alike ∙ second)
 
 -- A row leads to one state.
@@ -83,21 +83,21 @@ one-row s u v (label.Ret who) sound one other = one-acted s u v (label.Ret who) 
 one-row s u v (label.Occ n reason object) sound one other =
     let alike = one-told s one.what other.what one.rest other.rest one.next other.next in
     let there : telling_outcome one.what one.rest ≡ Ok other.made =
-        ap (λ (x : Occurrence). telling_outcome x one.rest) alike.0 ∙ ap (λ (x : State). telling_outcome other.what x) alike.1 ∙ other.makes in
+    ap (λ (x : Occurrence). telling_outcome x one.rest) alike.0 ∙ ap (λ (x : State). telling_outcome other.what x) alike.1 ∙ other.makes in
     one.leaves ∙ ap (λ (m : Made). after_made m) (one-made (telling_outcome one.what one.rest) one.made other.made one.makes there) ∙ sym other.leaves
 one-row s u v (label.Fire n c) sound one other =
     one.leaves
     ∙ ap (λ (x : Frame). called (info_of c s.callbacks) (body_of c s.callbacks) c x.what
-        (with_top (top.Frame (record x { left = without_number c x.left })) (without_top s))) (one-frame s one.frame other.frame one.on other.on)
+    (with_top (top.Frame (record x { left = without_number c x.left })) (without_top s))) (one-frame s one.frame other.frame one.on other.on)
     ∙ sym other.leaves
 one-row s u v (label.Done n) sound one other = one.leaves ∙ sym other.leaves
 one-row s u v (label.Activate r) sound one other = one.1 ∙ sym other.1
 one-row s u v (label.Advance time) sound one other = one.2 ∙ sym other.2
 one-row s u v (label.Pick n shown) sound one other =
     let entry : one.entry ≡ other.entry =
-        one_entry s one.choice other.choice one.entry other.entry sound one.chosen other.chosen (one.serial ∙ sym other.serial) in
+    one_entry s one.choice other.choice one.entry other.entry sound one.chosen other.chosen (one.serial ∙ sym other.serial) in
     let there = ap (λ (x : Entry). work_outcome x.work (record s { queue = record s.queue { entries = without_serial n s.queue.entries } })) entry
-        ∙ other.makes in
+    ∙ other.makes in
     one.leaves.1 ∙ ap (λ (m : Made). after_made m) (one-made _ one.made other.made one.makes there) ∙ sym other.leaves.1
 one-row s u v (label.Stmt p shown) sound one other =
     one.leaves.1 ∙ ap (λ (m : Made). after_made m) (one-made _ one.made other.made one.makes other.makes) ∙ sym other.leaves.1

@@ -237,6 +237,6 @@ one-run order s (m ∷ moves) run =
     let next : Chooser = chooser_after order (choices_of s) in
     let rest : moves ≡ moves_with next (all_given moves) m.1 = one-run next m.1 moves run.2 in
     let here : moves ≡ cond (is_end m.0) [] (moves_with next (all_given moves) m.1) =
-        rest-of-run (is_end m.0) m moves (moves_with next (all_given moves) m.1) refl run.1 rest in
+    rest-of-run (is_end m.0) m moves (moves_with next (all_given moves) m.1) refl run.1 rest in
     let P : Move → Type 0 = λ z. m ∷ moves ≡ z ∷ cond (is_end z.0) [] (moves_with next (all_given moves) z.1) in
     subst P (sym (move-again order s run.0.given m run.0.makes)) (ap (λ (ms : List Move). m ∷ ms) here)

@@ -120,7 +120,7 @@ tells-queue s o r tells = elim tells [
 acts-sound : (s u : State) (l : Label) → IsSound s → Acts s l u → IsSound u
 acts-sound s u l sound row =
     let kept = acts-kept row.who (without_top s) row.given _
-        (acts (slice_get s.scripts row.who.script) (slice_get s.variables row.who.script) row.who (without_top s) row.given) in
+    (acts (slice_get s.scripts row.who.script) (slice_get s.variables row.who.script) row.who (without_top s) row.given) in
     let P : Move → Type 0 = λ m. m.1.queue ≡ s.queue in
     sound-by s u (subst P row.makes kept.queue) sound
 

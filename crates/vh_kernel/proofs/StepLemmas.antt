@@ -82,9 +82,13 @@ pub data IsActing (a : Activation) (s : State) (g : Given) (m : Move) : Type 0 w
   orders : (vars : List (List Answer)) (o : Order) (further : Activation) (t : State)
       → (answered (effect_of o a.who (with_variables vars s)) (with_variables vars s) g).1 ≡ silently t
       → IsKept s t
-      → m ≡ (label.Do a.who o (answered (effect_of o a.who (with_variables vars s)) (with_variables vars s) g).0,
-          record t { control = top.Activation further ∷ t.control;
-            error = error_in (answered (effect_of o a.who (with_variables vars s)) (with_variables vars s) g).0 })
+      → m ≡ (
+        label.Do a.who o (answered (effect_of o a.who (with_variables vars s)) (with_variables vars s) g).0,
+        record t {
+          control = top.Activation further ∷ t.control;
+          error = error_in (answered (effect_of o a.who (with_variables vars s)) (with_variables vars s) g).0;
+        },
+      )
       → IsActing a s g m
 
 order-acts : (b : Bool) (o : Order) (a : Activation) (p : Point) (vars : List (List Answer)) (before s : State) (g : Given)

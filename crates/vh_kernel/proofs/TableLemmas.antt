@@ -243,7 +243,7 @@ by-telling s o r tells = elim tells [
   | inl here ↦
       by-top s (top.Pending o) 0 nothing here.0
       ∙ ap (λ (x : State). move_of (λ shown. label.Occ s.occurrence o.reason o.object) x (telling_outcome o (without_top s)))
-          (put-back s (top.Pending o) here.0.on)
+      (put-back s (top.Pending o) here.0.on)
       ∙ ap (λ (x : State). move_of (λ shown. label.Occ s.occurrence o.reason o.object) s (telling_outcome o x)) (sym here.1)
   | inr next ↦
       by-agenda s (Some (agendum.Occurrence next.0)) 0 nothing next.1
@@ -374,7 +374,7 @@ row-chosen s u (label.Pick n shown) row = record {
   makes = by-agenda s None row.choice nothing row.next
       ∙ ap (λ (o : Option Entry). pick_move o s) row.chosen
       ∙ ap (λ (k : ℕ). move_of (λ x. label.Pick k x) s
-          (work_outcome row.entry.work (record s { queue = record s.queue { entries = without_serial k s.queue.entries } }))) row.serial
+      (work_outcome row.entry.work (record s { queue = record s.queue { entries = without_serial k s.queue.entries } }))) row.serial
       ∙ ap (λ (out : Outcome). move_of (λ x. label.Pick n x) s out) row.makes
       ∙ by-label (label.Pick n row.made.shown) (label.Pick n shown) _ (ap (λ (x : Option (List ℕ)). label.Pick n x) (sym row.leaves.0))
       ∙ by-after (label.Pick n shown) _ u row.leaves.1;

@@ -63,7 +63,7 @@ telling_outcome o s =
     unless (nat_le MOST_FRAMES (frames s.control)) fault.F1
     (unless (nat_lt MOST_NUMBERS s.occurrence) fault.F3
     (silently (with_top (top.Frame (record { number = s.occurrence; what = o; left = set_of o s.callbacks }))
-        (record s { occurrence = s.occurrence + 1 }))))
+    (record s { occurrence = s.occurrence + 1 }))))
 
 abbrev pub occurrence_move : Occurrence → State → State → Move
 occurrence_move o before s = move_of (λ shown. label.Occ s.occurrence o.reason o.object) before (telling_outcome o s)

@@ -9,8 +9,6 @@ mod orders;
 mod processes;
 mod settling;
 
-pub(crate) use opening::joined;
-
 use crate::activation::{Activation, Body, Who};
 use crate::control::{Control, Stack};
 use crate::events::{Queue, Work};
@@ -19,6 +17,7 @@ use crate::label::{Ending, Label};
 use crate::occurrence::{Agendum, Occurrence};
 use crate::phase::Phase;
 use crate::thread::Thread;
+pub(crate) use opening::joined;
 use std::alloc::Global;
 use std::collections::VecDeque;
 use vh_app::{Script, Vars};
@@ -141,8 +140,7 @@ impl Kernel {
 
     fn agenda_choices(&self) -> u32
         requires { is_crowded (state_of self.now) ≡ false }
-        ensures {
-            result ≡ agenda_choices (slice_get (state_of self.now).agenda 0) (state_of self.now) }
+        ensures { result ≡ agenda_choices (slice_get (state_of self.now).agenda 0) (state_of self.now) }
     {
         match self.agenda.front() {
             Some(_) => 1,
@@ -155,9 +153,8 @@ impl Kernel {
     pub fn step(&mut self, alloc: Global, k: u32) -> Result<Label, NoMemory>
         requires { k < choices_of (state_of self.old) }
         ensures step { IfOk result (λ l. IsStep (state_of self.old) k (l, state_of self.new)) }
-        ensures in_order {
-            IfOk result (λ l. step_of (state_of self.old) k (next_given (state_of self.old))
-                ≡ (l, state_of self.new)) }
+        ensures in_order { IfOk result (λ l. step_of (state_of self.old) k (next_given (state_of self.old))
+            ≡ (l, state_of self.new)) }
         ensures goes { IfOk result (λ l. is_end l ≡ false → 0 < choices_of (state_of self.new)) }
     {
         let label = self.make_label(alloc, k)?;
@@ -168,9 +165,8 @@ impl Kernel {
     }
 
     fn make_label(&mut self, alloc: Global, k: u32) -> Result<Label, NoMemory>
-        ensures {
-            Moves (crowded_move (is_crowded (state_of self.old)) (state_of self.old) k (given_by self.old))
-                result self.new }
+        ensures { Moves (crowded_move (is_crowded (state_of self.old)) (state_of self.old) k (given_by self.old))
+            result self.new }
     {
         if self.queue.len() > MOST_ENTRIES {
             return Ok(self.fail(Fault::F3));
@@ -179,9 +175,8 @@ impl Kernel {
     }
 
     fn go_on(&mut self, alloc: Global, k: u32) -> Result<Label, NoMemory>
-        ensures {
-            Moves (top_move (slice_get (state_of self.old).control 0) (state_of self.old) k (given_by self.old))
-                result self.new }
+        ensures { Moves (top_move (slice_get (state_of self.old).control 0) (state_of self.old) k (given_by self.old))
+            result self.new }
     {
         match self.control.pop() {
             None => self.go_idle(alloc, k),
@@ -232,9 +227,8 @@ impl Kernel {
     }
 
     fn take_agenda(&mut self, alloc: Global, k: u32) -> Result<Label, NoMemory>
-        ensures {
-            Moves (agenda_move (slice_get (state_of self.old).agenda 0) (state_of self.old) k)
-                result self.new }
+        ensures { Moves (agenda_move (slice_get (state_of self.old).agenda 0) (state_of self.old) k)
+            result self.new }
     {
         match self.agenda.front() {
             None => self.pick(k),
@@ -251,8 +245,7 @@ impl Kernel {
 
     // The startup of a script begins, which was next on the agenda.
     fn start(&mut self, alloc: Global, number: u32) -> Result<Label, NoMemory>
-        ensures {
-            Moves (agenda_move (Some (Agendum.Startup number)) (state_of self.old) 0) result self.new }
+        ensures { Moves (agenda_move (Some (Agendum.Startup number)) (state_of self.old) 0) result self.new }
     {
         let _ = self.agenda.pop_front();
         let i = number.saturating_sub(1) as usize;
@@ -271,9 +264,8 @@ impl Kernel {
     }
 
     fn pick(&mut self, k: u32) -> Result<Label, NoMemory>
-        ensures {
-            Moves (pick_move (slice_get (eligible (state_of self.old).queue) k) (state_of self.old))
-                result self.new }
+        ensures { Moves (pick_move (slice_get (eligible (state_of self.old).queue) k) (state_of self.old))
+            result self.new }
     {
         let Some(entry) = self.queue.eligible_at(k as usize) else {
             return self.change_region();
@@ -286,9 +278,8 @@ impl Kernel {
     }
 
     fn change_region(&mut self) -> Result<Label, NoMemory>
-        ensures {
-            Moves (region_move (next_region (state_of self.old).queue) (state_of self.old))
-                result self.new }
+        ensures { Moves (region_move (next_region (state_of self.old).queue) (state_of self.old))
+            result self.new }
     {
         let Some(region) = self.queue.next_region() else {
             return self.advance_time();
@@ -298,9 +289,8 @@ impl Kernel {
     }
 
     fn advance_time(&mut self) -> Result<Label, NoMemory>
-        ensures {
-            Moves (time_move (least_time (state_of self.old).queue.entries) (state_of self.old))
-                result self.new }
+        ensures { Moves (time_move (least_time (state_of self.old).queue.entries) (state_of self.old))
+            result self.new }
     {
         let Some(time) = self.queue.least_time() else {
             return self.finish(Cause::Nothing);

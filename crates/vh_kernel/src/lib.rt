@@ -24,8 +24,8 @@ mod quoted;
 mod thread;
 
 pub use activation::Who;
-pub use vh_base::Boxed;
 pub use kernel::Kernel;
 pub use label::{Ending, Label, Region};
 pub use laws::step_laws;
 pub use line::line_of;
+pub use vh_base::Boxed;

@@ -340,7 +340,7 @@ opened-names : (b : Bool) (h k c next : ℕ) (x : Thing) (a : Handles) → nat_e
 opened-names true h k c next x a is new old at =
     let same : h ≡ k = eqb-true h k is in
     let there : thing_at h (opened k x a) ≡ Some x =
-        subst (λ (y : ℕ). thing_at h (opened y x a) ≡ Some x) same (same_more h x a.live) in
+    subst (λ (y : ℕ). thing_at h (opened y x a) ≡ Some x) same (same_more h x a.live) in
     new c (let both : Some x ≡ Some (thing.Callback c) = sym there ∙ at in cc)
 opened-names false h k c next x a is new old at = old (sym (other_more h k x a.live is) ∙ at)
 
@@ -491,9 +491,9 @@ fires-once s moves path keeps before behind n c t is =
     let there : Keeps before (view_of u) = keeps-on [] s before parts.0 keeps in
     let from : FiredFrom u n c = fired-from u n c (view_of t) (made-works u m parts.1.0) in
     let stands : Stands before u.callbacks from.frame.number from.frame.left =
-        there.stands 0 from.frame (at-top u from.frame from.rest from.on) in
+    there.stands 0 from.frame (at-top u from.frame from.rest from.on) in
     let here : Stands before u.callbacks n from.frame.left =
-        subst (λ (k : ℕ). Stands before u.callbacks k from.frame.left) (sym from.number) stands in
+    subst (λ (k : ℕ). Stands before u.callbacks k from.frame.left) (sym from.number) stands in
     let waits : Waits before u.callbacks n c = here.waits c from.among in
     record { told = waits.told; yet = here.undone; once = waits.unfired }
 
@@ -546,7 +546,7 @@ none-among : (set : List ℕ) (p : ℕ → Bool) (c : ℕ) → filter p set ≡ 
 none-among set p c none among = elim (either (p c)) [
   | inl passes ↦
       absurd (let there : is_among c [] ≡ true =
-          ap (λ (xs : List ℕ). is_among c xs) (sym none) ∙ filter-among c p set among passes in cc)
+      ap (λ (xs : List ℕ). is_among c xs) (sym none) ∙ filter-among c p set among passes in cc)
   | inr fails ↦ fails
 ]
 
@@ -557,7 +557,7 @@ leaves-none s moves path keeps front mid behind m n c what t is telling among =
     let w : State = end_of m.1 mid in
     let from : DoneFrom w n (view_of t) = done-from w n (view_of t) (made-works w last along.1.0) in
     let empty : left_of n mid (set_of what m.1.callbacks) ≡ [] =
-        sym (along.0.sets 0 from.frame (at-top w from.frame from.rest from.on) (sym from.number)) ∙ from.none in
+    sym (along.0.sets 0 from.frame (at-top w from.frame from.rest from.on) (sym from.number)) ∙ from.none in
     left-none (any (is_fire n c) mid) (was_removed c mid)
     (none-among (set_of what m.1.callbacks) (λ d. not (any (is_fire n d) mid) && not (was_removed d mid)) c empty among)
 
@@ -681,9 +681,9 @@ done-once s moves path keeps before behind n t is =
     let there : Keeps before (view_of u) = keeps-on [] s before parts.0 keeps in
     let from : DoneFrom u n (view_of t) = done-from u n (view_of t) (made-works u m parts.1.0) in
     let stands : Stands before u.callbacks from.frame.number from.frame.left =
-        there.stands 0 from.frame (at-top u from.frame from.rest from.on) in
+    there.stands 0 from.frame (at-top u from.frame from.rest from.on) in
     let here : Stands before u.callbacks n from.frame.left =
-        subst (λ (k : ℕ). Stands before u.callbacks k from.frame.left) (sym from.number) stands in
+    subst (λ (k : ℕ). Stands before u.callbacks k from.frame.left) (sym from.number) stands in
     let falls : Falls u.occurrence (from.frame ∷ from.rest) = subst (λ (fs : List Frame). Falls u.occurrence fs) from.on there.falls in (
       here.told,
       here.undone,
@@ -782,14 +782,19 @@ nest-settled seen s m (orders_one who o a is (registers_one h r b gives fresh ro
     (same-frames s (view_of m.1) (ap (λ (y : View). y.frames) after)) settled)
 nest-settled seen s m (orders_one who o a is (removes_one c h by one names after)) settled =
     inr (settled-same seen s m (λ k. ap (λ (y : Label). is_told k y) is)
-    (λ k stands. (stands.0, taken_from c stands.1, ap (λ (y : View). slice_get y.frames stands.0) after
-    ∙ get-map c stands.0 (frames_of s.control) stands.1 stands.2, stands.3)) settled)
+    (λ k stands. (
+      stands.0,
+      taken_from c stands.1,
+      ap (λ (y : View). slice_get y.frames stands.0) after
+          ∙ get-map c stands.0 (frames_of s.control) stands.1 stands.2,
+      stands.3,
+    )) settled)
 nest-settled seen s m (tells_one n what is number after) settled =
     inr (λ k told. told-settled seen s m n what is after settled k told (nat_eq k n) refl)
 nest-settled seen s m (fires_one n c f rest is on number among after) settled =
     inr (settled-same seen s m (λ k. ap (λ (y : Label). is_told k y) is)
     (λ k stands. (let there = fired-frames c s f rest on k stands.0 stands.1
-        (ap (λ (fs : List Frame). slice_get fs stands.0) (sym on) ∙ stands.2) stands.3 in
+    (ap (λ (fs : List Frame). slice_get fs stands.0) (sym on) ∙ stands.2) stands.3 in
     (there.0, there.1, ap (λ (y : View). slice_get y.frames there.0) after ∙ there.2, there.3))) settled)
 nest-settled seen s m (closes_one n f rest is on number none after) settled =
     inr (λ k told. closed-settled seen s m n f rest is on number (ap (λ (x : View). x.frames) after) k
@@ -842,7 +847,7 @@ top-is-highest : (s : State) (k n : ℕ) (f : Frame) (rest : List Frame) → Has
 top-is-highest s k n f rest (i, g, at, of) on number falls above =
     let there : Falls s.occurrence (f ∷ rest) = subst (λ (fs : List Frame). Falls s.occurrence fs) on falls in
     let low : g.number < f.number + 1 =
-        falls-below (f.number + 1) i (f ∷ rest) g (omega arith, there.1) (ap (λ (fs : List Frame). slice_get fs i) (sym on) ∙ at) in
+    falls-below (f.number + 1) i (f ∷ rest) g (omega arith, there.1) (ap (λ (fs : List Frame). slice_get fs i) (sym on) ∙ at) in
     omega arith
 
 closes-in-order : (s : State) (moves : List Move) → IsPath s moves → Keeps [] (view_of s) → ClosesInOrder moves
@@ -850,7 +855,7 @@ closes-in-order s moves path keeps front mid behind n k reason object u t is tol
     let first : Move = (label.Occ n reason object, u) in
     let last : Move = (label.Done n, t) in
     let parts = path_at s moves front ((first ∷ mid) ++ last ∷ behind) path
-        (is ∙ append_assoc front (first ∷ mid) (last ∷ behind)) in
+    (is ∙ append_assoc front (first ∷ mid) (last ∷ behind)) in
     let v : State = end_of s front in
     let from : ToldFrom v n (view_of u) = told-from v first.0 n reason object (view_of u) refl (made-works v first parts.1.0) in
     let halves = path_split u mid (last ∷ behind) parts.1.1 in
@@ -860,7 +865,7 @@ closes-in-order s moves path keeps front mid behind n k reason object u t is tol
     let there : Keeps front (view_of v) = keeps-on [] s front parts.0 keeps in
     let works : Works v first.0 (view_of u) = made-works v first parts.1.0 in
     let falls : Falls w.occurrence (frames_of w.control) =
-        falls-on u mid halves.0 (works-falls v first.0 (view_of u) works there.falls) in
+    falls-on u mid halves.0 (works-falls v first.0 (view_of u) works there.falls) in
     let least : u.occurrence ≤ k = told-least k u mid halves.0 told in
     elim (nest-on n [] u mid halves.0 (inr (below, (λ j some. absurd (cc))))) [
       | inl gone ↦ absurd (gone.none 0 done.frame (at-top w done.frame done.rest done.on) (sym done.number))
@@ -993,11 +998,11 @@ removes-for-good s moves path keeps before behind m c is removal =
     let both : Some (thing.Callback from.callback) ≡ Some (thing.Callback c) = sym from.names ∙ removal.names in
     let same : from.callback ≡ c = cc in
     let dead : is_live c m.1.callbacks ≡ false =
-        ap (λ (x : Callbacks Body). is_live c x) from.callbacks
-        ∙ ap (λ (x : ℕ). is_live c (removed x u.callbacks)) same ∙ gone_removed c u.callbacks there.sound in
+    ap (λ (x : Callbacks Body). is_live c x) from.callbacks
+    ∙ ap (λ (x : ℕ). is_live c (removed x u.callbacks)) same ∙ gone_removed c u.callbacks there.sound in
     let low : c < u.callbacks.next = there.names removal.handle c removal.names in
     let grows : u.callbacks.next ≤ m.1.callbacks.next =
-        turns_next u.callbacks m.1.callbacks (works-turn u m.0 (view_of m.1) works) in
+    turns_next u.callbacks m.1.callbacks (works-turn u m.0 (view_of m.1) works) in
     record {
       dead = dead;
       silent = gone-on c (and_then before m) m.1 behind parts.1.1 (works-keeps before u m works there) (omega arith) dead;

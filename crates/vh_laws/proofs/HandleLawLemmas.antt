@@ -300,7 +300,6 @@ watched-found true (Some h) s c named is one =
     (λ _ same. absurd (let two : code.E2 ≡ code.E1 = (let e_is : code.E2 ≡ c = cc in e_is ∙ one) in cc))
     (λ _ same. absurd (cc))) is
 
-
 E1-apart : (e : Code) → (e ≡ code.E1 → ⊥) → NotE1 (Err e)
 E1-apart e apart is = apart (let same : e ≡ code.E1 = cc in same)
 

@@ -211,7 +211,7 @@ names-still q a b l (frees_one none h is) climb given =
     at-other (freed h a) b (λ (x : Handles). NamesStill q a x) is (freed-by (nat_eq q h) q h a refl climb)
 names-still q a b l (gives_one h t fresh gives is) climb given =
     let apart : nat_eq q h ≡ false =
-        ne_eqb q h (λ same. not_both (a.is_given q) given (subst (λ (n : ℕ). a.is_given n ≡ false) (sym same) fresh)) in
+    ne_eqb q h (λ same. not_both (a.is_given q) given (subst (λ (n : ℕ). a.is_given n ≡ false) (sym same) fresh)) in
     at-other (opened h t a) b (λ (x : Handles). NamesStill q a x) is (inr (other_more q h t a.live apart))
 
 pub freed-none : (h : ℕ) (a : Handles) → NumbersRise 0 a.live → thing_at h (freed h a) ≡ None

@@ -124,22 +124,22 @@ fires_what_came_later t once law =
     let here : Move = (label.Occ 2 reason.CbValueChange (Some (whole 1)), state_at 16) in
     let is : is_told 2 told.move.0 ≡ true = ap (λ (l : Label). is_told 2 l) told.tells.told in
     let whole_list : up_to 22 ++ (label.Fire 2 5, t) ∷ from 22 ≡ told.front ++ told.move ∷ (told.rest ++ (label.Fire 2 5, t) ∷ from 22) =
-        ap (λ (ms : List Move). ms ++ (label.Fire 2 5, t) ∷ from 22) told.splits
-        ∙ append_assoc told.front (told.move ∷ told.rest) ((label.Fire 2 5, t) ∷ from 22) in
+    ap (λ (ms : List Move). ms ++ (label.Fire 2 5, t) ∷ from 22) told.splits
+    ∙ append_assoc told.front (told.move ∷ told.rest) ((label.Fire 2 5, t) ∷ from 22) in
     let label_is : told.move ≡ (label.Occ 2 told.what.reason told.what.object, told.move.1) =
-        ap (λ (l : Label). (let m : Move = (l, told.move.1) in m)) told.tells.told in
+    ap (λ (l : Label). (let m : Move = (l, told.move.1) in m)) told.tells.told in
     let later : any (is_told 2) (told.rest ++ (label.Fire 2 5, t) ∷ from 22) ≡ false =
-        (once told.front (told.rest ++ (label.Fire 2 5, t) ∷ from 22) 2 told.what.reason told.what.object told.move.1
-        (whole_list ∙ ap (λ (m : Move). told.front ++ m ∷ (told.rest ++ (label.Fire 2 5, t) ∷ from 22)) label_is)).1 in
+    (once told.front (told.rest ++ (label.Fire 2 5, t) ∷ from 22) 2 told.what.reason told.what.object told.move.1
+    (whole_list ∙ ap (λ (m : Move). told.front ++ m ∷ (told.rest ++ (label.Fire 2 5, t) ∷ from 22)) label_is)).1 in
     let same : told.move ≡ here =
-        tells-apart (is_told 2) told.front (up_to 16) told.move here (told.rest ++ (label.Fire 2 5, t) ∷ from 22)
-        (drop 17 (up_to 22) ++ (label.Fire 2 5, t) ∷ from 22) (sym whole_list) is refl later refl in
+    tells-apart (is_told 2) told.front (up_to 16) told.move here (told.rest ++ (label.Fire 2 5, t) ∷ from 22)
+    (drop 17 (up_to 22) ++ (label.Fire 2 5, t) ∷ from 22) (sym whole_list) is refl later refl in
     let frame : slice_get (frames_of here.1.control) 0 ≡ Some (record { number = 2; what = told.what; left = set_of told.what told.move.1.callbacks }) =
-        ap (λ (m : Move). slice_get (frames_of m.1.control) 0) (sym same) ∙ told.tells.frame in
+    ap (λ (m : Move). slice_get (frames_of m.1.control) 0) (sym same) ∙ told.tells.frame in
     let left : Some (set_of told.what told.move.1.callbacks) ≡ Some (2 ∷ 3 ∷ 4 ∷ []) =
-        ap (λ (o : Option Frame). option_map (λ f. f.left) o) (sym frame) in
+    ap (λ (o : Option Frame). option_map (λ f. f.left) o) (sym frame) in
     let among : is_among 5 (2 ∷ 3 ∷ 4 ∷ []) ≡ true =
-        ap (λ (o : Option (List ℕ)). is_among 5 (unwrap_or o [])) (sym left) ∙ told.among in
+    ap (λ (o : Option (List ℕ)). is_among 5 (unwrap_or o [])) (sym left) ∙ told.among in
     absurd (cc)
 
 -- The telling of occurrence 2, and the labels of callback 2 behind it.
@@ -205,7 +205,7 @@ frees_the_handle_alone law =
 leaves_the_handle : RemovalFrees (up_to 18 ++ removal (record (state_at 18) { handles = (state_at 17).handles }) ∷ []) → ⊥
 leaves_the_handle law =
     let gone : thing_at 3 (state_at 17).handles ≡ None =
-        law (up_to 18) [] (who_is.Callback 2) 3 (record (state_at 18) { handles = (state_at 17).handles }) refl in
+    law (up_to 18) [] (who_is.Callback 2) 3 (record (state_at 18) { handles = (state_at 17).handles }) refl in
     absurd (cc)
 
 -- A handle that was freed is answered 1 again.

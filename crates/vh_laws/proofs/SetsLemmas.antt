@@ -97,7 +97,7 @@ pub left-more : (n : ℕ) (m : Move) (moves : List Move) (set : List ℕ)
 left-more n m moves set =
     filter-both (λ c. not (any (is_fire n c) moves) && not (was_removed c moves)) (λ c. not (is_fire n c m.0) && is_live c m.1.callbacks) set
     ∙ ap (λ (p : ℕ → Bool). filter p set)
-        (fun_ext (λ c. sym (four (is_fire n c m.0) (any (is_fire n c) moves) (is_live c m.1.callbacks) (was_removed c moves))))
+    (fun_ext (λ c. sym (four (is_fire n c m.0) (any (is_fire n c) moves) (is_live c m.1.callbacks) (was_removed c moves))))
 
 -- The numbers of the frames fall from the top on, and are below this one.
 abbrev pub Falls : ℕ → List Frame → Type 0
@@ -303,8 +303,8 @@ works-sets n set s l w (orders_one who o a is (registers_one h r b gives fresh r
     ∙ live_registered c r b s.callbacks (live_low c s.callbacks sound (has.live c among)) ∙ has.live c among)) has.sets
 works-sets n set s l w (orders_one who o a is (removes_one c h by one names after)) sound has =
     let less : left_by n l w.callbacks set ≡ without_number c set =
-        ap (λ (x : View). left_by n l x.callbacks set) after
-        ∙ left-without n c l s.callbacks set (order-fire l who o a is n) sound has.live in
+    ap (λ (x : View). left_by n l x.callbacks set) after
+    ∙ left-without n c l s.callbacks set (order-fire l who o a is n) sound has.live in
     subst (λ (fs : List Frame). SetsAre n (left_by n l w.callbacks set) fs) (sym (ap (λ (x : View). x.frames) after))
     (λ i f at of. removed-set n c i s set f has at of ∙ sym less)
 works-sets n set s l w (tells_one k what is number after) sound has =
@@ -318,7 +318,7 @@ works-sets n set s l w (closes_one k f rest is on number none after) sound has =
     subst (λ (fs : List Frame). SetsAre n (left_by n l w.callbacks set) fs) (sym (ap (λ (x : View). x.frames) after))
     (λ i g at of. has.sets (suc i) g (ap (λ (fs : List Frame). slice_get fs (suc i)) on ∙ at) of
     ∙ sym (left-all n l w.callbacks set (λ c. ap (λ (x : Label). is_fire n c x) is)
-        (λ c among. ap (λ (x : View). is_live c x.callbacks) after ∙ has.live c among)))
+    (λ c among. ap (λ (x : View). is_live c x.callbacks) after ∙ has.live c among)))
 
 works-has : (n : ℕ) (set : List ℕ) (s : State) (l : Label) (w : View) → Works s l w → IsSound s.callbacks → HasSet n set (view_of s)
     → HasSet n (left_by n l w.callbacks set) w

@@ -213,7 +213,7 @@ form-changes o s g e (removes c h by names is) =
     (λ fits t silent. removes_one c h by refl names
     (ap view_of (silent-one (without_callback c h s) t silent)
     ∙ framed (record (view_of s) { callbacks = removed c s.callbacks; handles = freed h s.handles })
-        (frames_of (without_all c s.control)) (map (taken_from c) (frames_of s.control)) (frames-without c s.control)))
+    (frames_of (without_all c s.control)) (map (taken_from c) (frames_of s.control)) (frames-without c s.control)))
 
 -- The same change, seen from the state with the activation on top.
 abbrev performing : List (List Answer) → State → State
@@ -273,8 +273,8 @@ changes-from vars s o a w same (registers_one h r b gives fresh room asks is) =
 changes-from vars s o a w same (removes_one c h by one names is) =
     removes_one c h by one names
     (is ∙ framed (record (view_of s) { callbacks = removed c s.callbacks; handles = freed h s.handles })
-        (map (taken_from c) (frames_of (drop 1 s.control))) (map (taken_from c) (frames_of s.control))
-        (ap (λ (fs : List Frame). map (taken_from c) fs) same))
+    (map (taken_from c) (frames_of (drop 1 s.control))) (map (taken_from c) (frames_of s.control))
+    (ap (λ (fs : List Frame). map (taken_from c) fs) same))
 
 fits-from : (vars : List (List Answer)) (s : State) (a : Answer) → FitsAnswer s a → FitsAnswer (performing vars s) a
 fits-from vars s answer.Done fits = fits
@@ -294,7 +294,7 @@ acting-works a s u g l on fits (orders vars o further t silent kept is) =
     let given : Answer × Outcome = answered (effect_of o a.who (performing vars s)) (performing vars s) g in
     let there : Fits s (label.Do a.who o given.0) = subst (λ (x : Label). Fits s x) (ap (λ (m : Move). m.0) is) fits in
     let changes : Changes (performing vars s) o given.0 (view_of t) =
-        form-changes o (performing vars s) g _ (effect-form o a.who (performing vars s)) (fits-from vars s given.0 there) t silent in
+    form-changes o (performing vars s) g _ (effect-form o a.who (performing vars s)) (fits-from vars s given.0 there) t silent in
     subst (λ (m : Move). Works s m.0 (view_of m.1)) (sym is)
     (orders_one a.who o given.0 refl (changes-from vars s o given.0 (view_of t) (sym (frames-top s (top.Activation a) on.on)) changes))
 
@@ -317,7 +317,7 @@ row-works s u (label.Ret who) row =
     (acts (slice_get s.scripts row.who.script) (slice_get s.variables row.who.script) row.who (without_top s) row.given))
 row-works s u (label.Occ n reason object) row =
     let made : view_of row.made.state ≡ with_telling row.rest.occurrence row.what (view_of row.rest) =
-        subst (λ (out : Outcome). AllMade (Tells row.what row.rest) out) row.makes (telling-view row.what row.rest) in
+    subst (λ (out : Outcome). AllMade (Tells row.what row.rest) out) row.makes (telling-view row.what row.rest) in
     let number : row.rest.occurrence ≡ n = tells-number s row.what row.rest row.next ∙ sym row.number in
     tells_one n row.what
     (ap (λ (x : Reason). label.Occ n x object) row.why ∙ ap (λ (x : Option Object). label.Occ n row.what.reason x) row.whom) row.number

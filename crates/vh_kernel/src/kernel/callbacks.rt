@@ -11,9 +11,7 @@ use crate::label::Label;
 use crate::numbers::Numbers;
 use crate::occurrence::{Frame, Occurrence};
 use std::alloc::Global;
-use vh_base::{
-    Answer, Boxed, CbNumber, Fault, MOST_FRAMES, MOST_NUMBERS, NoMemory, Order, Seen,
-};
+use vh_base::{Answer, Boxed, CbNumber, Fault, MOST_FRAMES, MOST_NUMBERS, NoMemory, Order, Seen};
 use vh_callbacks::Registration;
 
 // What a callback's activation sees at first.
@@ -51,9 +49,8 @@ impl Kernel {
 
     // An occurrence that was on top of control is told.
     pub(crate) fn occur(&mut self, alloc: Global, what: Occurrence) -> Result<Label, NoMemory>
-        ensures {
-            Moves (item_move (Control.Pending what) (state_of self.old) 0 (given_by self.old))
-                result self.new }
+        ensures { Moves (item_move (Control.Pending what) (state_of self.old) 0 (given_by self.old))
+            result self.new }
     {
         if self.control.frames() >= MOST_FRAMES {
             self.control.push(Control::Pending(what))?;
@@ -68,9 +65,8 @@ impl Kernel {
 
     // An occurrence that is next on the agenda is told.
     pub(crate) fn occur_next(&mut self, alloc: Global, what: Occurrence) -> Result<Label, NoMemory>
-        ensures {
-            Moves (occurrence_move what (state_of self.old) (without_item (state_of self.old)))
-                result self.new }
+        ensures { Moves (occurrence_move what (state_of self.old) (without_item (state_of self.old)))
+            result self.new }
     {
         if self.control.frames() >= MOST_FRAMES {
             return Ok(self.fail(Fault::F1));
@@ -86,8 +82,7 @@ impl Kernel {
     fn tell(&mut self, alloc: Global, what: Occurrence) -> Result<Label, NoMemory>
         requires few { frames (state_of self.old).control < MOST_FRAMES }
         requires few_told { (state_of self.old).occurrence ≤ MOST_NUMBERS }
-        ensures {
-            Moves (occurrence_move what (state_of self.old) (state_of self.old)) result self.new }
+        ensures { Moves (occurrence_move what (state_of self.old) (state_of self.old)) result self.new }
     {
         let number = self.occurrence;
         let watching = what.watching(alloc, &self.callbacks)?;
@@ -116,9 +111,8 @@ impl Kernel {
 
     // What a callback calls begins.
     fn call(&mut self, alloc: Global, c: CbNumber, what: &Occurrence) -> Result<(), NoMemory>
-        ensures {
-            OnOk result (state_of self.new ≡ called (info_of c (state_of self.old).callbacks)
-                (body_of c (state_of self.old).callbacks) c what.now (state_of self.old)) }
+        ensures { OnOk result (state_of self.new ≡ called (info_of c (state_of self.old).callbacks)
+            (body_of c (state_of self.old).callbacks) c what.now (state_of self.old)) }
     {
         let Some(live) = self.callbacks.callback(c) else {
             return Ok(());
@@ -135,10 +129,9 @@ impl Kernel {
 
     // An activation that was on top of control gives its next order, or returns.
     pub(crate) fn act(&mut self, alloc: Global, activation: Activation) -> Result<Label, NoMemory>
-        ensures {
-            Moves (activation_move (slice_get (state_of self.old).scripts activation.script)
-                (slice_get (state_of self.old).variables activation.script) activation
-                (state_of self.old) (given_by self.old)) result self.new }
+        ensures { Moves (activation_move (slice_get (state_of self.old).scripts activation.script)
+            (slice_get (state_of self.old).variables activation.script) activation
+            (state_of self.old) (given_by self.old)) result self.new }
     {
         let mut activation = activation;
         let i = activation.script;
@@ -160,9 +153,8 @@ impl Kernel {
         activation: Activation,
         order: Order,
     ) -> Result<Label, NoMemory>
-        ensures {
-            (before : State) → Moves (order_move false order activation before (state_of self.old)
-                (given_by self.old)) result self.new }
+        ensures { (before : State) → Moves (order_move false order activation before (state_of self.old)
+            (given_by self.old)) result self.new }
     {
         let who = activation.who();
         let answer = self.perform(alloc, &who, &order)?;

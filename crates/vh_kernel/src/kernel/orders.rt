@@ -143,9 +143,8 @@ impl Kernel {
         who: &Who,
         order: &Order,
     ) -> Result<Answer, NoMemory>
-        ensures {
-            IfOk result (λ a. answered (effect_of order.now who.now (state_of self.old))
-                (state_of self.old) (given_by self.old) ≡ (a, silently (state_of self.new))) }
+        ensures { IfOk result (λ a. answered (effect_of order.now who.now (state_of self.old))
+            (state_of self.old) (given_by self.old) ≡ (a, silently (state_of self.new))) }
     {
         match self.carry_out(alloc, who, order) {
             Ok(answer) => Ok(answer),
@@ -203,8 +202,7 @@ impl Kernel {
 
     // An order that no script gives yet.
     fn not_yet(&self, who: &Who, order: &Order) -> Result<Answer, Halt>
-        ensures {
-            Performs (not_yet order.now who.now (state_of self.now)) self.now result self.now }
+        ensures { Performs (not_yet order.now who.now (state_of self.now)) self.now result self.now }
     {
         if is_startup(who) {
             return Err(Halt::Refused(Code::E9));
@@ -284,9 +282,8 @@ impl Kernel {
         text: &[u8],
         scope: Option<HandleNo>,
     ) -> Result<Answer, Halt>
-        ensures {
-            Performs (effect_of (Order.ByName text.now scope) who.now (state_of self.old))
-                self.old result self.new }
+        ensures { Performs (effect_of (Order.ByName text.now scope) who.now (state_of self.old))
+            self.old result self.new }
     {
         if is_startup(who) {
             return Err(Halt::Refused(Code::E9));
@@ -313,9 +310,8 @@ impl Kernel {
         scope: &Object,
         path: &[u8],
     ) -> Result<Option<usize>, NoMemory>
-        ensures {
-            IfOk result (λ id. id ≡ object_named
-                (below (name_of scope.now.id (state_of self.now).names) path.now) (state_of self.now).names) }
+        ensures { IfOk result (λ id. id ≡ object_named
+            (below (name_of scope.now.id (state_of self.now).names) path.now) (state_of self.now).names) }
     {
         let name = joined(alloc, self.object_name(scope.id), path)?;
         Ok(object_named(&self.names, name.as_slice()))
@@ -353,10 +349,9 @@ impl Kernel {
         requires unwatched { registration.object ≡ None }
         requires alone { registration.serial ≡ None }
         requires fresh { registration.me ≡ (given_by self.old).handle }
-        ensures {
-            Performs (effect_of (Order.Register registration.reason registration.object_handle
-                registration.time body.now registration.user_data) who.now (state_of self.old))
-                self.old result self.new }
+        ensures { Performs (effect_of (Order.Register registration.reason registration.object_handle
+            registration.time body.now registration.user_data) who.now (state_of self.old))
+            self.old result self.new }
     {
         let reason = registration.reason;
         if is_startup(who) && needs_object(reason) {
@@ -406,9 +401,8 @@ impl Kernel {
         body: Body,
     ) -> Result<Answer, Halt>
         requires { registration.me ≡ (given_by self.old).handle }
-        ensures {
-            Performs (new_callback (λ me. record registration { me = me }) body (state_of self.old))
-                self.old result self.new }
+        ensures { Performs (new_callback (λ me. record registration { me = me }) body (state_of self.old))
+            self.old result self.new }
     {
         if self.callbacks.is_full() {
             return Err(Halt::Refused(Code::E11));
@@ -426,8 +420,7 @@ impl Kernel {
 
     // remove: the callback is gone, and its handle is freed.
     fn remove(&mut self, who: &Who, h: Option<HandleNo>) -> Result<Answer, Halt>
-        ensures {
-            Performs (effect_of (Order.Remove h) who.now (state_of self.old)) self.old result self.new }
+        ensures { Performs (effect_of (Order.Remove h) who.now (state_of self.old)) self.old result self.new }
     {
         if is_startup(who) {
             return Err(Halt::Refused(Code::E9));
@@ -441,9 +434,8 @@ impl Kernel {
 
     // The callback that a handle names is gone.
     fn remove_thing(&mut self, thing: Option<Thing>, handle: HandleNo) -> Result<Answer, Halt>
-        ensures {
-            Performs (with_ok (callback_in thing) (λ c. Ok (answers (Answer.Number 1)
-                (silently (without_callback c handle (state_of self.old)))))) self.old result self.new }
+        ensures { Performs (with_ok (callback_in thing) (λ c. Ok (answers (Answer.Number 1)
+            (silently (without_callback c handle (state_of self.old)))))) self.old result self.new }
     {
         let Some(thing) = thing else {
             return Err(Halt::Refused(Code::E1));
@@ -456,9 +448,8 @@ impl Kernel {
 
     // A callback is gone, from every frame's set too, and a handle is freed.
     fn forget(&mut self, c: CbNumber, handle: HandleNo) -> Result<Answer, Halt>
-        ensures {
-            Performs (Ok (answers (Answer.Number 1)
-                (silently (without_callback c handle (state_of self.old))))) self.old result self.new }
+        ensures { Performs (Ok (answers (Answer.Number 1)
+            (silently (without_callback c handle (state_of self.old))))) self.old result self.new }
     {
         let _ = self.callbacks.remove(c);
         self.handles.free(handle);

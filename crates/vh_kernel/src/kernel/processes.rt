@@ -96,9 +96,8 @@ impl Kernel {
     }
 
     fn wait(&mut self, p: u64, delay: u32) -> Result<Label, NoMemory>
-        ensures {
-            Moves (move_of (λ shown. Label.Stmt p shown) (with_top (Control.Process p) (state_of self.old))
-                (statement_outcome p (Some (FirstCode.Wait delay)) (state_of self.old))) result self.new }
+        ensures { Moves (move_of (λ shown. Label.Stmt p shown) (with_top (Control.Process p) (state_of self.old))
+            (statement_outcome p (Some (FirstCode.Wait delay)) (state_of self.old))) result self.new }
     {
         let until = self.queue.time().saturating_add(u64::from(delay));
         if until > MOST_TIME {
@@ -116,9 +115,8 @@ impl Kernel {
     }
 
     fn assign(&mut self, p: u64, reg: u32, value: FirstBit) -> Result<Label, NoMemory>
-        ensures {
-            Moves (move_of (λ shown. Label.Stmt p shown) (with_top (Control.Process p) (state_of self.old))
-                (statement_outcome p (Some (FirstCode.Assign reg value)) (state_of self.old))) result self.new }
+        ensures { Moves (move_of (λ shown. Label.Stmt p shown) (with_top (Control.Process p) (state_of self.old))
+            (statement_outcome p (Some (FirstCode.Assign reg value)) (state_of self.old))) result self.new }
     {
         self.leave_behind(p);
         self.control.push(Control::Process(p))?;
@@ -136,9 +134,8 @@ impl Kernel {
     }
 
     fn show(&mut self, p: u64, shown: Bytes) -> Result<Label, NoMemory>
-        ensures {
-            Moves (Label.Stmt p (Some shown), with_top (Control.Process p) (past_statement p (state_of self.old)))
-                result self.new }
+        ensures { Moves (Label.Stmt p (Some shown), with_top (Control.Process p) (past_statement p (state_of self.old)))
+            result self.new }
     {
         self.leave_behind(p);
         self.control.push(Control::Process(p))?;
@@ -146,9 +143,8 @@ impl Kernel {
     }
 
     fn ask_finish(&mut self, p: u64) -> Result<Label, NoMemory>
-        ensures {
-            Moves (move_of (λ shown. Label.Stmt p shown) (with_top (Control.Process p) (state_of self.old))
-                (statement_outcome p (Some FirstCode.Finish) (state_of self.old))) result self.new }
+        ensures { Moves (move_of (λ shown. Label.Stmt p shown) (with_top (Control.Process p) (state_of self.old))
+            (statement_outcome p (Some FirstCode.Finish) (state_of self.old))) result self.new }
     {
         self.leave_behind(p);
         self.control.push(Control::Process(p))?;
