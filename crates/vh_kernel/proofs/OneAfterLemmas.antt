@@ -1,9 +1,7 @@
 -- In a sound state the state after is a function of the state before and the label.
-use Rattle.std.proofs.Common.{◌≡◌, ℕ, true, false, cond, Option, Some, None, Result, Ok, List, ◌∷◌, slice_get, refl, sym, ap, subst, ◌∙◌, ◌⊎◌, inl, inr}
+use Rattle.std.proofs.Common.{◌≡◌, cond, Option, Some, Ok, List, slice_get, sym, ap, subst, ◌∙◌, inl, inr}
 use Rattle.vh_base.specs.declared.orders.Answer.{Answer}
-use Rattle.vh_base.specs.declared.orders.Answer.TheVariants as answer
 use Rattle.vh_base.specs.declared.words.Reason.{Reason}
-use Rattle.vh_base.specs.declared.orders.Order.{Order}
 use Rattle.vh_app.specs.Script.{ScriptData}
 use Rattle.vh_callbacks.specs.Callbacks.{info_of, body_of}
 use Rattle.vh_kernel.specs.declared.activation.Activation.{Activation}
@@ -16,18 +14,16 @@ use Rattle.vh_kernel.specs.declared.label.Label.TheVariants as label
 use Rattle.vh_kernel.specs.declared.occurrence.Agendum.{Agendum}
 use Rattle.vh_kernel.specs.declared.occurrence.Agendum.TheVariants as agendum
 use Rattle.vh_kernel.specs.declared.occurrence.Frame.{Frame}
-use Rattle.vh_kernel.specs.declared.phase.Phase.TheVariants as phase
 use Rattle.vh_kernel.specs.Events.{without_serial}
 use Rattle.vh_kernel.specs.Numbers.{without_number}
 use Rattle.vh_kernel.specs.Occurrences.{Occurrence, occurrence_of}
-use Rattle.vh_kernel.specs.Orders.{Given, Effect, answered, effect_of}
+use Rattle.vh_kernel.specs.Orders.{Given}
 use Rattle.vh_kernel.specs.Outcome.{Made, Outcome, Move, after_made}
-use Rattle.vh_kernel.specs.Run.{handle_in, given_in}
+use Rattle.vh_kernel.specs.Run.{given_in}
 use Rattle.vh_kernel.specs.Settle.{settled}
 use Rattle.vh_kernel.specs.State.{State, with_top, without_top}
-use Rattle.vh_kernel.specs.Statements.{next_statement, statement_outcome}
 use Rattle.vh_kernel.specs.Step.{called, activation_move, work_outcome, telling_outcome, is_end}
-use Rattle.vh_kernel.specs.Table.{HasTop, HasNext, TellsNext, Acts, Row, Step, IsSound, OneStateAfter}
+use Rattle.vh_kernel.specs.Table.{HasTop, HasNext, TellsNext, Acts, Row, IsSound, OneStateAfter}
 use Rattle.vh_kernel.proofs.RunLemmas.{activation-shows}
 use Rattle.vh_kernel.proofs.SoundLemmas.{one_entry}
 

@@ -1,5 +1,5 @@
 -- What the effect of an order can be: five forms, whichever the order.
-use Rattle.std.proofs.Common.{◌≡◌, ℕ, List, ◌∷◌, Bool, true, false, not, ◌&&◌, Option, Some, None, Result, Ok, Err, ◌⊎◌, inl, inr, refl, sym, ap, subst, ◌∙◌}
+use Rattle.std.proofs.Common.{◌≡◌, ℕ, List, false, not, ◌&&◌, Option, Some, None, Ok, Err, ◌⊎◌, inl, inr, refl, ap}
 use Rattle.vh_base.specs.declared.orders.Answer.{Answer}
 use Rattle.vh_base.specs.declared.orders.Answer.TheVariants as answer
 use Rattle.vh_base.specs.declared.orders.BodyName.{BodyName}
@@ -9,16 +9,15 @@ use Rattle.vh_base.specs.declared.orders.Order.TheVariants as order
 use Rattle.vh_base.specs.declared.words.Code.{Code}
 use Rattle.vh_base.specs.declared.words.Code.TheVariants as code
 use Rattle.vh_base.specs.declared.words.Reason.{Reason}
-use Rattle.vh_base.specs.Checks.{unless, with_some, with_ok}
 use Rattle.vh_base.proofs.ChecksLemmas.{unless-holds, with_some-holds, with_ok-holds}
 use Rattle.vh_callbacks.specs.Callbacks.{is_full as no_callback_more, registered}
 use Rattle.vh_kernel.specs.declared.activation.Body.{Body}
 use Rattle.vh_kernel.specs.declared.activation.Who.{Who}
 use Rattle.vh_kernel.specs.declared.handles.Thing.{Thing}
 use Rattle.vh_kernel.specs.declared.handles.Thing.TheVariants as thing
-use Rattle.vh_kernel.specs.Handles.{thing_at, opened, is_full as no_handle_more}
+use Rattle.vh_kernel.specs.Handles.{thing_at, opened, no_handle_more}
 use Rattle.vh_kernel.specs.Names.{object_named, whole}
-use Rattle.vh_kernel.specs.Orders.{Effect, answers, opens, is_startup, callback_in, name_meant, new_handle, needs_object, needs_entry, object_watched, body_named, new_callback, registration_of, without_callback, handles_read, all_named, not_yet, effect_of}
+use Rattle.vh_kernel.specs.Orders.{Effect, answers, opens, is_startup, callback_in, name_meant, new_handle, needs_object, needs_entry, object_watched, body_named, registration_of, without_callback, handles_read, all_named, not_yet, effect_of}
 use Rattle.vh_kernel.specs.Outcome.{silently}
 use Rattle.vh_kernel.specs.State.{State}
 

@@ -1,5 +1,5 @@
 -- But for the numbers of handles a run is one list of labels.
-use Rattle.std.proofs.Common.{◌≡◌, ℕ, List, [], ◌∷◌, Bool, true, false, cond, Option, Some, None, Result, Ok, Err, slice_get, slice_set, refl, sym, ap, subst, ◌∙◌, ◌⊎◌, inl, inr}
+use Rattle.std.proofs.Common.{◌≡◌, ℕ, List, [], ◌∷◌, Bool, true, false, cond, Option, Some, None, Ok, Err, slice_get, slice_set, refl, sym, ap, subst, ◌∙◌, ◌⊎◌, inl, inr}
 use Rattle.vh_base.specs.declared.orders.Answer.{Answer}
 use Rattle.vh_base.specs.declared.orders.Answer.TheVariants as answer
 use Rattle.vh_base.specs.declared.orders.Order.{Order}
@@ -7,7 +7,6 @@ use Rattle.vh_app.specs.declared.point.Point.{Point}
 use Rattle.vh_app.specs.Next.{next_of as next_order}
 use Rattle.vh_app.specs.Script.{ScriptData}
 use Rattle.vh_kernel.specs.declared.activation.Activation.{Activation}
-use Rattle.vh_kernel.specs.declared.activation.Who.{Who}
 use Rattle.vh_kernel.specs.declared.control.Control.{Control}
 use Rattle.vh_kernel.specs.declared.control.Control.TheVariants as top
 use Rattle.vh_kernel.specs.declared.events.Entry.{Entry}
@@ -25,10 +24,10 @@ use Rattle.vh_kernel.specs.Statements.{next_statement, statement_outcome}
 use Rattle.vh_kernel.specs.declared.label.Label.{Label}
 use Rattle.vh_kernel.specs.declared.label.Label.TheVariants as label
 use Rattle.vh_kernel.specs.Orders.{Given, Effect, answered, effect_of, is_return}
-use Rattle.vh_kernel.specs.Outcome.{Made, Outcome, Move, silently, move_of, after_made}
-use Rattle.vh_kernel.specs.Run.{Chooser, chooser_after, IsRun, move_from, moves_with, handle_in, given_in, all_given, OneRun}
+use Rattle.vh_kernel.specs.Outcome.{Outcome, Move, silently, move_of}
+use Rattle.vh_kernel.specs.Run.{Chooser, chooser_after, move_from, moves_with, handle_in, given_in, all_given, OneRun}
 use Rattle.vh_kernel.specs.State.{State, with_top, without_top, without_item}
-use Rattle.vh_kernel.specs.Step.{FitsAnswer, Fits, IsStep, fire_move, telling_outcome, work_outcome, time_move, region_move, pick_move, agenda_move, idle_move, resumed, answer_move, order_move, next_move_of, activation_move, item_move, top_move, crowded_move, is_crowded, settled_move, step_of, choices_of, is_end}
+use Rattle.vh_kernel.specs.Step.{FitsAnswer, Fits, IsStep, fire_move, telling_outcome, work_outcome, time_move, region_move, pick_move, agenda_move, idle_move, resumed, answer_move, order_move, activation_move, item_move, top_move, crowded_move, is_crowded, settled_move, step_of, choices_of, is_end}
 use Rattle.vh_kernel.proofs.OrdersLemmas.{IsForm, refuses, answers_only, opens_object, registers, removes, effect-form}
 use Rattle.vh_kernel.proofs.StepLemmas.{IsQuiet, quiet-by}
 

@@ -1,14 +1,11 @@
 -- Serials rise from the opening on, and each is given once.
-use Rattle.std.proofs.Common.{◌≡◌, ℕ, zero, suc, ◌+◌, ◌-◌, ◌<◌, ◌≤◌, List, [], ◌∷◌, ◌++◌, map, filter, length, Bool, true, false, not, cond, nat_eq, nat_lt, nat_le, Option, Some, None, Result, Ok, Err, slice_get, bytes_eq, refl, sym, ap, subst, ◌∙◌, arith, inl, inr}
+use Rattle.std.proofs.Common.{◌≡◌, ℕ, zero, suc, ◌+◌, ◌-◌, ◌≤◌, List, [], ◌∷◌, ◌++◌, filter, length, Bool, true, false, not, cond, nat_eq, nat_lt, nat_le, Option, Some, None, Ok, slice_get, bytes_eq, refl, sym, ap, subst, arith, inl, inr}
 use Rattle.vh_base.specs.declared.limits.TheConstants.{MOST_FRAMES, MOST_NUMBERS, MOST_TIME}
-use Rattle.vh_base.specs.declared.faults.Cause.{Cause}
 use Rattle.vh_base.specs.declared.faults.Fault.TheVariants as fault
-use Rattle.vh_base.specs.declared.first.First.{First}
 use Rattle.vh_base.specs.declared.first.FirstBit.{FirstBit}
 use Rattle.vh_base.specs.declared.first.FirstCode.{FirstCode}
 use Rattle.vh_base.specs.declared.first.FirstCode.TheVariants as code
 use Rattle.vh_base.proofs.ChecksLemmas.{unless-holds}
-use Rattle.vh_app.specs.Script.{ScriptData}
 use Rattle.vh_callbacks.specs.Callbacks.{info_of, body_of}
 use Rattle.vh_kernel.specs.declared.control.Control.TheVariants as top
 use Rattle.vh_kernel.specs.declared.events.Entry.{Entry}
@@ -21,16 +18,16 @@ use Rattle.vh_kernel.specs.declared.label.Region.{Region}
 use Rattle.vh_kernel.specs.declared.label.Region.TheVariants as region
 use Rattle.vh_kernel.specs.declared.phase.Phase.TheVariants as phase
 use Rattle.vh_kernel.specs.Control.{frames}
-use Rattle.vh_kernel.specs.Events.{Events, is_due, is_ripe, any_due, eligible, without_serial, activated_entry, activated_of, advanced, is_full, evaluations}
+use Rattle.vh_kernel.specs.Events.{Events, is_due, is_ripe, any_due, eligible, activated_entry, activated_of, advanced, is_full, evaluations}
 use Rattle.vh_kernel.specs.Numbers.{without_number}
 use Rattle.vh_kernel.specs.Occurrences.{Occurrence, bit_text}
-use Rattle.vh_kernel.specs.Outcome.{Made, Outcome, Move, silently, after_made}
+use Rattle.vh_kernel.specs.Outcome.{Made, Outcome, Move, after_made}
 use Rattle.vh_kernel.specs.Settle.{settled}
 use Rattle.vh_kernel.specs.State.{State, before_all, with_top, without_top, without_item}
 use Rattle.vh_kernel.specs.Statements.{next_statement, going_on, value_outcome, statement_outcome}
-use Rattle.vh_kernel.specs.Step.{called, started, finish_move, activation_move, work_outcome, telling_outcome, is_end}
-use Rattle.vh_kernel.specs.Table.{Rises, IsSound, TellsNext, Acts, Row, Step, StaysSound, OpensSound}
-use Rattle.vh_kernel.proofs.StepLemmas.{IsKept, AllMade, either-made, acts, acts-kept, called-kept, started-kept}
+use Rattle.vh_kernel.specs.Step.{called, started, finish_move, work_outcome, telling_outcome, is_end}
+use Rattle.vh_kernel.specs.Table.{Rises, IsSound, TellsNext, Acts, Row, StaysSound, OpensSound}
+use Rattle.vh_kernel.proofs.StepLemmas.{AllMade, either-made, acts, acts-kept, called-kept, started-kept}
 
 -- Rising serials: below a lower bound, without some entries, with another region, with one more.
 rises_lower : (low lower high : ℕ) (es : List Entry) → lower ≤ low → Rises low high es → Rises lower high es

@@ -1,8 +1,7 @@
 -- What a step leaves: which outcomes keep the queue and the phase, and that the machine goes on after a
 -- label that is no end.
-use Rattle.std.proofs.Common.{◌≡◌, ◌<◌, ◌+◌, ◌-◌, nat_le, ℕ, List, [], ◌∷◌, length, max, Bool, true, false, cond, Option, Some, None, Result, Ok, Err, nat_lt, slice_get, slice_set, bytes_eq, refl, sym, ap, subst, ◌∙◌, arith}
+use Rattle.std.proofs.Common.{◌≡◌, ◌<◌, ◌+◌, ◌-◌, nat_le, ℕ, List, ◌∷◌, length, max, Bool, true, false, cond, Option, Some, None, Ok, Err, nat_lt, slice_get, slice_set, bytes_eq, refl, sym, ap, subst, ◌∙◌, arith}
 use Rattle.vh_base.specs.declared.limits.TheConstants.{MOST_FRAMES, MOST_NUMBERS, MOST_TIME}
-use Rattle.vh_base.specs.declared.faults.Fault.{Fault}
 use Rattle.vh_base.specs.declared.faults.Fault.TheVariants as fault
 use Rattle.vh_base.specs.declared.first.First.{First}
 use Rattle.vh_base.specs.declared.first.FirstBit.{FirstBit}
@@ -38,9 +37,9 @@ use Rattle.vh_kernel.specs.Occurrences.{Occurrence, occurrence_of, bit_text}
 use Rattle.vh_kernel.specs.Orders.{Given, Effect, answered, effect_of, is_return, error_in}
 use Rattle.vh_kernel.specs.Outcome.{Made, Outcome, Move, silently, move_of}
 use Rattle.vh_kernel.specs.Settle.{settled, opening}
-use Rattle.vh_kernel.specs.State.{State, before_all, with_top, without_top, without_item}
-use Rattle.vh_kernel.specs.Statements.{next_statement, past_statement, going_on, value_outcome, statement_outcome}
-use Rattle.vh_kernel.specs.Step.{telling_outcome, occurrence_move, called, fire_move, resumed, answer_move, order_move, next_move_of, activation_move, work_outcome, time_move, region_move, pick_move, started, agenda_move, idle_move, item_move, top_move, crowded_move, is_crowded, is_end, step_of, is_over, item_choices, agenda_choices, idle_choices, top_choices, choices_of}
+use Rattle.vh_kernel.specs.State.{State, with_top, without_top, without_item}
+use Rattle.vh_kernel.specs.Statements.{next_statement, going_on, value_outcome, statement_outcome}
+use Rattle.vh_kernel.specs.Step.{telling_outcome, called, fire_move, resumed, order_move, activation_move, work_outcome, time_move, region_move, pick_move, started, agenda_move, idle_move, item_move, top_move, crowded_move, is_crowded, is_end, step_of, is_over, item_choices, agenda_choices, idle_choices, top_choices, choices_of}
 use Rattle.vh_kernel.proofs.OrdersLemmas.{IsForm, refuses, answers_only, opens_object, registers, removes, effect-form}
 
 -- The second state has the queue and the phase of the first.

@@ -1,14 +1,10 @@
 -- The step and its table are one.
-use Rattle.std.proofs.Common.{◌≡◌, ℕ, zero, suc, ◌+◌, ◌-◌, ◌<◌, ◌≤◌, drop, List, [], ◌∷◌, ◌++◌, map, length, max, Bool, true, false, cond, Option, Some, None, Result, Ok, Err, slice_get, slice_set, nat_lt, nat_le, refl, sym, ap, subst, ◌∙◌, arith, ◌⊎◌, inl, inr, get_or}
+use Rattle.std.proofs.Common.{◌≡◌, ℕ, ◌<◌, drop, List, [], ◌∷◌, length, max, Bool, true, false, cond, Option, Some, None, Ok, Err, slice_get, refl, sym, ap, subst, ◌∙◌, arith, inl, inr, get_or}
 use Rattle.std.proofs.lemmas.Option.{slice_get-get_or, slice_get_within}
 use Rattle.vh_base.specs.declared.faults.Cause.{Cause}
-use Rattle.vh_base.specs.declared.faults.Cause.TheVariants as cause
 use Rattle.vh_base.specs.declared.faults.Fault.{Fault}
-use Rattle.vh_base.specs.declared.faults.Fault.TheVariants as fault
 use Rattle.vh_base.specs.declared.orders.Object.{Object}
 use Rattle.vh_base.specs.declared.words.Reason.{Reason}
-use Rattle.vh_app.specs.Script.{ScriptData}
-use Rattle.vh_callbacks.specs.Callbacks.{info_of, body_of}
 use Rattle.vh_kernel.specs.declared.activation.Activation.{Activation}
 use Rattle.vh_kernel.specs.declared.control.Control.{Control}
 use Rattle.vh_kernel.specs.declared.control.Control.TheVariants as top
@@ -24,17 +20,14 @@ use Rattle.vh_kernel.specs.declared.occurrence.Agendum.TheVariants as agendum
 use Rattle.vh_kernel.specs.declared.occurrence.Frame.{Frame}
 use Rattle.vh_kernel.specs.declared.phase.Phase.{Phase}
 use Rattle.vh_kernel.specs.declared.phase.Phase.TheVariants as phase
-use Rattle.vh_kernel.specs.Control.{frames}
-use Rattle.vh_kernel.specs.Events.{eligible, without_serial, next_region, activated_of, least_time, advanced}
-use Rattle.vh_kernel.specs.Numbers.{without_number}
+use Rattle.vh_kernel.specs.Events.{eligible, without_serial, next_region, least_time}
 use Rattle.vh_kernel.specs.Occurrences.{Occurrence, occurrence_of}
 use Rattle.vh_kernel.specs.Orders.{Given}
-use Rattle.vh_kernel.specs.Outcome.{Made, Outcome, Move, after_made, move_of, end_move}
-use Rattle.vh_kernel.specs.Settle.{settled}
+use Rattle.vh_kernel.specs.Outcome.{Outcome, Move, after_made, move_of, end_move}
 use Rattle.vh_kernel.specs.State.{State, with_top, without_top, without_item}
 use Rattle.vh_kernel.specs.Statements.{next_statement, statement_outcome}
-use Rattle.vh_kernel.specs.Step.{telling_outcome, occurrence_move, called, fire_move, activation_move, work_outcome, time_move, region_move, pick_move, started, agenda_move, idle_move, item_move, top_move, crowded_move, is_crowded, is_end, is_over, settled_move, step_of, Fits, IsStep, finish_move, item_choices, agenda_choices, idle_choices, top_choices, choices_of}
-use Rattle.vh_kernel.specs.Table.{IsGoing, HasTop, HasNext, IsCalm, TellsNext, Exceeds, by_entries, by_statement, by_occurrence, FinishIsDue, Leaves, Acts, Tells, Fires, Closes, Picks, Performs, Row, Step, StepsByTable, TableBySteps}
+use Rattle.vh_kernel.specs.Step.{telling_outcome, fire_move, activation_move, work_outcome, time_move, region_move, pick_move, agenda_move, idle_move, item_move, top_move, crowded_move, is_crowded, is_over, settled_move, Fits, finish_move, item_choices, agenda_choices, idle_choices, top_choices, choices_of}
+use Rattle.vh_kernel.specs.Table.{IsGoing, HasTop, HasNext, IsCalm, TellsNext, Exceeds, by_entries, by_statement, by_occurrence, Row, Step, StepsByTable, TableBySteps}
 use Rattle.vh_kernel.proofs.StepLemmas.{IsActing, returns, orders, acts, not-over, some-choice}
 
 abbrev HasRow : State → Move → Type 0

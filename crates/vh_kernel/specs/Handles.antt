@@ -1,7 +1,7 @@
 -- Handles: a finite map from live numbers to what they name, kept as the list of its entries by rising
 -- number; and of all numbers ever given the test whether a number is among them, and how many they
 -- are. (IEEE 1364-2005, clause 26; that a number isn't given again is own)
-use Rattle.std.specs.Prelude.{ℕ, ◌+◌, List, [], ◌∷◌, length, Bool, false, ◌||◌, ◌==◌, nat_le, nat_lt, Option}
+use Rattle.std.specs.Prelude.{ℕ, ◌+◌, List, [], length, Bool, false, ◌||◌, ◌==◌, nat_le, nat_lt, Option}
 use Rattle.std.specs.BTreeMap.{is_at, insert_entry}
 use Rattle.std.specs.Map.{lookup, remove_entry}
 use Rattle.std.specs.Ordering.{nat_cmp}
@@ -22,8 +22,8 @@ abbrev pub thing_at : ℕ → Handles → Option Thing
 thing_at h s = lookup (is_at (nat_cmp h)) s.live
 
 -- No handle may be given where 65,536 are live, or where 2^63 numbers were given. (own)
-abbrev pub is_full : Handles → Bool
-is_full s = nat_le MOST_HANDLES (length s.live) || nat_le MOST_NUMBERS s.count
+abbrev pub no_handle_more : Handles → Bool
+no_handle_more s = nat_le MOST_HANDLES (length s.live) || nat_le MOST_NUMBERS s.count
 
 -- The number names the thing from now on.
 abbrev pub opened : ℕ → Thing → Handles → Handles

@@ -1,5 +1,5 @@
 -- The names of a design's objects. (IEEE 1364-2005, 12.5)
-use Rattle.std.specs.Prelude.{ℕ, ◌+◌, ◌++◌, List, [], ◌∷◌, map, Bool, ◌==◌, Option, None, bytes_eq, position, slice_get, unwrap_or}
+use Rattle.std.specs.Prelude.{ℕ, ◌++◌, List, [], ◌∷◌, map, Bool, ◌==◌, Option, None, bytes_eq, position, slice_get, unwrap_or}
 use Rattle.vh_base.specs.declared.first.First.{First}
 use Rattle.vh_base.specs.declared.orders.Object.{Object}
 

@@ -1,6 +1,6 @@
 -- What an order is answered and what it changes: a row for each order, its checks in the row's order.
 -- (IEEE 1364-2005, clause 27, in this project's profile; the codes of errors are own)
-use Rattle.std.specs.Prelude.{ℕ, List, [], ◌∷◌, Bool, true, false, if◌then◌else◌, not, ◌&&◌, Option, Some, None, is_some, Result, Ok, Err, bytes_eq, ok_or, option_map, option_and_then, position, slice_get}
+use Rattle.std.specs.Prelude.{ℕ, List, [], ◌∷◌, Bool, true, false, if◌then◌else◌, not, ◌&&◌, Option, Some, None, is_some, Result, Ok, Err, bytes_eq, ok_or, option_map, position, slice_get}
 use Rattle.vh_base.specs.declared.orders.Answer.{Answer}
 use Rattle.vh_base.specs.declared.orders.Answer.TheVariants as answer
 use Rattle.vh_base.specs.declared.orders.BodyName.{BodyName}
@@ -25,7 +25,7 @@ use Rattle.vh_kernel.specs.declared.activation.Who.TheVariants as who_is
 use Rattle.vh_kernel.specs.Control.{without_all}
 use Rattle.vh_kernel.specs.declared.handles.Thing.{Thing}
 use Rattle.vh_kernel.specs.declared.handles.Thing.TheVariants as thing
-use Rattle.vh_kernel.specs.Handles.{thing_at, opened, freed, is_full as no_handle_more}
+use Rattle.vh_kernel.specs.Handles.{thing_at, opened, freed, no_handle_more}
 use Rattle.vh_kernel.specs.Names.{object_named, name_of, below, whole, is_scope}
 use Rattle.vh_kernel.specs.Outcome.{Outcome, silently}
 use Rattle.vh_kernel.specs.State.{State}

@@ -1,6 +1,6 @@
 -- What is dropped before the next label: an occurrence that no callback watches takes none.
 -- (IEEE 1364-2005, 27.33; that it takes no label is own)
-use Rattle.std.specs.Prelude.{List, [], ◌∷◌, Bool, true, false, if◌then◌else◌, is_some, slice_get}
+use Rattle.std.specs.Prelude.{List, [], ◌∷◌, Bool, false, if◌then◌else◌, is_some, slice_get}
 use Rattle.vh_base.specs.declared.first.First.{First}
 use Rattle.vh_app.specs.Script.{ScriptData}
 use Rattle.vh_callbacks.specs.Callbacks.{Callbacks}

@@ -1,6 +1,6 @@
 -- The machine's step: a state, a choice and what is given besides it make the label and the state after
 -- it. (IEEE 1364-2005, 11.4 and 27.33; the numbers that end a run are own.)
-use Rattle.std.specs.Prelude.{◌≡◌, ⊤, ℕ, ◌+◌, ◌-◌, List, [], ◌∷◌, length, max, min, Bool, true, false, if◌then◌else◌, nat_le, nat_lt, Option, Some, None, Result, Ok, Err, slice_get, slice_set}
+use Rattle.std.specs.Prelude.{◌≡◌, ⊤, ℕ, ◌+◌, ◌-◌, List, [], ◌∷◌, length, max, min, Bool, true, false, if◌then◌else◌, nat_le, nat_lt, Option, Some, None, Ok, Err, slice_get, slice_set}
 use Rattle.vh_base.specs.declared.limits.TheConstants.{MOST_ENTRIES, MOST_FRAMES, MOST_NUMBERS}
 use Rattle.vh_base.specs.declared.faults.Cause.{Cause}
 use Rattle.vh_base.specs.declared.faults.Cause.TheVariants as cause

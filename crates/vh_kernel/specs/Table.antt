@@ -26,7 +26,7 @@ use Rattle.vh_kernel.specs.Events.{eligible, without_serial, next_region, activa
 use Rattle.vh_kernel.specs.Numbers.{without_number}
 use Rattle.vh_kernel.specs.Occurrences.{Occurrence, occurrence_of}
 use Rattle.vh_kernel.specs.Orders.{Given}
-use Rattle.vh_kernel.specs.Outcome.{Made, Move, after_made}
+use Rattle.vh_kernel.specs.Outcome.{Made, after_made}
 use Rattle.vh_kernel.specs.Settle.{settled, opening}
 use Rattle.vh_kernel.specs.State.{State, with_top, without_top, without_item}
 use Rattle.vh_kernel.specs.Statements.{next_statement, statement_outcome}

@@ -38,7 +38,7 @@ Moves m (Ok l) k = m ≡ (l, state_of k)
 Moves m (Err e) k = ⊤
 
 -- What an order does to a kernel: it is answered as its row says, or refused with nothing changed.
-abbrev pub Performs : Effect → Kernel → Result Answer Halt → Kernel → Type 0
-Performs e old (Ok a) new = answered e (state_of old) (given_by old) ≡ (a, silently (state_of new))
-Performs e old (Err (halt.Refused c)) new = (e ≡ Err c) × (state_of new ≡ state_of old)
-Performs e old (Err halt.NoMemory) new = ⊤
+abbrev pub HasEffect : Effect → Kernel → Result Answer Halt → Kernel → Type 0
+HasEffect e old (Ok a) new = answered e (state_of old) (given_by old) ≡ (a, silently (state_of new))
+HasEffect e old (Err (halt.Refused c)) new = (e ≡ Err c) × (state_of new ≡ state_of old)
+HasEffect e old (Err halt.NoMemory) new = ⊤

@@ -1,5 +1,5 @@
 ghost use Rattle.std.specs.Prelude.{◌≡◌, false, length, option_copied, IfOk, OnErr};
-ghost use Rattle.vh_kernel.specs.Handles.{Numbered, no_handles, handles_of, thing_at, opened, freed, is_full};
+ghost use Rattle.vh_kernel.specs.Handles.{Numbered, no_handles, handles_of, thing_at, opened, freed, no_handle_more};
 
 use std::alloc::Global;
 use std::collections::BTreeMap;
@@ -57,14 +57,14 @@ impl Handles {
 
     /// May no handle be given? So many are live, or the numbers are used up.
     pub fn is_full(&self) -> bool
-        ensures { result ≡ is_full (handles_of self.now) }
+        ensures { result ≡ no_handle_more (handles_of self.now) }
     {
         self.live.len() >= MOST_HANDLES || self.next >= MOST_NUMBERS
     }
 
     /// Gives the next number to a thing.
     pub fn open(&mut self, thing: Thing) -> Result<HandleNo, NoMemory>
-        requires { is_full (handles_of self.old) ≡ false }
+        requires { no_handle_more (handles_of self.old) ≡ false }
         ensures number { IfOk result (λ h. h ≡ (self.old).next) }
         ensures opens { IfOk result (λ h. handles_of self.new ≡ opened h thing (handles_of self.old)) }
     {

@@ -1,9 +1,8 @@
 -- What the callbacks keep in a step: they stay, or one is registered, or one is removed.
-use Rattle.std.proofs.Common.{◌≡◌, ℕ, ◌+◌, ◌<◌, ◌≤◌, ◌⊎◌, List, [], ◌∷◌, Bool, true, false, cond, not, ◌||◌, nat_eq, nat_le, Option, Some, None, is_some, refl, sym, ap, subst, ◌∙◌, arith, inl, inr}
+use Rattle.std.proofs.Common.{◌≡◌, ℕ, ◌+◌, ◌<◌, ◌≤◌, List, [], ◌∷◌, Bool, true, false, cond, not, ◌||◌, nat_eq, nat_le, Option, Some, None, is_some, refl, sym, ap, subst, ◌∙◌, arith}
 use Rattle.std.proofs.lemmas.Bool.{eqb-true, eq-eqb, ne_eqb, leb-true, leb-false}
 use Rattle.std.specs.Option.{option_map}
 use Rattle.vh_base.specs.declared.orders.Answer.{Answer}
-use Rattle.vh_base.specs.declared.orders.Answer.TheVariants as answer
 use Rattle.vh_base.specs.declared.orders.Object.{Object}
 use Rattle.vh_base.specs.declared.orders.Order.{Order}
 use Rattle.vh_base.specs.declared.words.Reason.{Reason}
@@ -16,7 +15,6 @@ use Rattle.vh_callbacks.proofs.Telling.{next_is_new, keeps_registered, tells_rem
 use Rattle.vh_callbacks.proofs.Matching.{matching_is_set}
 use Rattle.vh_kernel.specs.declared.activation.Body.{Body}
 use Rattle.vh_kernel.specs.declared.label.Label.{Label}
-use Rattle.vh_kernel.specs.declared.label.Label.TheVariants as label
 use Rattle.vh_kernel.specs.Numbers.{without_number}
 use Rattle.vh_kernel.specs.Occurrences.{Occurrence, set_of, set_by}
 use Rattle.vh_kernel.specs.State.{State}

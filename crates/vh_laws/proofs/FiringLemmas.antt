@@ -7,8 +7,7 @@ use Rattle.vh_base.specs.declared.orders.Object.{Object}
 use Rattle.vh_base.specs.declared.orders.Order.{Order}
 use Rattle.vh_base.specs.declared.orders.Order.TheVariants as order
 use Rattle.vh_base.specs.declared.words.Reason.{Reason}
-use Rattle.vh_callbacks.specs.declared.registration.Registration.{Registration}
-use Rattle.vh_callbacks.specs.Callbacks.{Callbacks, is_live, registered, removed, IsSound}
+use Rattle.vh_callbacks.specs.Callbacks.{Callbacks, is_live, removed, IsSound}
 use Rattle.vh_kernel.specs.declared.activation.Body.{Body}
 use Rattle.vh_kernel.specs.declared.activation.Who.{Who}
 use Rattle.vh_kernel.specs.declared.handles.Thing.{Thing}
@@ -21,10 +20,10 @@ use Rattle.vh_kernel.specs.Numbers.{without_number}
 use Rattle.vh_kernel.specs.Occurrences.{Occurrence, set_of}
 use Rattle.vh_kernel.specs.Outcome.{Move}
 use Rattle.vh_kernel.specs.State.{State}
-use Rattle.vh_laws.specs.Firing.{frames_of, TopFrame, IsTelling, TellsOnce, WasTold, FiresRight, FiresOnce, left_of, KeepsSets, LeavesNone, DoneOnce, ClosesInOrder, IsRemoval, GoesByRemoval, IsGone, RemovesForGood}
+use Rattle.vh_laws.specs.Firing.{frames_of, IsTelling, TellsOnce, WasTold, FiresOnce, left_of, KeepsSets, LeavesNone, DoneOnce, ClosesInOrder, IsRemoval, GoesByRemoval, RemovesForGood}
 use Rattle.vh_laws.specs.Laws.{KeepsFiringLaw}
 use Rattle.vh_laws.specs.Paths.{Deed, tells, fires, closes, answers, other, deed_of, fires_for, fires_any, tells_of, closes_of, is_among, is_told, is_fire, is_fire_of, is_done, any, was_removed, IsPath, end_of}
-use Rattle.vh_laws.proofs.CallbacksLemmas.{ChangesByOne, stays, adds, drops, works-turn, turns_sound, turns_next, stays_gone, set-live, live_low, live_registered, live_removed, gone_removed, among_less}
+use Rattle.vh_laws.proofs.CallbacksLemmas.{ChangesByOne, works-turn, turns_sound, turns_next, stays_gone, set-live, live_low, live_registered, live_removed, gone_removed, among_less}
 use Rattle.vh_laws.proofs.HandlesLemmas.{NumbersRise, works-hand, stays-climbing, other_more, same_more, other_less, freed-none}
 use Rattle.vh_laws.proofs.SetsLemmas.{Falls, falls-below, works-falls, works-number, HasSet, has-on, filter-among, map-at}
 use Rattle.vh_laws.proofs.Splits.{either, not_both, or_left, or_right, or_false, path_split, path_at}

@@ -1,6 +1,6 @@
 -- The handle law.
-use Rattle.std.proofs.Common.{◌≡◌, ℕ, List, [], ◌∷◌, ◌++◌, Bool, true, false, not, ◌&&◌, ◌||◌, nat_eq, Option, Some, None, is_some, Result, Ok, Err, slice_get, refl, sym, ap, subst, ◌∙◌, ◌⊎◌, inl, inr, append_assoc}
-use Rattle.std.proofs.lemmas.Bool.{eqb-true, eq-eqb, ne_eqb, and_parts, or_parts}
+use Rattle.std.proofs.Common.{◌≡◌, ℕ, List, [], ◌∷◌, ◌++◌, Bool, true, false, not, ◌&&◌, ◌||◌, nat_eq, Option, Some, None, is_some, Result, Err, slice_get, refl, sym, ap, subst, ◌∙◌, ◌⊎◌, inl, inr, append_assoc}
+use Rattle.std.proofs.lemmas.Bool.{eqb-true, eq-eqb, and_parts}
 use Rattle.std.specs.List.{list_any, position}
 use Rattle.std.specs.Option.{ok_or}
 use Rattle.std.specs.Prelude.{bytes_eq}
@@ -15,36 +15,34 @@ use Rattle.vh_base.specs.declared.words.Code.{Code}
 use Rattle.vh_base.specs.declared.words.Code.TheVariants as code
 use Rattle.vh_base.specs.declared.words.Reason.{Reason}
 use Rattle.vh_base.specs.declared.words.Reason.TheVariants as reason
-use Rattle.vh_base.specs.Checks.{unless, with_some, with_ok}
+use Rattle.vh_base.specs.Checks.{with_ok}
 use Rattle.vh_base.proofs.ChecksLemmas.{unless-holds, with_some-holds, with_ok-holds}
 use Rattle.vh_app.specs.Script.{ScriptData}
-use Rattle.vh_callbacks.specs.Callbacks.{Callbacks, info_of, body_of, registered, is_full as no_callback_more}
+use Rattle.vh_callbacks.specs.Callbacks.{info_of, body_of, is_full as no_callback_more}
 use Rattle.vh_callbacks.proofs.Telling.{tells_registered}
 use Rattle.vh_kernel.specs.declared.activation.Activation.{Activation}
 use Rattle.vh_kernel.specs.declared.activation.Body.{Body}
 use Rattle.vh_kernel.specs.declared.activation.Who.{Who}
-use Rattle.vh_kernel.specs.declared.activation.Who.TheVariants as who_is
-use Rattle.vh_kernel.specs.declared.control.Control.TheVariants as top
 use Rattle.vh_kernel.specs.declared.handles.Thing.{Thing}
 use Rattle.vh_kernel.specs.declared.handles.Thing.TheVariants as thing
 use Rattle.vh_kernel.specs.declared.label.Label.{Label}
 use Rattle.vh_kernel.specs.declared.label.Label.TheVariants as label
-use Rattle.vh_kernel.specs.Handles.{Handles, thing_at, opened, freed, is_full as no_handle_more}
+use Rattle.vh_kernel.specs.Handles.{Handles, thing_at, opened, freed, no_handle_more}
 use Rattle.vh_kernel.specs.Names.{object_named, is_scope}
-use Rattle.vh_kernel.specs.Orders.{Given, Effect, answered, effect_of, is_startup, object_in, callback_in, name_meant, new_handle, needs_object, needs_entry, object_watched, body_named, start_in, new_callback, registration_of, handle_or_null, handle_if, handles_read, is_named, all_named, not_yet}
-use Rattle.vh_kernel.specs.Outcome.{Move, Outcome, silently}
+use Rattle.vh_kernel.specs.Orders.{Given, Effect, answered, effect_of, is_startup, object_in, callback_in, name_meant, new_handle, needs_object, needs_entry, object_watched, body_named, start_in, registration_of, handle_or_null, handle_if, handles_read, is_named, all_named, not_yet}
+use Rattle.vh_kernel.specs.Outcome.{Move}
 use Rattle.vh_kernel.specs.State.{State, without_top}
-use Rattle.vh_kernel.specs.Table.{Acts, Row, Step}
+use Rattle.vh_kernel.specs.Table.{Acts, Step}
 use Rattle.vh_kernel.proofs.OrdersLemmas.{IsForm, refuses, answers_only, opens_object, registers, removes, effect-form}
 use Rattle.vh_kernel.proofs.StepLemmas.{IsActing, returns, orders, acts, with_variables}
 use Rattle.vh_kernel.proofs.TableLemmas.{steps-by-table}
-use Rattle.vh_laws.specs.HandleLaw.{is_handle, gives, gives_of, is_giving, reads, GivesOnce, FindsObject, Registers, GivesRight, GivesLive, NamesOne, FindsLive, FreedByRemoval, RemovalFrees, StaysFreed}
+use Rattle.vh_laws.specs.HandleLaw.{is_handle, gives, is_giving, reads, GivesOnce, GivesRight, GivesLive, NamesOne, FindsLive, FreedByRemoval, RemovalFrees, StaysFreed}
 use Rattle.vh_laws.specs.Laws.{KeepsHandleLaw}
-use Rattle.vh_laws.specs.Paths.{Deed, tells, fires, closes, answers, other, deed_of, any, IsMade, IsPath, end_of}
+use Rattle.vh_laws.specs.Paths.{tells, fires, closes, answers, other, deed_of, any, IsMade, IsPath, end_of}
 use Rattle.vh_laws.proofs.FiringLemmas.{Keeps, keeps-on, RemovedFrom, removed-from}
-use Rattle.vh_laws.proofs.HandlesLemmas.{NumbersRise, Hands, gives_none, frees_one, gives_one, works-hand, stays-given, gives-new, stays-climbing, names-still, freed-none, other_more, same_more, other_less}
+use Rattle.vh_laws.proofs.HandlesLemmas.{NumbersRise, Hands, works-hand, stays-given, gives-new, stays-climbing, names-still, freed-none, other_more, same_more, other_less}
 use Rattle.vh_laws.proofs.Splits.{either, not_both, or_false, path_split, path_at}
-use Rattle.vh_laws.proofs.Works.{View, view_of, IsPlain, Changes, changes_none, opens_one, registers_one, removes_one, RegistersAs, Works, works_none, empties, orders_one, tells_one, fires_one, closes_one}
+use Rattle.vh_laws.proofs.Works.{View, view_of, Changes, changes_none, opens_one, registers_one, removes_one, Works, works_none, empties, orders_one, tells_one, fires_one, closes_one}
 use Rattle.vh_laws.proofs.WorksLemmas.{made-works}
 
 hands : (s : State) (m : Move) → IsMade s m → Hands s.handles m.0 m.1.handles

@@ -16,7 +16,7 @@ use Rattle.vh_kernel.specs.declared.label.Label.TheVariants as label
 use Rattle.vh_kernel.specs.Handles.{Handles, thing_at, opened, freed}
 use Rattle.vh_kernel.specs.State.{State}
 use Rattle.vh_laws.specs.HandleLaw.{gives, gives_of, is_giving}
-use Rattle.vh_laws.specs.Paths.{Deed, deed_of, other}
+use Rattle.vh_laws.specs.Paths.{Deed}
 use Rattle.vh_laws.proofs.Splits.{not_both, or_right}
 use Rattle.vh_laws.proofs.Works.{View, IsPlain, Changes, changes_none, opens_one, registers_one, removes_one, Works, works_none, empties, orders_one, tells_one, fires_one, closes_one}
 

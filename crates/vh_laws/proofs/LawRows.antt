@@ -1,11 +1,10 @@
 -- Worked rows with one label changed: each is refused by a law.
-use Rattle.std.proofs.Common.{◌≡◌, ℕ, zero, suc, List, [], ◌∷◌, ◌++◌, take, drop, length, Bool, true, false, ◌||◌, Option, Some, None, slice_get, refl, sym, ap, subst, ◌∙◌, ◌⊎◌, inl, inr, append_assoc}
+use Rattle.std.proofs.Common.{◌≡◌, ℕ, List, [], ◌∷◌, ◌++◌, take, drop, Bool, true, false, Option, Some, None, slice_get, refl, sym, ap, ◌∙◌, inl, inr, append_assoc}
 use Rattle.std.specs.Prelude.{codes, unwrap_or}
 use Rattle.std.specs.Option.{option_map}
 use Rattle.vh_base.specs.declared.first.First.{First}
 use Rattle.vh_base.specs.declared.first.FirstCode.TheVariants as statement
 use Rattle.vh_base.specs.declared.first.FirstBit.TheVariants as bit
-use Rattle.vh_base.specs.declared.orders.Answer.{Answer}
 use Rattle.vh_base.specs.declared.orders.Answer.TheVariants as answer
 use Rattle.vh_base.specs.declared.orders.Order.TheVariants as order
 use Rattle.vh_base.specs.declared.words.Code.TheVariants as code
@@ -16,7 +15,6 @@ use Rattle.vh_app.specs.declared.command.Source.TheVariants as source
 use Rattle.vh_app.specs.Script.{ScriptData}
 use Rattle.vh_callbacks.specs.Callbacks.{is_live}
 use Rattle.vh_kernel.specs.declared.activation.Who.TheVariants as who_is
-use Rattle.vh_kernel.specs.declared.handles.Thing.{Thing}
 use Rattle.vh_kernel.specs.declared.handles.Thing.TheVariants as thing
 use Rattle.vh_kernel.specs.declared.label.Label.{Label}
 use Rattle.vh_kernel.specs.declared.label.Label.TheVariants as label
@@ -29,7 +27,7 @@ use Rattle.vh_kernel.specs.Run.{fifo, moves_of}
 use Rattle.vh_kernel.specs.Settle.{opening}
 use Rattle.vh_kernel.specs.State.{State}
 use Rattle.vh_laws.specs.Firing.{frames_of, IsTelling, TellsOnce, WasTold, FiresOnce, LeavesNone, DoneOnce, IsRemoval, RemovesForGood}
-use Rattle.vh_laws.specs.HandleLaw.{GivesOnce, GivesLive, GivesRight, FindsObject, Registers, FindsLive, RemovalFrees, StaysFreed}
+use Rattle.vh_laws.specs.HandleLaw.{GivesOnce, GivesLive, GivesRight, FindsLive, RemovalFrees, StaysFreed}
 use Rattle.vh_laws.specs.Paths.{is_among, is_told, is_fire, is_fire_of, is_done, any, was_removed, end_of}
 use Rattle.vh_laws.proofs.Splits.{not_both, or_left, or_right}
 

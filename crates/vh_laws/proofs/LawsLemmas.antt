@@ -1,10 +1,8 @@
 -- Every path from a fresh state keeps the laws, and so does every run.
-use Rattle.std.proofs.Common.{◌≡◌, ℕ, ◌<◌, ◌≤◌, List, [], ◌∷◌, Bool, true, false, Option, Some, None, slice_get, refl, sym, ap, subst, ◌∙◌, ◌⊎◌, inl, inr}
+use Rattle.std.proofs.Common.{◌≡◌, ℕ, ◌<◌, List, [], ◌∷◌, None, slice_get, refl, sym, ap, subst, inl, inr}
 use Rattle.vh_callbacks.proofs.Rising.{sound_opening}
 use Rattle.vh_kernel.specs.declared.activation.Body.{Body}
-use Rattle.vh_kernel.specs.declared.handles.Thing.{Thing}
-use Rattle.vh_kernel.specs.declared.handles.Thing.TheVariants as thing
-use Rattle.vh_kernel.specs.Handles.{Handles, thing_at, no_handles}
+use Rattle.vh_kernel.specs.Handles.{Handles, thing_at}
 use Rattle.vh_kernel.specs.Outcome.{Move}
 use Rattle.vh_kernel.specs.Run.{Chooser, fifo, chosen, chooser_after, IsRun}
 use Rattle.vh_kernel.specs.State.{State}
@@ -18,7 +16,7 @@ use Rattle.vh_laws.proofs.HandleLawLemmas.{handle-law}
 use Rattle.vh_laws.proofs.HandlesLemmas.{NumbersRise}
 use Rattle.vh_laws.proofs.SetsLemmas.{Falls}
 use Rattle.vh_laws.proofs.Splits.{either}
-use Rattle.vh_laws.proofs.Works.{View, view_of}
+use Rattle.vh_laws.proofs.Works.{view_of}
 
 -- In a fresh state nothing stands and nothing is named.
 fresh-keeps : (s : State) → IsFresh s → Keeps [] (view_of s)

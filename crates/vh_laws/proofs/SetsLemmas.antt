@@ -1,10 +1,10 @@
 -- The set of a frame, from its occurrence on.
-use Rattle.std.proofs.Common.{◌≡◌, ℕ, zero, suc, ◌+◌, ◌<◌, ◌≤◌, List, [], ◌∷◌, ◌++◌, map, filter, Bool, true, false, cond, not, ◌&&◌, ◌||◌, nat_eq, Option, Some, None, slice_get, refl, sym, ap, subst, ◌∙◌, arith, ◌⊎◌, inl, inr}
+use Rattle.std.proofs.Common.{◌≡◌, ℕ, zero, suc, ◌+◌, ◌<◌, ◌≤◌, List, [], ◌∷◌, map, filter, Bool, true, false, cond, not, ◌&&◌, ◌||◌, nat_eq, Some, slice_get, refl, sym, ap, subst, ◌∙◌, arith}
 use Rattle.std.proofs.Math.Path.{fun_ext}
-use Rattle.std.proofs.lemmas.Bool.{eqb-true, eq-eqb, ne_eqb, and_parts}
+use Rattle.std.proofs.lemmas.Bool.{eqb-true, eq-eqb, and_parts}
 use Rattle.vh_base.specs.declared.orders.Answer.{Answer}
 use Rattle.vh_base.specs.declared.orders.Order.{Order}
-use Rattle.vh_callbacks.specs.Callbacks.{Callbacks, is_live, registered, removed, IsSound}
+use Rattle.vh_callbacks.specs.Callbacks.{Callbacks, is_live, removed, IsSound}
 use Rattle.vh_kernel.specs.declared.activation.Body.{Body}
 use Rattle.vh_kernel.specs.declared.activation.Who.{Who}
 use Rattle.vh_kernel.specs.declared.label.Label.{Label}
@@ -16,9 +16,9 @@ use Rattle.vh_kernel.specs.Outcome.{Move}
 use Rattle.vh_kernel.specs.State.{State}
 use Rattle.vh_laws.specs.Firing.{frames_of, left_of}
 use Rattle.vh_laws.specs.Paths.{Deed, other, deed_of, fires_for, is_among, is_fire, any, was_removed, IsPath, end_of}
-use Rattle.vh_laws.proofs.CallbacksLemmas.{works-turn, turns_sound, live_low, live_registered, live_removed, gone_removed, turns_next}
+use Rattle.vh_laws.proofs.CallbacksLemmas.{works-turn, turns_sound, live_low, live_registered, live_removed, gone_removed}
 use Rattle.vh_laws.proofs.Splits.{not_both, or_right, or_left}
-use Rattle.vh_laws.proofs.Works.{View, view_of, taken_from, Changes, changes_none, opens_one, registers_one, removes_one, Works, works_none, empties, orders_one, tells_one, fires_one, closes_one}
+use Rattle.vh_laws.proofs.Works.{View, view_of, taken_from, changes_none, opens_one, registers_one, removes_one, Works, works_none, empties, orders_one, tells_one, fires_one, closes_one}
 use Rattle.vh_laws.proofs.WorksLemmas.{made-works}
 
 -- Lists and tests.

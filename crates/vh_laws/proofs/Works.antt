@@ -1,6 +1,6 @@
 -- What a label changes of that of which the laws speak: the frames, the callbacks, the handles and the
 -- number of the next occurrence. Each step of the machine is one of six kinds.
-use Rattle.std.proofs.Common.{◌≡◌, ℕ, ◌+◌, List, [], ◌∷◌, map, Bool, true, false, Option, Some, Result, Ok}
+use Rattle.std.proofs.Common.{◌≡◌, ℕ, ◌+◌, List, [], ◌∷◌, map, true, false, Option, Some, Ok}
 use Rattle.vh_base.specs.declared.orders.Answer.{Answer}
 use Rattle.vh_base.specs.declared.orders.Answer.TheVariants as answer
 use Rattle.vh_base.specs.declared.orders.BodyName.{BodyName}

@@ -1,8 +1,7 @@
 -- Each step of the machine is one of the six kinds.
-use Rattle.std.proofs.Common.{◌≡◌, ℕ, zero, suc, ◌+◌, ◌-◌, ◌<◌, List, [], ◌∷◌, ◌++◌, drop, map, Bool, true, false, cond, Option, Some, None, Result, Ok, Err, slice_get, nat_eq, nat_lt, nat_le, bytes_eq, refl, sym, ap, subst, ◌∙◌, ◌⊎◌, inl, inr}
+use Rattle.std.proofs.Common.{◌≡◌, ℕ, zero, suc, ◌+◌, ◌-◌, List, [], ◌∷◌, ◌++◌, drop, map, Bool, true, false, cond, Option, Some, None, Ok, Err, slice_get, nat_eq, nat_lt, nat_le, bytes_eq, refl, sym, ap, subst, ◌∙◌, ◌⊎◌, inl, inr}
 use Rattle.std.proofs.lemmas.Bool.{eq-eqb}
 use Rattle.vh_base.specs.declared.limits.TheConstants.{MOST_FRAMES, MOST_NUMBERS, MOST_TIME}
-use Rattle.vh_base.specs.declared.faults.Fault.{Fault}
 use Rattle.vh_base.specs.declared.faults.Fault.TheVariants as fault
 use Rattle.vh_base.specs.declared.first.FirstBit.{FirstBit}
 use Rattle.vh_base.specs.declared.first.FirstCode.{FirstCode}
@@ -10,7 +9,6 @@ use Rattle.vh_base.specs.declared.first.FirstCode.TheVariants as code
 use Rattle.vh_base.specs.declared.orders.Answer.{Answer}
 use Rattle.vh_base.specs.declared.orders.Answer.TheVariants as answer
 use Rattle.vh_base.specs.declared.orders.Order.{Order}
-use Rattle.vh_base.specs.Checks.{unless}
 use Rattle.vh_base.proofs.ChecksLemmas.{unless-holds}
 use Rattle.vh_app.specs.Script.{ScriptData}
 use Rattle.vh_callbacks.specs.declared.registration.Registration.{Registration}
@@ -23,7 +21,6 @@ use Rattle.vh_kernel.specs.declared.events.Work.{Work}
 use Rattle.vh_kernel.specs.declared.events.Work.TheVariants as work
 use Rattle.vh_base.specs.declared.orders.Object.{Object}
 use Rattle.vh_base.specs.declared.words.Reason.{Reason}
-use Rattle.vh_kernel.specs.declared.activation.Who.{Who}
 use Rattle.vh_kernel.specs.declared.handles.Thing.{Thing}
 use Rattle.vh_kernel.specs.declared.handles.Thing.TheVariants as thing
 use Rattle.vh_kernel.specs.declared.label.Ending.TheVariants as ending
@@ -31,7 +28,7 @@ use Rattle.vh_kernel.specs.declared.label.Label.{Label}
 use Rattle.vh_kernel.specs.declared.label.Label.TheVariants as label
 use Rattle.vh_kernel.specs.declared.occurrence.Frame.{Frame}
 use Rattle.vh_kernel.specs.Control.{frames, without_all}
-use Rattle.vh_kernel.specs.Events.{is_full, without_serial}
+use Rattle.vh_kernel.specs.Events.{is_full}
 use Rattle.vh_kernel.specs.Handles.{opened, freed}
 use Rattle.vh_kernel.specs.Numbers.{without_number}
 use Rattle.vh_kernel.specs.Occurrences.{Occurrence, bit_text, is_empty, set_of}
@@ -40,14 +37,14 @@ use Rattle.vh_kernel.specs.Outcome.{Made, Outcome, Move, silently, after_made}
 use Rattle.vh_kernel.specs.Settle.{settled, settled_control, is_void, without_front}
 use Rattle.vh_kernel.specs.State.{State, with_top, without_top, without_item}
 use Rattle.vh_kernel.specs.Statements.{next_statement, going_on, value_outcome, statement_outcome}
-use Rattle.vh_kernel.specs.Step.{Fits, FitsAnswer, IsStep, telling_outcome, called, started, work_outcome, activation_move, is_end, choices_of}
-use Rattle.vh_kernel.specs.Table.{HasTop, TellsNext, Acts, Row, Step}
+use Rattle.vh_kernel.specs.Step.{Fits, FitsAnswer, telling_outcome, called, started, work_outcome, is_end}
+use Rattle.vh_kernel.specs.Table.{HasTop, TellsNext, Row, Step}
 use Rattle.vh_kernel.proofs.OrdersLemmas.{IsForm, refuses, answers_only, opens_object, registers, removes, effect-form}
 use Rattle.vh_kernel.proofs.StepLemmas.{AllMade, either-made, IsActing, returns, orders, acts, with_variables}
 use Rattle.vh_kernel.proofs.TableLemmas.{steps-by-table, tells-number}
 use Rattle.vh_laws.specs.Firing.{with_frame, frames_of}
 use Rattle.vh_laws.specs.HandleLaw.{FindsObject}
-use Rattle.vh_laws.specs.Paths.{is_among, other, deed_of, IsMade}
+use Rattle.vh_laws.specs.Paths.{is_among, IsMade}
 use Rattle.vh_laws.proofs.Splits.{or_right}
 use Rattle.vh_laws.proofs.Works.{View, view_of, taken_from, IsPlain, RegistersAs, Changes, changes_none, opens_one, registers_one, removes_one, Works, works_none, empties, orders_one, tells_one, fires_one, closes_one}
 

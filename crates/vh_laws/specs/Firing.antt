@@ -1,6 +1,6 @@
 -- The firing law: which callback fires for an occurrence, and when. (IEEE 1364-2005, 27.33; what a removal
 -- or a registration meanwhile does is own)
-use Rattle.std.specs.Prelude.{◌≡◌, ℕ, List, [], ◌∷◌, ◌++◌, Bool, true, false, not, ◌&&◌, filter, slice_get, Option, Some, ◌⊎◌}
+use Rattle.std.specs.Prelude.{◌≡◌, ℕ, List, [], ◌∷◌, ◌++◌, true, false, not, ◌&&◌, filter, slice_get, Option, Some, ◌⊎◌}
 use Rattle.vh_base.specs.declared.orders.Answer.TheVariants as answer
 use Rattle.vh_base.specs.declared.orders.Object.{Object}
 use Rattle.vh_base.specs.declared.orders.Order.TheVariants as orders

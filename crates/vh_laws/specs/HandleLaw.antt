@@ -1,6 +1,6 @@
 -- The handle law: what a handle names from its giving to its freeing, and what it answers after that.
 -- (IEEE 1364-2005, clause 26; that a number isn't given again is own)
-use Rattle.std.specs.Prelude.{◌≡◌, ℕ, List, [], ◌∷◌, ◌++◌, Bool, true, false, ◌==◌, Option, Some, None, is_some, Ok, ◌⊎◌}
+use Rattle.std.specs.Prelude.{◌≡◌, ℕ, List, ◌∷◌, ◌++◌, Bool, true, false, ◌==◌, Option, Some, None, is_some, Ok, ◌⊎◌}
 use Rattle.std.specs.List.{list_any}
 use Rattle.vh_base.specs.declared.orders.Answer.{Answer}
 use Rattle.vh_base.specs.declared.orders.Answer.TheVariants as answer

@@ -134,9 +134,9 @@ impl Kernel {
     ghost use Rattle.vh_kernel.specs.Orders.{answers, answered, effect_of, name_meant, new_handle, new_callback, object_watched, not_yet, is_named, all_named, callback_in, without_callback};
     ghost use Rattle.vh_base.specs.Checks.{with_ok};
     ghost use Rattle.vh_kernel.specs.Outcome.{silently};
-    ghost use Rattle.vh_kernel.specs.Views.{state_of, given_by, Performs};
+    ghost use Rattle.vh_kernel.specs.Views.{state_of, given_by, HasEffect};
 
-    // Performs an order: answers it, and changes what it changes.
+    // HasEffect an order: answers it, and changes what it changes.
     pub(crate) fn perform(
         &mut self,
         alloc: Global,
@@ -154,7 +154,7 @@ impl Kernel {
     }
 
     fn carry_out(&mut self, alloc: Global, who: &Who, order: &Order) -> Result<Answer, Halt>
-        ensures { Performs (effect_of order.now who.now (state_of self.old)) self.old result self.new }
+        ensures { HasEffect (effect_of order.now who.now (state_of self.old)) self.old result self.new }
     {
         match order {
             Order::ByName { text, scope } => self.by_name(alloc, who, text.bytes(), *scope),
@@ -202,7 +202,7 @@ impl Kernel {
 
     // An order that no script gives yet.
     fn not_yet(&self, who: &Who, order: &Order) -> Result<Answer, Halt>
-        ensures { Performs (not_yet order.now who.now (state_of self.now)) self.now result self.now }
+        ensures { HasEffect (not_yet order.now who.now (state_of self.now)) self.now result self.now }
     {
         if is_startup(who) {
             return Err(Halt::Refused(Code::E9));
@@ -282,7 +282,7 @@ impl Kernel {
         text: &[u8],
         scope: Option<HandleNo>,
     ) -> Result<Answer, Halt>
-        ensures { Performs (effect_of (Order.ByName text.now scope) who.now (state_of self.old))
+        ensures { HasEffect (effect_of (Order.ByName text.now scope) who.now (state_of self.old))
             self.old result self.new }
     {
         if is_startup(who) {
@@ -319,7 +319,7 @@ impl Kernel {
 
     // A new handle of an object, if there is one.
     fn open(&mut self, id: Option<usize>) -> Result<Answer, Halt>
-        ensures { Performs (new_handle id (state_of self.old)) self.old result self.new }
+        ensures { HasEffect (new_handle id (state_of self.old)) self.old result self.new }
     {
         let Some(id) = id else {
             return Ok(Answer::Null);
@@ -349,7 +349,7 @@ impl Kernel {
         requires unwatched { registration.object ≡ None }
         requires alone { registration.serial ≡ None }
         requires fresh { registration.me ≡ (given_by self.old).handle }
-        ensures { Performs (effect_of (Order.Register registration.reason registration.object_handle
+        ensures { HasEffect (effect_of (Order.Register registration.reason registration.object_handle
             registration.time body.now registration.user_data) who.now (state_of self.old))
             self.old result self.new }
     {
@@ -401,7 +401,7 @@ impl Kernel {
         body: Body,
     ) -> Result<Answer, Halt>
         requires { registration.me ≡ (given_by self.old).handle }
-        ensures { Performs (new_callback (λ me. record registration { me = me }) body (state_of self.old))
+        ensures { HasEffect (new_callback (λ me. record registration { me = me }) body (state_of self.old))
             self.old result self.new }
     {
         if self.callbacks.is_full() {
@@ -420,7 +420,7 @@ impl Kernel {
 
     // remove: the callback is gone, and its handle is freed.
     fn remove(&mut self, who: &Who, h: Option<HandleNo>) -> Result<Answer, Halt>
-        ensures { Performs (effect_of (Order.Remove h) who.now (state_of self.old)) self.old result self.new }
+        ensures { HasEffect (effect_of (Order.Remove h) who.now (state_of self.old)) self.old result self.new }
     {
         if is_startup(who) {
             return Err(Halt::Refused(Code::E9));
@@ -434,7 +434,7 @@ impl Kernel {
 
     // The callback that a handle names is gone.
     fn remove_thing(&mut self, thing: Option<Thing>, handle: HandleNo) -> Result<Answer, Halt>
-        ensures { Performs (with_ok (callback_in thing) (λ c. Ok (answers (Answer.Number 1)
+        ensures { HasEffect (with_ok (callback_in thing) (λ c. Ok (answers (Answer.Number 1)
             (silently (without_callback c handle (state_of self.old)))))) self.old result self.new }
     {
         let Some(thing) = thing else {
@@ -448,7 +448,7 @@ impl Kernel {
 
     // A callback is gone, from every frame's set too, and a handle is freed.
     fn forget(&mut self, c: CbNumber, handle: HandleNo) -> Result<Answer, Halt>
-        ensures { Performs (Ok (answers (Answer.Number 1)
+        ensures { HasEffect (Ok (answers (Answer.Number 1)
             (silently (without_callback c handle (state_of self.old))))) self.old result self.new }
     {
         let _ = self.callbacks.remove(c);

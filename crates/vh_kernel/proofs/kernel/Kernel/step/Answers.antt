@@ -1,4 +1,4 @@
-use Rattle.std.proofs.Common.{◌≡◌, ◌<◌, true, false, sym, ap}
+use Rattle.std.proofs.Common.{◌≡◌, true, false, sym, ap}
 use Rattle.vh_kernel.specs.Step.{is_end}
 use Rattle.vh_kernel.specs.Views.{state_of, given_by}
 use Rattle.vh_kernel.proofs.HandlesLemmas.{next-new}

@@ -1,4 +1,3 @@
-use Rattle.std.proofs.Common.{◌≡◌, not, rules}
 use Rattle.vh_callbacks.specs.Callbacks.{has_reason}
 use Rattle.vh_kernel.proofs.OccurrencesLemmas.{any-some}
 use Rattle.vh_kernel.proofs.occurrence.Occurrence.is_watched.Goals as goal
