@@ -8,3 +8,5 @@ pub mod NodesLemmas
 pub mod MovesLemmas
 -- What each call makes of what is held
 pub mod SchedulesLemmas
+-- Walks over a bucket
+pub mod WalkLemmas

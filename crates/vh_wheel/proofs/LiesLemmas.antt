@@ -1,5 +1,5 @@
 -- What holds of nodes in the lists of their buckets.
-use Rattle.std.proofs.Common.{◌≡◌, ℕ, ◌+◌, ◌<◌, ◌≢◌, List, [], ◌∷◌, ◌++◌, length, set, replicate, refl, ap, arith, ◌∙◌, sym, true, false, eqb, Option, Some, None, inl, inr, rules}
+use Rattle.std.proofs.Common.{◌≡◌, ℕ, ◌+◌, ◌<◌, ◌≢◌, List, [], ◌∷◌, ◌++◌, length, set, replicate, refl, ap, arith, ◌∙◌, sym, true, false, eqb, Option, Some, None, inl, inr, rules, subst}
 use Rattle.std.specs.Prelude.{IfSome}
 use Rattle.std.specs.List.{slice_get}
 use Rattle.std.proofs.lemmas.Bool.{eq-eqb, ne_eqb, cases_eq, cases_Bool}
@@ -7,7 +7,8 @@ use Rattle.std.proofs.lemmas.List.{get_or-set_same, get_or-set_other, get_or_app
 use Rattle.std.proofs.Math.ListN.{length-append}
 use Rattle.std.proofs.Math.Seq.{get_or-append_seam}
 use Rattle.vh_links.specs.Lists.{Lists, has, without, list_of, is_linked, after_add, after_push, after_unlink}
-use Rattle.vh_links.proofs.ListsLemmas.{has-cases, has-without, has-parts, has-one, has-left, has-right, has-head, any-at, get_or-copies, length-mapped}
+use Rattle.vh_links.proofs.ListsLemmas.{has-cases, has-without, has-parts, has-one, has-left, has-right, has-head, any-at, get_or-copies, length-mapped, not_one, apart-without, apart-append, apart-both, parted, behind-at, find-only}
+use Rattle.vh_links.specs.Views.{IsApart}
 use Rattle.vh_links.proofs.ViewsLemmas.{list_of-unlink}
 use Rattle.vh_wheel.specs.declared.node.Node.{Node}
 use Rattle.vh_wheel.specs.Views.{nowhere, bucket_at, Lies}
@@ -54,6 +55,12 @@ is-free x s h =
 pub unlinked-free : (x : ℕ) (s : Lists) → is_linked x (after_unlink x s) ≡ false
 unlinked-free x s = is-free x (after_unlink x s) (λ a. ap (has x) (list_of-unlink x s a) ∙ lacks-itself x (list_of a s))
 
+lacks-unlinked : (x : ℕ) (s : Lists) (a : ℕ) → has x (list_of a (after_unlink x s)) ≡ false
+lacks-unlinked x s a = ap (has x) (list_of-unlink x s a) ∙ lacks-itself x (list_of a s)
+
+lacks-new : (s : Lists) (ns : List Node) → Lies s ns → (a : ℕ) → has (length ns) (list_of a s) ≡ false
+lacks-new s ns l a = has-cases (has (length ns) (list_of a s) ≡ false) (length ns) (list_of a s) (λ h. absurd (omega (arith, (l.sound a (length ns) h).0))) (λ h. h)
+
 pub new-free : (s : Lists) (ns : List Node) → Lies s ns → (x : ℕ) → x ≡ length ns → is_linked x (after_add s) ≡ false
 new-free s ns l x e =
     is-free x (after_add s) (λ a. has-cases (has x (list_of a s) ≡ false) x (list_of a s) (λ h. absurd (omega (arith, (l.sound a x h).0))) (λ h. h))
@@ -90,6 +97,18 @@ pushed-whole b x a y s h there =
       | inr e ↦ ap (has y) (list_of-others b x a s e) ∙ there
     ]
 
+-- Each node still stands once
+pushed-apart : (b x : ℕ) (s : Lists) → b < length s.lists → ((a : ℕ) → has x (list_of a s) ≡ false) → ((a : ℕ) → IsApart (list_of a s))
+    → (a : ℕ) → IsApart (list_of a (after_push b x s))
+pushed-apart b x s h lacks all a =
+    elim (cases_eq a b) [
+      | inl e ↦
+          subst IsApart (sym (list_of-push b x a s h e))
+          (apart-append (list_of b s) (x ∷ []) (all b) (refl, tt)
+          (λ y k. not_one y x (λ same. let no : true ≡ false = sym k ∙ ap (λ z. has z (list_of b s)) same ∙ lacks b in cc)))
+      | inr e ↦ subst IsApart (sym (list_of-others b x a s e)) (all a)
+    ]
+
 -- No lists yet
 pub lies-new : Lies (record { lists = replicate 2049 []; nodes = 0 }) []
 lies-new = record {
@@ -99,6 +118,7 @@ lies-new = record {
   sound = λ a x h. let none : list_of a (record { lists = replicate 2049 []; nodes = 0 }) ≡ [] = get_or-copies 2049 [] a in absurd (let h2 : has x [] ≡ true = sym (ap (has x) none) ∙ h in cc);
   whole = λ x h. absurd (omega arith);
   bound = λ x h. absurd (omega arith);
+  apart = λ a. subst IsApart (sym (get_or-copies 2049 [] a)) tt;
 }
 
 -- Another node in a node's place, and in the list of its bucket
@@ -148,6 +168,8 @@ lies-put s ns x n l h b =
             | inl e ↦ omega (arith, bucket-set ns x y n h e, b)
             | inr e ↦ omega (arith, bucket-kept ns x y n e, l.bound y (omega (arith, k, length-set ns x n)))
           ];
+      apart = λ a.
+          pushed-apart n.bucket x u within (lacks-unlinked x s) (λ c. subst IsApart (sym (list_of-unlink x s c)) (apart-without x (list_of c s) (l.apart c))) a;
     }
 
 -- A node more, in the list of its bucket
@@ -188,6 +210,7 @@ lies-add s ns n l room b =
             | inl e ↦ omega (arith, bucket-seam ns y n e, b)
             | inr e ↦ let h : y < length ns = omega (arith, k, more, e) in omega (arith, bucket-before ns y n h, l.bound y h)
           ];
+      apart = λ a. pushed-apart n.bucket x u within (lacks-new s ns l) l.apart a;
     }
 
 -- The first of a list

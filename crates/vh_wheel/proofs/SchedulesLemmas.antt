@@ -1,10 +1,13 @@
 -- What each call makes of what is held.
-use Rattle.std.proofs.Common.{◌≡◌, ℕ, zero, suc, ◌+◌, ◌/◌, ◌%◌, ◌<◌, ◌≤◌, ◌≢◌, List, [], ◌∷◌, ◌++◌, length, set, refl, ap, arith, ◌∙◌, sym, subst, true, false, eqb, Option, Some, None, inl, inr}
+use Rattle.std.proofs.Common.{◌≡◌, ℕ, zero, suc, ◌+◌, ◌/◌, ◌%◌, ◌<◌, ◌≤◌, ◌≢◌, List, [], ◌∷◌, ◌++◌, length, set, refl, ap, arith, ◌∙◌, sym, subst, true, false, eqb, Option, Some, None, inl, inr, cond}
 use Rattle.std.specs.Prelude.{IfSome, count_by}
 use Rattle.std.proofs.lemmas.Bool.{eq-eqb, ne_eqb, cases_eq, cases_lt}
+use Rattle.std.proofs.lemmas.List.{get_or-set_same}
+use Rattle.std.proofs.Math.Seq.{get_or-append_seam}
+use Rattle.std.proofs.lemmas.List.Sums.{sum_by-set, sum_by_push}
 use Rattle.vh_links.proofs.ListsLemmas.{length-mapped}
 use Rattle.vh_wheel.specs.declared.node.Node.{Node}
-use Rattle.vh_wheel.specs.Schedule.{Entry, Schedule, entry_at, is_held, least_time, has_time, without, after_cancel, Schedules, Takes, moves_left}
+use Rattle.vh_wheel.specs.Schedule.{Entry, Schedule, entry_at, is_held, held_in, least_time, has_time, without, after_cancel, Schedules, Takes, moves_left}
 use Rattle.vh_wheel.specs.Views.{bucket_from, nowhere, node_at, bucket_at, with_bucket, entry_of, entries_of, schedule_in, HasPlace, ArePlaced, AreLater, AreFrom, IsLeast, moves_at, moves_of_all}
 use Rattle.vh_wheel.proofs.TimesLemmas.{later-bucket, level-falls, bucket-now, bucket-range, has-bytes}
 use Rattle.vh_wheel.proofs.NodesLemmas.{entry-held, entry-free, entry-is, held-node, node-held, least-is, least-none, later-all, has-no-time, all-held, moves-set, moves-add, moves-held, moves-free, moves-are}
@@ -144,6 +147,7 @@ schedules-put p x n ns ms old seen h free held made =
     subst (λ (s : Schedule). Schedules x e s (schedule_in ms p)) seen
     (record {
       free = entry-is ns x ∙ entry-free (node_at ns x) free;
+      there = ap (entry_at x) put ∙ get_or-set_same (entries_of ns) x (Some e) None (omega (arith, h, length-mapped entry_of ns));
       entries = rw other put;
       within = omega (arith, h, length-mapped entry_of ns);
       present = refl;
@@ -160,7 +164,8 @@ schedules-add p n ns ms old seen held made =
     subst (λ (s : Schedule). Schedules (length ns) e s (schedule_in ms p)) seen
     (record {
       free = entry-is ns (length ns) ∙ ap entry_of (end ns);
-      entries = rw same put;
+      there = ap (entry_at (length ns)) put ∙ ap (λ y. entry_at y (entries_of ns ++ Some e ∷ [])) (sym (length-mapped entry_of ns)) ∙ get_or-append_seam (entries_of ns) (Some e) [] None;
+          entries = rw same put;
       within = omega (arith, length-mapped entry_of ns);
       present = refl;
     })
@@ -196,3 +201,48 @@ few-nodes p k ns s seen held few =
     all-held (entries_of ns) (λ x h. ap is_held (node-held ns x (held x (omega (arith, h, length-mapped entry_of ns))))) in
     let count : count_by is_held (entries_of ns) ≡ count_by is_held s.entries = ap (λ (t : Schedule). count_by is_held t.entries) seen in
     omega (arith, all, count, few, length-mapped entry_of ns)
+
+-- How many are held
+abbrev bit : Option Entry → ℕ
+bit o = cond (is_held o) 1 0
+
+entry-inside : (es : List (Option Entry)) (x : ℕ) (e : Entry) → entry_at x es ≡ Some e → x < length es
+entry-inside [] x e h = cc
+entry-inside (o ∷ es) zero e h = omega arith
+entry-inside (o ∷ es) (suc x) e h = let rest = entry-inside es x e h in omega (arith, rest)
+
+held-set : (es : List (Option Entry)) (x : ℕ) (e : Entry) → x < length es → entry_at x es ≡ None → held_in (set es x (Some e)) ≡ held_in es + 1
+held-set es x e h free =
+    let total = sum_by-set bit es x (Some e) None h in
+    let none : bit (entry_at x es) ≡ 0 = ap bit free in
+    omega (arith, total, none)
+
+pub held-without : (es : List (Option Entry)) (x : ℕ) (e : Entry) → entry_at x es ≡ Some e → held_in (without x es) + 1 ≡ held_in es
+held-without es x e is =
+    let total = sum_by-set bit es x None None (entry-inside es x e is) in
+    let one : bit (entry_at x es) ≡ 1 = ap bit is in
+    omega (arith, total, one)
+
+pub schedules-held : (x : ℕ) (e : Entry) (old new : Schedule) → Schedules x e old new → held_in new.entries ≡ held_in old.entries + 1
+schedules-held x e old new s =
+    elim (cases_eq x (length old.entries)) [
+      | inl h ↦
+          let is : new.entries ≡ old.entries ++ Some e ∷ [] = s.entries ∙ rw (eq-eqb x (length old.entries) h) refl in
+          ap held_in is ∙ sum_by_push bit old.entries (Some e)
+      | inr h ↦
+          let is : new.entries ≡ set old.entries x (Some e) = s.entries ∙ rw (ne_eqb x (length old.entries) h) refl in
+          ap held_in is ∙ held-set old.entries x e (omega (arith, s.within, h)) s.free
+    ]
+
+pub takes-held : (t p : ℕ) (old new : Schedule) → Takes t (Some p) old new → held_in new.entries + 1 ≡ held_in old.entries
+takes-held t p old new s =
+    ap (λ (k : Schedule). held_in k.entries + 1) s.2 ∙ held-without old.entries s.0 (record { time = t; payload = p }) s.1
+
+pub cancels-held : (x : ℕ) (old new : Schedule) → new ≡ after_cancel x old → is_held (entry_at x old.entries) ≡ true → held_in new.entries + 1 ≡ held_in old.entries
+cancels-held x old new made held =
+    let some = held-some (entry_at x old.entries) held in
+    ap (λ (k : Schedule). held_in k.entries + 1) made ∙ held-without old.entries x some.0 some.1
+    where
+      held-some : (o : Option Entry) → is_held o ≡ true → (e : Entry) × (o ≡ Some e)
+      held-some None h = cc
+      held-some (Some e) h = (e, refl)

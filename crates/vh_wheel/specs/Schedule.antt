@@ -1,5 +1,5 @@
 -- What a wheel holds, and what each call makes of it (own).
-use Rattle.std.specs.Prelude.{ℕ, zero, suc, ◌≡◌, ◌≤◌, ◌+◌, ◌/◌, min, ◌==◌, Bool, true, false, if◌then◌else◌, List, [], ◌∷◌, ◌++◌, length, slice_index_or, slice_set, Option, None, Some}
+use Rattle.std.specs.Prelude.{ℕ, zero, suc, ◌≡◌, ◌≤◌, ◌+◌, ◌/◌, min, ◌==◌, Bool, true, false, if◌then◌else◌, List, [], ◌∷◌, ◌++◌, length, slice_index_or, slice_set, count_by, Option, None, Some}
 use Rattle.std.specs.List.{list_any}
 
 -- What is held under a node
@@ -20,6 +20,10 @@ entry_at x es = slice_index_or es x None
 abbrev pub is_held : Option Entry → Bool
 is_held None = false
 is_held (Some e) = true
+
+-- How many are held
+abbrev pub held_in : List (Option Entry) → ℕ
+held_in es = count_by is_held es
 
 -- The payload of what may be held
 abbrev pub payload_of : Option Entry → Option ℕ
@@ -49,6 +53,7 @@ has_time t es = list_any (is_of t) es
 -- Something under a free node, which may be a new one
 pub record Schedules (x : ℕ) (e : Entry) (old new : Schedule) : Type 0 where
   pub free : entry_at x old.entries ≡ None
+  pub there : entry_at x new.entries ≡ Some e
   pub entries : new.entries ≡ (if x == length old.entries then old.entries ++ Some e ∷ [] else slice_set old.entries x (Some e))
   pub within : x ≤ length old.entries
   pub present : new.present ≡ old.present

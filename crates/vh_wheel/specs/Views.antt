@@ -1,6 +1,7 @@
 -- How the buckets hold a schedule (own). A bucket's number is 256 times its level and its byte; that of free nodes is 2048.
 use Rattle.std.specs.Prelude.{ℕ, zero, suc, ◌≡◌, ◌≢◌, ◌<◌, ◌≤◌, ◌+◌, ◌/◌, ◌%◌, ◌^◌, ◌==◌, true, if◌then◌else◌, List, [], ◌∷◌, map, length, slice_index_or, Option, None, Some}
 use Rattle.vh_links.specs.Lists.{Lists, has, list_of}
+use Rattle.vh_links.specs.Views.{IsApart}
 use Rattle.vh_wheel.specs.declared.node.Node.{Node}
 use Rattle.vh_wheel.specs.Schedule.{Entry, Schedule, moves_of}
 
@@ -32,6 +33,7 @@ pub record Lies (s : Lists) (ns : List Node) : Type 0 where
   pub sound : (a x : ℕ) → has x (list_of a s) ≡ true → (x < length ns) × (bucket_at ns x ≡ a)
   pub whole : (x : ℕ) → x < length ns → has x (list_of (bucket_at ns x) s) ≡ true
   pub bound : (x : ℕ) → x < length ns → bucket_at ns x < 2049
+  pub apart : (a : ℕ) → IsApart (list_of a s)
 
 -- What is held under a node
 abbrev pub entry_of : Node → Option Entry

@@ -87,12 +87,15 @@ impl Buckets {
         requires { number < length self.now }
         ensures { IsLeast (bucket_at self.now number) self.now result }
     {
-        let first = self.nodes[number as usize];
+        let first = self.get(number);
         let mut least = first.time;
-        for node in &self.nodes {
-            if node.bucket == first.bucket && node.time < least {
-                least = node.time;
+        let mut at = self.links.first(first.bucket);
+        while let Some(number) = at {
+            let time = self.get(number).time;
+            if time < least {
+                least = time;
             }
+            at = self.links.next(number);
         }
         least
     }

@@ -19,3 +19,6 @@ mod node;
 mod wheel;
 
 pub use wheel::Wheel;
+
+#[cfg(test)]
+mod tests;

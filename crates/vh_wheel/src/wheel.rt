@@ -1,5 +1,5 @@
-ghost use Rattle.std.specs.Prelude.{◌≡◌, ◌<◌, ◌≤◌, ◌+◌, ◌^◌, [], None, Some, true, false, length, slice_set, count_by, IfOk, OnErr, IfSome};
-ghost use Rattle.vh_wheel.specs.Schedule.{entry_at, is_held, least_time, payload_of, after_cancel, Schedules, Takes, moves_left};
+ghost use Rattle.std.specs.Prelude.{◌≡◌, ◌<◌, ◌≤◌, ◌+◌, ◌^◌, [], None, Some, true, false, length, slice_set, IfOk, OnErr, IfSome};
+ghost use Rattle.vh_wheel.specs.Schedule.{entry_at, is_held, held_in, least_time, payload_of, after_cancel, Schedules, Takes, moves_of, moves_left};
 ghost use Rattle.vh_wheel.specs.Views.{node_at, bucket_at, with_bucket, AreFrom, entries_of, ArePlaced, AreLater, AreMoving, moves_of_all};
 
 use crate::bucket::{FREE, bucket_of};
@@ -43,9 +43,11 @@ impl Wheel {
 
     /// Holds a payload until a time; the node under which it is held.
     pub fn schedule(&mut self, alloc: Global, time: u64, payload: u64) -> Result<u32, NoMemory>
-        requires few { count_by is_held self.old.entries < 2 ^ 31 }
+        requires few { held_in self.old.entries < 2 ^ 31 }
         requires later { self.old.present ≤ time }
         ensures scheduled { IfOk result (λ x. Schedules x (record { time = time; payload = payload }) self.old self.new) }
+        ensures held { IfOk result (λ _. held_in self.new.entries ≡ held_in self.old.entries + 1) }
+        ensures left { moves_of self.old.present time ≤ 8 }
         ensures moves { IfOk result (λ _. moves_left self.new ≤ moves_left self.old + 8) }
         ensures kept { OnErr result (self.new ≡ self.old) }
     {
@@ -67,6 +69,7 @@ impl Wheel {
         requires { is_held (entry_at node self.old.entries) ≡ true }
         ensures payload { payload_of (entry_at node self.old.entries) ≡ Some result }
         ensures cancelled { self.new ≡ after_cancel node self.old }
+        ensures held { held_in self.new.entries + 1 ≡ held_in self.old.entries }
     {
         free(&mut self.buckets, node)
     }
@@ -75,6 +78,7 @@ impl Wheel {
     /// most, and goes over the nodes of one.
     pub fn next_time<L: Ledger>(&self, steps: &mut Steps<L>) -> Option<u64>
         ensures time { result ≡ least_time self.now.entries }
+        ensures later { IfSome result (λ t. self.now.present ≤ t) }
         ensures steps { steps.new ≤ steps.old + 2048 }
     {
         let first = first_held(&self.buckets, steps)?;
@@ -88,6 +92,7 @@ impl Wheel {
         requires later { self.old.present ≤ time }
         requires least { IfSome (least_time self.old.entries) (λ t. time ≤ t) }
         ensures taken { Takes time result self.old self.new }
+        ensures held { IfSome result (λ _. held_in self.new.entries + 1 ≡ held_in self.old.entries) }
         ensures steps { steps.new + moves_left self.new ≤ steps.old + 2048 + moves_left self.old }
     {
         advance(&mut self.buckets, self.present, time, steps);

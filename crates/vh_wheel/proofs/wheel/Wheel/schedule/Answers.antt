@@ -3,7 +3,8 @@ use Rattle.vh_base.specs.declared.faults.NoMemory.{NoMemory}
 use Rattle.vh_wheel.specs.declared.node.Node.{Node}
 use Rattle.vh_wheel.specs.Schedule.{Schedule, Schedules}
 use Rattle.vh_wheel.specs.Views.{bucket_from, schedule_in, HasPlace}
-use Rattle.vh_wheel.proofs.SchedulesLemmas.{schedules-put, schedules-add, moves-put, moves-more, few-nodes}
+use Rattle.vh_wheel.proofs.TimesLemmas.{level-range}
+use Rattle.vh_wheel.proofs.SchedulesLemmas.{schedules-held, schedules-put, schedules-add, moves-put, moves-more, few-nodes}
 use Rattle.vh_wheel.proofs.wheel.Wheel.schedule.Goals as goal
 
 -- The place of the node
@@ -54,3 +55,21 @@ returns-clause-moves c =
     (placed c.args.time c.bucket_of-bucket.result c.args.payload c.args.self.now c.self.inside.present (ap (λ (s : Schedule). s.present) c.self.view_is)
     c.requires.later (omega arith) c.bucket_of-bucket.ensures.value)
     c.bucket_of-bucket.ensures.range added)
+
+pub returns-in-Some-clause-held : goal.returns-in-Some-clause-held
+returns-in-Some-clause-held c =
+    schedules-held c.in-Some.free (record { time = c.args.time; payload = c.args.payload }) c.args.self.now (schedule_in c.put.new.self c.self.inside.present)
+    (returns-in-Some-clause-scheduled c)
+
+pub returns-in-Some-clause-left : goal.returns-in-Some-clause-left
+returns-in-Some-clause-left c = omega (arith, level-range 7 c.args.self.now.present c.args.time)
+
+pub returns-clause-left : goal.returns-clause-left
+returns-clause-left c = omega (arith, level-range 7 c.args.self.now.present c.args.time)
+
+pub returns-clause-held : goal.returns-clause-held
+returns-clause-held c =
+    in_room c.add.result (λ x is.
+    schedules-held x (record { time = c.args.time; payload = c.args.payload }) c.args.self.now (schedule_in c.add.new.self c.self.inside.present)
+    (subst (λ (r : Result ℕ NoMemory). IfOk r (λ y. Schedules y (record { time = c.args.time; payload = c.args.payload }) c.args.self.now
+    (schedule_in c.add.new.self c.self.inside.present))) is (returns-clause-scheduled c)))

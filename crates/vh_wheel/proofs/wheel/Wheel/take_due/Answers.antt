@@ -2,7 +2,8 @@ use Rattle.std.proofs.Common.{arith, subst, sym, refl, ◌≤◌}
 use Rattle.std.specs.Prelude.{IfSome}
 use Rattle.vh_wheel.specs.Schedule.{Schedule, least_time}
 use Rattle.vh_wheel.proofs.NodesLemmas.{moves-are}
-use Rattle.vh_wheel.proofs.SchedulesLemmas.{later-nodes, takes-none, takes-due, moves-seen, freed-placed, freed-moves}
+use Rattle.vh_wheel.specs.Views.{schedule_in}
+use Rattle.vh_wheel.proofs.SchedulesLemmas.{takes-held, later-nodes, takes-none, takes-due, moves-seen, freed-placed, freed-moves}
 use Rattle.vh_wheel.proofs.wheel.Wheel.take_due.Goals as goal
 
 pub advance-requires-clause-later : goal.advance-requires-clause-later
@@ -42,3 +43,7 @@ returns-clause-steps g c =
       moves-are c.args.time c.free.new.buckets after,
       moves-seen c.self.inside.present c.self.inside.buckets c.args.self.now c.self.view_is c.self.invariant,
     )
+
+pub returns-clause-held : goal.returns-clause-held
+returns-clause-held g c =
+    takes-held c.args.time c.free.result c.args.self.now (schedule_in c.free.new.buckets c.args.time) (returns-clause-taken g c)
