@@ -165,7 +165,7 @@ schedules-add p n ns ms old seen held made =
     (record {
       free = entry-is ns (length ns) ∙ ap entry_of (end ns);
       there = ap (entry_at (length ns)) put ∙ ap (λ y. entry_at y (entries_of ns ++ Some e ∷ [])) (sym (length-mapped entry_of ns)) ∙ get_or-append_seam (entries_of ns) (Some e) [] None;
-          entries = rw same put;
+      entries = rw same put;
       within = omega (arith, length-mapped entry_of ns);
       present = refl;
     })
@@ -242,7 +242,7 @@ pub cancels-held : (x : ℕ) (old new : Schedule) → new ≡ after_cancel x old
 cancels-held x old new made held =
     let some = held-some (entry_at x old.entries) held in
     ap (λ (k : Schedule). held_in k.entries + 1) made ∙ held-without old.entries x some.0 some.1
-    where
-      held-some : (o : Option Entry) → is_held o ≡ true → (e : Entry) × (o ≡ Some e)
-      held-some None h = cc
-      held-some (Some e) h = (e, refl)
+  where
+    held-some : (o : Option Entry) → is_held o ≡ true → (e : Entry) × (o ≡ Some e)
+    held-some None h = cc
+    held-some (Some e) h = (e, refl)

@@ -73,10 +73,10 @@ behind-has x y (z ∷ zs) h =
       | inl e ↦ has-tail y z zs (head-has zs y (sym (ap (λ (b : Bool). cond b (slice_get zs 0) (behind x zs)) e) ∙ h))
       | inr e ↦ has-tail y z zs (behind-has x y zs (sym (ap (λ (b : Bool). cond b (slice_get zs 0) (behind x zs)) e) ∙ h))
     ]
-    where
-      head-has : (ys : List ℕ) (y : ℕ) → slice_get ys 0 ≡ Some y → has y ys ≡ true
-      head-has [] y h = cc
-      head-has (z ∷ zs) y h = let e : y ≡ z = cc in rw (eq-eqb y z e) refl
+  where
+    head-has : (ys : List ℕ) (y : ℕ) → slice_get ys 0 ≡ Some y → has y ys ≡ true
+    head-has [] y h = cc
+    head-has (z ∷ zs) y h = let e : y ≡ z = cc in rw (eq-eqb y z e) refl
 
 -- Where the walk stands: at a node of the list, and no node that it passed has a lesser time
 pub record Walks (ns : List Node) (xs : List ℕ) (at : Option ℕ) (b t : ℕ) : Type 0 where
@@ -95,13 +95,13 @@ walk-begins ns (z ∷ zs) at b t h some =
     record {
       here = λ x e. let same : x ≡ z = some_is x z (sym e ∙ h) in rw (eq-eqb x z same) refl;
       passed = λ y k l.
-        let whole : left_of at (z ∷ zs) ≡ z ∷ zs = ap (λ (o : Option ℕ). left_of o (z ∷ zs)) h ∙ first-from (z ∷ zs) z refl in
-        absurd (let no : true ≡ false = sym k ∙ sym (ap (has y) whole) ∙ l in cc);
+          let whole : left_of at (z ∷ zs) ≡ z ∷ zs = ap (λ (o : Option ℕ). left_of o (z ∷ zs)) h ∙ first-from (z ∷ zs) z refl in
+          absurd (let no : true ≡ false = sym k ∙ sym (ap (has y) whole) ∙ l in cc);
       some = some;
     }
-    where
-      some_is : (x z : ℕ) → Some x ≡ Some z → x ≡ z
-      some_is x z h = cc
+  where
+    some_is : (x z : ℕ) → Some x ≡ Some z → x ≡ z
+    some_is x z h = cc
 
 -- A step: the node that it stands at is passed
 pub walk-goes : (s : Lists) (ns : List Node) (at : Option ℕ) (b t u x : ℕ) (o : Option ℕ) → Lies s ns → b < 2049 → at ≡ Some x
@@ -113,19 +113,21 @@ walk-goes s ns at b t u x o l h is w next le le_x some =
     let there : has x xs ≡ true = w.here x is in
     let go : o ≡ behind x xs = next ∙ next-of s ns b x l h there in
     let left : left_of at xs ≡ x ∷ left_of o xs =
-    ap (λ (p : Option ℕ). left_of p xs) is ∙ walk-on x xs (l.apart b) there ∙ ap (λ (p : Option ℕ). x ∷ left_of p xs) (sym go) in
-    (record {
-      here = λ y e. behind-has x y xs (sym go ∙ e);
-      passed = λ y k none.
-        elim (cases_eq y x) [
-          | inl e ↦ subst (λ z. u ≤ (node_at ns z).time) (sym e) le_x
-          | inr e ↦
-              let before : has y (left_of at xs) ≡ false = ap (has y) left ∙ rw (ne_eqb y x e) none in
-              let old = w.passed y k before in
-              omega (arith, old, le)
-        ];
-      some = some;
-    }, omega (arith, ap (λ (zs : List ℕ). length zs) left))
+    ap (λ (p : Option ℕ). left_of p xs) is ∙ walk-on x xs (l.apart b) there ∙ ap (λ (p : Option ℕ). x ∷ left_of p xs) (sym go) in (
+      record {
+        here = λ y e. behind-has x y xs (sym go ∙ e);
+        passed = λ y k none.
+            elim (cases_eq y x) [
+              | inl e ↦ subst (λ z. u ≤ (node_at ns z).time) (sym e) le_x
+              | inr e ↦
+                  let before : has y (left_of at xs) ≡ false = ap (has y) left ∙ rw (ne_eqb y x e) none in
+                  let old = w.passed y k before in
+                  omega (arith, old, le)
+            ];
+        some = some;
+      },
+      omega (arith, ap (λ (zs : List ℕ). length zs) left),
+    )
 
 -- At the end all were passed
 pub walk-ends : (s : Lists) (ns : List Node) (at : Option ℕ) (b t : ℕ) → Lies s ns → at ≡ None → Walks ns (list_of b s) at b t
