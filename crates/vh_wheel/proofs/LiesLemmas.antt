@@ -7,7 +7,7 @@ use Rattle.std.proofs.lemmas.List.{get_or-set_same, get_or-set_other, get_or_app
 use Rattle.std.proofs.Math.ListN.{length-append}
 use Rattle.std.proofs.Math.Seq.{get_or-append_seam}
 use Rattle.vh_links.specs.Lists.{Lists, has, without, list_of, is_linked, after_add, after_push, after_unlink}
-use Rattle.vh_links.proofs.ListsLemmas.{has-cases, has-without, has-parts, has-one, has-left, has-right, has-head, any-at, get_or-copies, length-mapped, not_one, apart-without, apart-append, apart-both, parted, behind-at, find-only}
+use Rattle.vh_links.proofs.ListsLemmas.{has-cases, has-without, has-parts, has-one, has-left, has-right, has-head, any-at, get_or-copies, length-mapped, not_one, apart-without, apart-append}
 use Rattle.vh_links.specs.Views.{IsApart}
 use Rattle.vh_links.proofs.ViewsLemmas.{list_of-unlink}
 use Rattle.vh_wheel.specs.declared.node.Node.{Node}

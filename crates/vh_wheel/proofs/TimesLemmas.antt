@@ -164,3 +164,15 @@ bytes-step (suc k) t h b = let one : suc k - 1 ≡ k = omega arith in rw one b
 
 pub bytes-last : (t : ℕ) → HasBytes 0 t → t < 256
 bytes-last t h = h
+
+-- A later present time leaves no time more moves
+pub level-never-rises : (k n t u : ℕ) → n ≤ t → t ≤ u → level_from k t u ≤ level_from k n u
+level-never-rises zero n t u h l = omega (arith, level-zero t u, level-zero n u)
+level-never-rises (suc k) n t u h l =
+    elim (cases_eq (t / 256) (u / 256)) [
+      | inl e ↦ omega (arith, same-level k t u e)
+      | inr e ↦
+          let f : n / 256 ≡ u / 256 → ⊥ = λ x. e (omega arith) in
+          let rest = level-never-rises k (n / 256) (t / 256) (u / 256) (omega arith) (omega arith) in
+          omega (arith, other-level k t u e, other-level k n u f, rest)
+    ]

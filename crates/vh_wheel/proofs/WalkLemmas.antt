@@ -1,13 +1,12 @@
 -- What holds of a walk over a list, from node to node.
-use Rattle.std.proofs.Common.{◌≡◌, ℕ, zero, suc, ◌+◌, ◌<◌, ◌≤◌, List, [], ◌∷◌, ◌++◌, length, get_or, refl, ap, arith, ◌∙◌, sym, subst, Bool, true, false, cond, eqb, Option, Some, None, inl, inr}
-use Rattle.std.specs.Prelude.{IfSome}
+use Rattle.std.proofs.Common.{◌≡◌, ℕ, ◌<◌, ◌≤◌, List, [], ◌∷◌, ◌++◌, length, refl, ap, arith, ◌∙◌, sym, subst, Bool, true, false, cond, eqb, Option, Some, None, inl, inr}
 use Rattle.std.specs.List.{find, slice_get}
 use Rattle.std.specs.Option.{option_and_then}
 use Rattle.std.proofs.lemmas.Bool.{eq-eqb, ne_eqb, cases_eq, cases_Bool}
 use Rattle.std.proofs.lemmas.List.{append_assoc}
-use Rattle.vh_links.specs.Lists.{Lists, has, behind, list_of, is_linked, next_of}
+use Rattle.vh_links.specs.Lists.{Lists, has, behind, list_of, next_of}
 use Rattle.vh_links.specs.Views.{IsApart}
-use Rattle.vh_links.proofs.ListsLemmas.{has-head, has-tail, has-right, has-one, has-parts, has-cases, apart-both, parted, behind-at, find-only}
+use Rattle.vh_links.proofs.ListsLemmas.{has-head, has-tail, has-cases, apart-both, parted, behind-at, find-only}
 use Rattle.vh_wheel.specs.declared.node.Node.{Node}
 use Rattle.vh_wheel.specs.Views.{node_at, bucket_at, Lies}
 

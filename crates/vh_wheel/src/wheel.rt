@@ -1,4 +1,4 @@
-ghost use Rattle.std.specs.Prelude.{◌≡◌, ◌<◌, ◌≤◌, ◌+◌, ◌^◌, [], None, Some, true, false, length, slice_set, IfOk, OnErr, IfSome};
+ghost use Rattle.std.specs.Prelude.{ℕ, ◌≡◌, ◌<◌, ◌≤◌, ◌+◌, ◌^◌, [], None, Some, true, false, length, slice_set, IfOk, OnErr, IfSome};
 ghost use Rattle.vh_wheel.specs.Schedule.{entry_at, is_held, held_in, least_time, payload_of, after_cancel, Schedules, Takes, moves_of, moves_left};
 ghost use Rattle.vh_wheel.specs.Views.{node_at, bucket_at, with_bucket, AreFrom, entries_of, ArePlaced, AreLater, AreMoving, moves_of_all};
 
@@ -94,6 +94,7 @@ impl Wheel {
         ensures taken { Takes time result self.old self.new }
         ensures held { IfSome result (λ _. held_in self.new.entries + 1 ≡ held_in self.old.entries) }
         ensures steps { steps.new + moves_left self.new ≤ steps.old + 2048 + moves_left self.old }
+        ensures each { (t : ℕ) → time ≤ t → moves_of time t ≤ moves_of self.old.present t }
     {
         advance(&mut self.buckets, self.present, time, steps);
         self.present = time;

@@ -1,10 +1,10 @@
-use Rattle.std.proofs.Common.{◌≡◌, ◌<◌, ◌∙◌, ℕ, List, length, Bool, true, false, ap, arith, sym, subst, refl, [], inl, inr}
-use Rattle.std.specs.List.{slice_get, list_any}
+use Rattle.std.proofs.Common.{◌≡◌, ◌<◌, ◌∙◌, ℕ, List, length, true, false, ap, arith, sym, subst, refl, [], inl, inr}
+use Rattle.std.specs.List.{slice_get}
 use Rattle.std.proofs.lemmas.Bool.{cases_Bool}
 use Rattle.vh_links.specs.Lists.{Lists, has, list_of, is_linked}
 use Rattle.vh_links.proofs.ListsLemmas.{any-none}
 use Rattle.vh_wheel.specs.declared.node.Node.{Node}
-use Rattle.vh_wheel.specs.Views.{Lies, node_at, bucket_at, IsLeast}
+use Rattle.vh_wheel.specs.Views.{Lies, node_at, bucket_at}
 use Rattle.vh_wheel.proofs.WalkLemmas.{left_of, Walks, walk-begins, walk-goes, walk-ends}
 use Rattle.vh_wheel.proofs.buckets.Buckets.least.Goals as goal
 use Rattle.vh_wheel.proofs.buckets.Buckets.least.Goals.{then-time-least, else-time-least}

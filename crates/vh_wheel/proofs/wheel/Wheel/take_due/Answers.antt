@@ -1,6 +1,7 @@
 use Rattle.std.proofs.Common.{arith, subst, sym, refl, ◌≤◌}
 use Rattle.std.specs.Prelude.{IfSome}
 use Rattle.vh_wheel.specs.Schedule.{Schedule, least_time}
+use Rattle.vh_wheel.proofs.TimesLemmas.{level-never-rises}
 use Rattle.vh_wheel.proofs.NodesLemmas.{moves-are}
 use Rattle.vh_wheel.specs.Views.{schedule_in}
 use Rattle.vh_wheel.proofs.SchedulesLemmas.{takes-held, later-nodes, takes-none, takes-due, moves-seen, freed-placed, freed-moves}
@@ -47,3 +48,9 @@ returns-clause-steps g c =
 pub returns-clause-held : goal.returns-clause-held
 returns-clause-held g c =
     takes-held c.args.time c.free.result c.args.self.now (schedule_in c.free.new.buckets c.args.time) (returns-clause-taken g c)
+
+pub returns-in_err-due-clause-each : goal.returns-in_err-due-clause-each
+returns-in_err-due-clause-each g c = λ t h. level-never-rises 7 c.args.self.now.present c.args.time t c.requires.later h
+
+pub returns-clause-each : goal.returns-clause-each
+returns-clause-each g c = λ t h. level-never-rises 7 c.args.self.now.present c.args.time t c.requires.later h
