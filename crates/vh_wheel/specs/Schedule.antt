@@ -7,6 +7,9 @@ pub record Entry : Type 0 where
   pub time : ℕ
   pub payload : ℕ
 
+abbrev pub until : ℕ → ℕ → Entry
+until t p = record { time = t; payload = p }
+
 -- What is held under each node, and the present time: the last one that was given to `take_due`
 pub record Schedule : Type 0 where
   pub entries : List (Option Entry)

@@ -1,5 +1,5 @@
 ghost use Rattle.std.specs.Prelude.{ℕ, ◌≡◌, ◌<◌, ◌≤◌, ◌+◌, ◌^◌, [], None, Some, true, false, length, slice_set, IfOk, OnErr, IfSome};
-ghost use Rattle.vh_wheel.specs.Schedule.{entry_at, is_held, held_in, least_time, payload_of, after_cancel, Schedules, Takes, moves_of, moves_left};
+ghost use Rattle.vh_wheel.specs.Schedule.{entry_at, is_held, held_in, least_time, payload_of, after_cancel, until, Schedules, Takes, moves_of, moves_left};
 ghost use Rattle.vh_wheel.specs.Views.{node_at, bucket_at, with_bucket, AreFrom, entries_of, ArePlaced, AreLater, AreMoving, moves_of_all};
 
 use crate::bucket::{FREE, bucket_of};
@@ -45,7 +45,7 @@ impl Wheel {
     pub fn schedule(&mut self, alloc: Global, time: u64, payload: u64) -> Result<u32, NoMemory>
         requires few { held_in self.old.entries < 2 ^ 31 }
         requires later { self.old.present ≤ time }
-        ensures scheduled { IfOk result (λ x. Schedules x (record { time = time; payload = payload }) self.old self.new) }
+        ensures scheduled { IfOk result (λ x. Schedules x (until time payload) self.old self.new) }
         ensures held { IfOk result (λ _. held_in self.new.entries ≡ held_in self.old.entries + 1) }
         ensures left { moves_of self.old.present time ≤ 8 }
         ensures moves { IfOk result (λ _. moves_left self.new ≤ moves_left self.old + 8) }
