@@ -1,9 +1,15 @@
-use Rattle.std.proofs.Common.{ap, ◌∙◌, sym, subst, set, List, length, ◌<◌}
+use Rattle.std.proofs.Common.{ap, ◌∙◌, sym, subst, List, length, ◌<◌}
 use Rattle.vh_wheel.specs.declared.node.Node.{Node}
-use Rattle.vh_links.specs.Lists.{Lists, is_linked, after_push}
-use Rattle.vh_wheel.specs.Views.{Lies}
-use Rattle.vh_wheel.proofs.LiesLemmas.{unlinked-free, lies-put}
+use Rattle.vh_links.specs.Lists.{is_linked, after_push}
+use Rattle.vh_wheel.specs.Views.{bucket_at}
+use Rattle.vh_wheel.proofs.LiesLemmas.{linked, unlinked-free}
+use Rattle.vh_wheel.proofs.MarksLemmas.{kept-put}
 use Rattle.vh_wheel.proofs.buckets.Buckets.put.Goals as goal
+
+pub unlink-requires : goal.unlink-requires
+unlink-requires c =
+    let h : c.args.number < length c.self.inside.nodes.items = subst (λ (ns : List Node). c.args.number < length ns) (sym c.self.view_is) c.requires.number in
+    linked c.self.inside.links (bucket_at c.self.inside.nodes.items c.args.number) c.args.number (c.self.invariant.lies.whole c.args.number h)
 
 pub push_back-requires-clause-free : goal.push_back-requires-clause-free
 push_back-requires-clause-free c =
@@ -11,6 +17,9 @@ push_back-requires-clause-free c =
 
 pub invariant_of-self : goal.invariant_of-self
 invariant_of-self c =
-    let is = c.push_back.ensures ∙ ap (after_push c.args.node.bucket c.args.number) c.unlink.ensures in
-    subst (λ (s : Lists). Lies s (set c.self.inside.nodes.items c.args.number c.args.node)) (sym is)
-    (lies-put c.self.inside.links c.self.inside.nodes.items c.args.number c.args.node c.self.invariant (subst (λ (ns : List Node). c.args.number < length ns) (sym c.self.view_is) c.requires.number) c.requires.bucket)
+    let h : c.args.number < length c.self.inside.nodes.items = subst (λ (ns : List Node). c.args.number < length ns) (sym c.self.view_is) c.requires.number in
+    kept-put c.self.inside.links c.self.inside.nodes.items c.self.inside.occupied c.mark.new.occupied c.mark-2.new.occupied c.args.number
+    c.get-from.result.bucket c.args.node c.push_back.new.self c.self.invariant h c.requires.bucket
+    (ap (λ (n : Node). n.bucket) c.get-from.ensures ∙ ap (λ (ns : List Node). bucket_at ns c.args.number) (sym c.self.view_is))
+    (c.push_back.ensures ∙ ap (after_push c.args.node.bucket c.args.number) c.unlink.ensures)
+    c.mark.ensures.there c.mark.ensures.others c.mark-2.ensures.there c.mark-2.ensures.others
