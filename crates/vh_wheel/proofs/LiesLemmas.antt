@@ -92,7 +92,7 @@ pushed-sound b x a y s h there P p q =
       | inr e ↦ p (sym (ap (has y) (list_of-others b x a s e)) ∙ there)
     ]
 
-pushed-has : (b x : ℕ) (s : Lists) → b < length s.lists → has x (list_of b (after_push b x s)) ≡ true
+pub pushed-has : (b x : ℕ) (s : Lists) → b < length s.lists → has x (list_of b (after_push b x s)) ≡ true
 pushed-has b x s h =
     ap (has x) (list_of-push b x b s h refl) ∙ has-right x (list_of b s) (x ∷ []) (has-head x [])
 

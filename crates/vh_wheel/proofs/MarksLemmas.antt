@@ -5,13 +5,13 @@ use Rattle.std.specs.Int.{bit_at, trailing_zeros}
 use Rattle.std.specs.List.{slice_get}
 use Rattle.std.proofs.lemmas.Bool.{cases_lt, cases_eq}
 use Rattle.std.proofs.lemmas.Nat.Bits.{bit_at-trailing_zeros}
-use Rattle.vh_links.specs.Lists.{Lists, has, list_of, after_add, after_push, after_unlink}
-use Rattle.vh_links.proofs.ListsLemmas.{get_or-copies, without-none, has-cases}
+use Rattle.vh_links.specs.Lists.{Lists, has, without, list_of, after_add, after_push, after_unlink}
+use Rattle.vh_links.proofs.ListsLemmas.{get_or-copies, length-mapped, without-none, has-cases}
 use Rattle.vh_links.proofs.ViewsLemmas.{list_of-unlink}
 use Rattle.vh_wheel.specs.declared.node.Node.{Node}
 use Rattle.vh_wheel.specs.declared.occupied.Occupied.{Occupied}
 use Rattle.vh_wheel.specs.Views.{bucket_at, Lies, mark_at, mark_of, list_mark, IsFirstMark, AreMarked, IsKept, AreFrom}
-use Rattle.vh_wheel.proofs.LiesLemmas.{list_of-others, first-of, lies-new, lies-put, lies-add}
+use Rattle.vh_wheel.proofs.LiesLemmas.{pushed-has, list_of-others, first-of, lies-new, lies-put, lies-add}
 
 -- The bit of a bucket, by its word and its place in the word
 mark-in : (o : Occupied) (b p i : ℕ) → b / 64 ≡ p → b % 64 ≡ i → mark_at o b ≡ bit_at (slice_index_or o.words p 0) i
@@ -49,60 +49,77 @@ kept-new o s ns is none all =
 same-mark : (b : ℕ) (s u : Lists) → list_of b u ≡ list_of b s → list_mark b s ≡ list_mark b u
 same-mark b s u e = ap (λ (xs : List ℕ). mark_of (is_some (slice_get xs 0))) (sym e)
 
--- The bits after a node was put into another bucket
-pub marks-put : (s : Lists) (ns : List Node) (o q r : Occupied) (x f b : ℕ) (u : Lists) → Lies s ns → AreMarked o s → f ≡ bucket_at ns x
-    → u ≡ after_push b x (after_unlink x s)
-    → mark_at q f ≡ list_mark f u → ((c : ℕ) → c ≢ f → mark_at q c ≡ mark_at o c)
-    → mark_at r b ≡ list_mark b u → ((c : ℕ) → c ≢ b → mark_at r c ≡ mark_at q c) → AreMarked r u
-marks-put s ns o q r x f b u l marks from is there_f others_f there_b others_b c h =
-    elim (cases_eq c b) [
-      | inl e ↦ subst (λ d. mark_at r d ≡ list_mark d u) (sym e) there_b
+-- A list with a node has its bit
+has-mark : (xs : List ℕ) (x : ℕ) → has x xs ≡ true → mark_of (is_some (slice_get xs 0)) ≡ 1
+has-mark [] x h = cc
+has-mark (y ∷ ys) x h = refl
+
+pub pushed-mark : (b x : ℕ) (s u : Lists) → b < length s.lists → u ≡ after_push b x s → list_mark b u ≡ 1
+pushed-mark b x s u h is = has-mark (list_of b u) x (ap (λ (v : Lists). has x (list_of b v)) is ∙ pushed-has b x s h)
+
+-- The bit of a node's bucket is set, also after another one was
+pub mark-there : (s : Lists) (ns : List Node) (o q : Occupied) (x f b : ℕ) → IsKept o s ns → x < length ns → f ≡ bucket_at ns x
+    → mark_at q b ≡ 1 → ((c : ℕ) → c ≢ b → mark_at q c ≡ mark_at o c) → mark_at q f ≡ 1
+mark-there s ns o q x f b k h from there others =
+    elim (cases_eq f b) [
+      | inl e ↦ ap (λ c. mark_at q c) e ∙ there
       | inr e ↦
-          elim (cases_eq c f) [
-            | inl k ↦ others_b c e ∙ subst (λ d. mark_at q d ≡ list_mark d u) (sym k) there_f
+          let low : f < 2049 = omega (arith, from, k.lies.bound x h) in
+          let has_it : has x (list_of f s) ≡ true = ap (λ c. has x (list_of c s)) from ∙ k.lies.whole x h in
+          others f e ∙ k.marks f low ∙ has-mark (list_of f s) x has_it
+    ]
+
+-- The bits after a node was put into another bucket
+marks-put : (s : Lists) (ns : List Node) (o q r : Occupied) (x f b : ℕ) (u : Lists) → Lies s ns → AreMarked o s → f ≡ bucket_at ns x → b < 2049
+    → u ≡ after_push b x (after_unlink x s)
+    → mark_at q b ≡ 1 → ((c : ℕ) → c ≢ b → mark_at q c ≡ mark_at o c)
+    → mark_at r f ≡ list_mark f u → ((c : ℕ) → c ≢ f → mark_at r c ≡ mark_at q c) → AreMarked r u
+marks-put s ns o q r x f b u l marks from low is there_b others_b there_f others_f c h =
+    elim (cases_eq c f) [
+      | inl e ↦ subst (λ d. mark_at r d ≡ list_mark d u) (sym e) there_f
+      | inr e ↦
+          elim (cases_eq c b) [
+            | inl k ↦
+                let within : b < length (after_unlink x s).lists = omega (arith, low, length-mapped (without x) s.lists, l.count) in
+                others_f c e ∙ ap (λ d. mark_at q d) k ∙ there_b ∙ sym (pushed-mark b x (after_unlink x s) u within is) ∙ ap (λ d. list_mark d u) (sym k)
             | inr k ↦
                 let lacks : has x (list_of c s) ≡ false =
-                has-cases (has x (list_of c s) ≡ false) x (list_of c s) (λ y. absurd (k (sym (from ∙ (l.sound c x y).1)))) (λ y. y) in
+                has-cases (has x (list_of c s) ≡ false) x (list_of c s) (λ y. absurd (e (sym (from ∙ (l.sound c x y).1)))) (λ y. y) in
                 let rest : list_of c u ≡ list_of c s =
-                ap (λ (v : Lists). list_of c v) is ∙ list_of-others b x c (after_unlink x s) e ∙ list_of-unlink x s c ∙ without-none x (list_of c s) lacks in
-                others_b c e ∙ others_f c k ∙ marks c h ∙ same-mark c s u rest
+                ap (λ (v : Lists). list_of c v) is ∙ list_of-others b x c (after_unlink x s) k ∙ list_of-unlink x s c ∙ without-none x (list_of c s) lacks in
+                others_f c e ∙ others_b c k ∙ marks c h ∙ same-mark c s u rest
           ]
     ]
 
 pub kept-put : (s : Lists) (ns : List Node) (o q r : Occupied) (x f : ℕ) (n : Node) (u : Lists) → IsKept o s ns → x < length ns → n.bucket < 2049
     → f ≡ bucket_at ns x → u ≡ after_push n.bucket x (after_unlink x s)
-    → mark_at q f ≡ list_mark f u → ((c : ℕ) → c ≢ f → mark_at q c ≡ mark_at o c)
-    → mark_at r n.bucket ≡ list_mark n.bucket u → ((c : ℕ) → c ≢ n.bucket → mark_at r c ≡ mark_at q c) → IsKept r u (set ns x n)
-kept-put s ns o q r x f n u k h low from is there_f others_f there_b others_b =
+    → mark_at q n.bucket ≡ 1 → ((c : ℕ) → c ≢ n.bucket → mark_at q c ≡ mark_at o c)
+    → mark_at r f ≡ list_mark f u → ((c : ℕ) → c ≢ f → mark_at r c ≡ mark_at q c) → IsKept r u (set ns x n)
+kept-put s ns o q r x f n u k h low from is there_b others_b there_f others_f =
     record {
       lies = subst (λ (v : Lists). Lies v (set ns x n)) (sym is) (lies-put s ns x n k.lies h low);
-      marks = marks-put s ns o q r x f n.bucket u k.lies k.marks from is there_f others_f there_b others_b;
+      marks = marks-put s ns o q r x f n.bucket u k.lies k.marks from low is there_b others_b there_f others_f;
     }
 
 -- And after one more was put into a bucket
-pub marks-add : (s : Lists) (o q : Occupied) (x b : ℕ) (u : Lists) → AreMarked o s → u ≡ after_push b x (after_add s)
-    → mark_at q b ≡ list_mark b u → ((c : ℕ) → c ≢ b → mark_at q c ≡ mark_at o c) → AreMarked q u
-marks-add s o q x b u marks is there others c h =
+marks-add : (s : Lists) (o q : Occupied) (x b : ℕ) (u : Lists) → AreMarked o s → b < length s.lists → u ≡ after_push b x (after_add s)
+    → mark_at q b ≡ 1 → ((c : ℕ) → c ≢ b → mark_at q c ≡ mark_at o c) → AreMarked q u
+marks-add s o q x b u marks within is there others c h =
     elim (cases_eq c b) [
-      | inl e ↦ subst (λ d. mark_at q d ≡ list_mark d u) (sym e) there
+      | inl e ↦ subst (λ d. mark_at q d ≡ list_mark d u) (sym e) (there ∙ sym (pushed-mark b x (after_add s) u within is))
       | inr e ↦ others c e ∙ marks c h ∙ same-mark c s u (ap (λ (v : Lists). list_of c v) is ∙ list_of-others b x c (after_add s) e)
     ]
 
 pub kept-add : (s : Lists) (ns ms : List Node) (o q : Occupied) (x : ℕ) (n : Node) (u : Lists) → IsKept o s ns → length ns < 2147483648 → n.bucket < 2049
     → x ≡ length ns → u ≡ after_push n.bucket x (after_add s) → ms ≡ ns ++ n ∷ []
-    → mark_at q n.bucket ≡ list_mark n.bucket u → ((c : ℕ) → c ≢ n.bucket → mark_at q c ≡ mark_at o c) → IsKept q u ms
+    → mark_at q n.bucket ≡ 1 → ((c : ℕ) → c ≢ n.bucket → mark_at q c ≡ mark_at o c) → IsKept q u ms
 kept-add s ns ms o q x n u k room low number is more there others =
     record {
       lies =
           subst (λ (v : Lists). Lies v ms) (sym (is ∙ ap (λ y. after_push n.bucket y (after_add s)) number))
           (subst (λ (ks : List Node). Lies (after_push n.bucket (length ns) (after_add s)) ks) (sym more) (lies-add s ns n k.lies room low));
-      marks = marks-add s o q x n.bucket u k.marks is there others;
+      marks = marks-add s o q x n.bucket u k.marks (omega (arith, low, k.lies.count)) is there others;
     }
-
--- A list with a node has its bit
-has-mark : (xs : List ℕ) (x : ℕ) → has x xs ≡ true → mark_of (is_some (slice_get xs 0)) ≡ 1
-has-mark [] x h = cc
-has-mark (y ∷ ys) x h = refl
 
 -- No node stands before the first bit
 pub from-first : (o : Occupied) (s : Lists) (ns : List Node) (b : ℕ) → IsKept o s ns → ((c : ℕ) → c < b → mark_at o c ≡ 0) → AreFrom b ns

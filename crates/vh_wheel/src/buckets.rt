@@ -54,7 +54,7 @@ impl Buckets {
         self.nodes.reserve(1)?;
         let number = self.links.add_node(alloc)?;
         self.links.push_back(node.bucket, number);
-        mark(&mut self.occupied, &self.links, node.bucket);
+        self.occupied.set(node.bucket);
         self.nodes.push_reserved(node);
         Ok(number)
     }
@@ -68,8 +68,8 @@ impl Buckets {
         let from = self.get(number).bucket;
         self.links.unlink(number);
         self.links.push_back(node.bucket, number);
-        mark(&mut self.occupied, &self.links, from);
-        mark(&mut self.occupied, &self.links, node.bucket);
+        self.occupied.set(node.bucket);
+        clear_if_empty(&mut self.occupied, &self.links, from);
         self.nodes[number as usize] = node;
     }
 
@@ -122,13 +122,15 @@ impl Buckets {
     }
 }
 
-// Says of a bucket whether its list has nodes.
-fn mark(occupied: &mut Occupied, links: &Links, bucket: u32)
+// Says of a bucket that it has no nodes, where it lost its last one.
+fn clear_if_empty(occupied: &mut Occupied, links: &Links, bucket: u32)
     requires bucket { bucket < 2049 }
     requires lists { length links.now.lists ≡ 2049 }
+    requires set { mark_at occupied.old bucket ≡ 1 }
     ensures there { mark_at occupied.new bucket ≡ list_mark bucket links.now }
     ensures others { (b : ℕ) → b ≢ bucket → mark_at occupied.new b ≡ mark_at occupied.old b }
 {
-    let has_nodes = links.first(bucket).is_some();
-    occupied.put(bucket, has_nodes);
+    if links.first(bucket).is_none() {
+        occupied.clear(bucket);
+    }
 }

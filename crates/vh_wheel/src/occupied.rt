@@ -1,6 +1,6 @@
 ghost use Rattle.std.specs.Prelude.{ℕ, ◌≡◌, ◌≢◌, ◌<◌, ◌≤◌, ◌+◌, None, IfSome};
 ghost use Rattle.std.specs.Int.{bit_at};
-ghost use Rattle.vh_wheel.specs.Views.{mark_of, mark_at, IsFirstMark};
+ghost use Rattle.vh_wheel.specs.Views.{mark_at, IsFirstMark};
 
 use std::sync::ledger::Ledger;
 use vh_base::Steps;
@@ -19,15 +19,24 @@ impl Occupied {
         Occupied { words: [0; 33] }
     }
 
-    // Says of a bucket whether it has nodes.
-    pub fn put(&mut self, bucket: u32, has_nodes: bool)
+    // Says of a bucket that it has nodes.
+    pub fn set(&mut self, bucket: u32)
         requires { bucket < 2049 }
-        ensures there { mark_at self.new bucket ≡ mark_of has_nodes }
+        ensures there { mark_at self.new bucket ≡ 1 }
         ensures others { (b : ℕ) → b ≢ bucket → mark_at self.new b ≡ mark_at self.old b }
     {
         let place = (bucket / 64) as usize;
-        let word = self.words[place];
-        self.words[place] = with_bit(word, bucket % 64, has_nodes);
+        self.words[place] = with_bit(self.words[place], bucket % 64);
+    }
+
+    // Says of a bucket that it has no nodes.
+    pub fn clear(&mut self, bucket: u32)
+        requires { bucket < 2049 }
+        ensures there { mark_at self.new bucket ≡ 0 }
+        ensures others { (b : ℕ) → b ≢ bucket → mark_at self.new b ≡ mark_at self.old b }
+    {
+        let place = (bucket / 64) as usize;
+        self.words[place] = without_bit(self.words[place], bucket % 64);
     }
 
     // The first bucket of the levels that has nodes, by a look at 32 words at most.
@@ -47,15 +56,20 @@ impl Occupied {
     }
 }
 
-// A word with a bit set or clear.
-fn with_bit(word: u64, bit: u32, is_set: bool) -> u64
+// A word with a bit set.
+fn with_bit(word: u64, bit: u32) -> u64
     requires { bit < 64 }
-    ensures there { bit_at result bit ≡ mark_of is_set }
+    ensures there { bit_at result bit ≡ 1 }
+    ensures others { (i : ℕ) → i ≢ bit → bit_at result i ≡ bit_at word i }
+{
+    word | (1 << bit)
+}
+
+// A word with a bit clear.
+fn without_bit(word: u64, bit: u32) -> u64
+    requires { bit < 64 }
+    ensures there { bit_at result bit ≡ 0 }
     ensures others { (i : ℕ) → i < 64 → i ≢ bit → bit_at result i ≡ bit_at word i }
 {
-    if is_set {
-        word | (1 << bit)
-    } else {
-        word & !(1 << bit)
-    }
+    word & !(1 << bit)
 }

@@ -14,9 +14,9 @@ push_back-requires-clause-free c =
 pub invariant_of-self-2 : goal.invariant_of-self-2
 invariant_of-self-2 c =
     let ns : List Node = c.self.inside.nodes.items in
-    kept-add c.self.inside.links ns c.push_reserved.new.self.items c.self.inside.occupied c.mark.new.occupied c.in_ok-number.number c.args.node c.push_back.new.self
+    kept-add c.self.inside.links ns c.push_reserved.new.self.items c.self.inside.occupied c.set.new.self c.in_ok-number.number c.args.node c.push_back.new.self
     c.self.invariant (subst (λ (xs : List Node). length xs < 2147483648) (sym c.self.view_is) c.requires.few) c.requires.bucket
     (c.in_ok-number.ensures.number ∙ c.self.invariant.lies.size)
     (c.push_back.ensures ∙ ap (after_push c.args.node.bucket c.in_ok-number.number) c.in_ok-number.ensures.added)
     (c.push_reserved.ensures.items ∙ ap (λ (xs : List Node). xs ++ c.args.node ∷ []) c.reserve.ensures.items)
-    c.mark.ensures.there c.mark.ensures.others
+    c.set.ensures.there c.set.ensures.others
