@@ -10,3 +10,5 @@ pub mod MovesLemmas
 pub mod SchedulesLemmas
 -- Walks over a bucket
 pub mod WalkLemmas
+-- Words that say which buckets have nodes
+pub mod MarksLemmas

@@ -7,7 +7,7 @@ use Rattle.std.proofs.lemmas.List.{get_or-set_same, get_or-set_other, get_or_app
 use Rattle.std.proofs.Math.ListN.{length-append}
 use Rattle.std.proofs.Math.Seq.{get_or-append_seam}
 use Rattle.vh_links.specs.Lists.{Lists, has, without, list_of, is_linked, after_add, after_push, after_unlink}
-use Rattle.vh_links.proofs.ListsLemmas.{has-cases, has-without, has-parts, has-one, has-left, has-right, has-head, any-at, get_or-copies, length-mapped, not_one, apart-without, apart-append}
+use Rattle.vh_links.proofs.ListsLemmas.{has-cases, has-without, has-parts, has-one, has-left, has-right, has-head, any-at, any-none, get_or-copies, length-mapped, not_one, apart-without, apart-append}
 use Rattle.vh_links.specs.Views.{IsApart}
 use Rattle.vh_links.proofs.ViewsLemmas.{list_of-unlink}
 use Rattle.vh_wheel.specs.declared.node.Node.{Node}
@@ -65,12 +65,20 @@ pub new-free : (s : Lists) (ns : List Node) → Lies s ns → (x : ℕ) → x �
 new-free s ns l x e =
     is-free x (after_add s) (λ a. has-cases (has x (list_of a s) ≡ false) x (list_of a s) (λ h. absurd (omega (arith, (l.sound a x h).0))) (λ h. h))
 
+-- A node that some list has
+pub linked : (s : Lists) (a x : ℕ) → has x (list_of a s) ≡ true → is_linked x s ≡ true
+linked s a x h =
+    elim (cases_Bool (is_linked x s)) [
+      | inl e ↦ e
+      | inr e ↦ absurd (let no : true ≡ false = sym h ∙ any-none (has x) s.lists a [] e refl in cc)
+    ]
+
 -- The lists after a node was appended
 list_of-push : (b x a : ℕ) (s : Lists) → b < length s.lists → a ≡ b → list_of a (after_push b x s) ≡ list_of b s ++ x ∷ []
 list_of-push b x a s h e =
     ap (λ c. list_of c (after_push b x s)) e ∙ get_or-set_same s.lists b (list_of b s ++ x ∷ []) [] h
 
-list_of-others : (b x a : ℕ) (s : Lists) → (a ≡ b → ⊥) → list_of a (after_push b x s) ≡ list_of a s
+pub list_of-others : (b x a : ℕ) (s : Lists) → (a ≡ b → ⊥) → list_of a (after_push b x s) ≡ list_of a s
 list_of-others b x a s n = get_or-set_other s.lists b a (list_of b s ++ x ∷ []) [] n
 
 pub pushed-sound : (b x a y : ℕ) (s : Lists) → b < length s.lists → has y (list_of a (after_push b x s)) ≡ true
@@ -84,7 +92,7 @@ pushed-sound b x a y s h there P p q =
       | inr e ↦ p (sym (ap (has y) (list_of-others b x a s e)) ∙ there)
     ]
 
-pushed-has : (b x : ℕ) (s : Lists) → b < length s.lists → has x (list_of b (after_push b x s)) ≡ true
+pub pushed-has : (b x : ℕ) (s : Lists) → b < length s.lists → has x (list_of b (after_push b x s)) ≡ true
 pushed-has b x s h =
     ap (has x) (list_of-push b x b s h refl) ∙ has-right x (list_of b s) (x ∷ []) (has-head x [])
 

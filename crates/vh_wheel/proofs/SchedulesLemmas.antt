@@ -9,7 +9,7 @@ use Rattle.vh_links.proofs.ListsLemmas.{length-mapped}
 use Rattle.vh_wheel.specs.declared.node.Node.{Node}
 use Rattle.vh_wheel.specs.Schedule.{Entry, Schedule, entry_at, is_held, held_in, least_time, has_time, without, after_cancel, Schedules, Takes, moves_left}
 use Rattle.vh_wheel.specs.Views.{bucket_from, nowhere, node_at, bucket_at, with_bucket, entry_of, entries_of, schedule_in, HasPlace, ArePlaced, AreLater, AreFrom, IsLeast, moves_at, moves_of_all}
-use Rattle.vh_wheel.proofs.TimesLemmas.{later-bucket, level-falls, bucket-now, bucket-range, has-bytes}
+use Rattle.vh_wheel.proofs.TimesLemmas.{later-bucket, level-falls, low-time, bucket-now, bucket-range, has-bytes}
 use Rattle.vh_wheel.proofs.NodesLemmas.{entry-held, entry-free, entry-is, held-node, node-held, least-is, least-none, later-all, has-no-time, all-held, moves-set, moves-add, moves-held, moves-free, moves-are}
 use Rattle.vh_wheel.proofs.MovesLemmas.{nodes-set, nodes-add, entries-set, entries-add}
 
@@ -44,6 +44,20 @@ least-of p ns x t placed h low from least =
             | inr l ↦ omega (arith, l, other.2)
           ]
     ])
+
+-- All nodes of a bucket of the lowest level have its time
+pub least-low : (p : ℕ) (ns : List Node) (x : ℕ) → ArePlaced p ns → x < length ns → bucket_at ns x < 256 → IsLeast (bucket_at ns x) ns (node_at ns x).time
+least-low p ns x placed h low =
+    let n : Node = node_at ns x in
+    let place : HasPlace p n = placed x h (λ e. omega (arith, e, low)) in
+    record {
+      some = (x, h, refl, refl);
+      all = λ y k e.
+          let m : Node = node_at ns y in
+          let its : HasPlace p m = placed y k (λ f. omega (arith, e, f, low)) in
+          let same : m.time ≡ n.time = low-time p n.time m.time (omega (arith, low, place.bucket)) (sym its.bucket ∙ e ∙ place.bucket) in
+          omega (arith, same);
+    }
 
 -- Nothing is held where all nodes are free
 beyond : (ns : List Node) (x : ℕ) → length ns ≤ x → node_at ns x ≡ nowhere

@@ -89,6 +89,18 @@ level-falls (suc k) n t u h l is ne =
           ]
     ]
 
+-- A bucket of the lowest level has one time
+pub low-time : (n t u : ℕ) → bucket_from 7 n t < 256 → bucket_from 7 n u ≡ bucket_from 7 n t → u ≡ t
+low-time n t u low same =
+    elim (cases_eq (n / 256) (t / 256)) [
+      | inl e ↦
+          elim (cases_eq (n / 256) (u / 256)) [
+            | inl f ↦ omega (arith, same, e, f, same-bucket 6 n t e, same-bucket 6 n u f)
+            | inr f ↦ absurd (omega (arith, same, low, other-bucket 6 n u f))
+          ]
+      | inr e ↦ absurd (omega (arith, low, other-bucket 6 n t e))
+    ]
+
 -- A time that has no more bytes than there are levels
 abbrev pub HasBytes : ℕ → ℕ → Type 0
 HasBytes zero t = t < 256

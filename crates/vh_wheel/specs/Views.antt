@@ -1,8 +1,11 @@
 -- How the buckets hold a schedule (own). A bucket's number is 256 times its level and its byte; that of free nodes is 2048.
-use Rattle.std.specs.Prelude.{ℕ, zero, suc, ◌≡◌, ◌≢◌, ◌<◌, ◌≤◌, ◌+◌, ◌/◌, ◌%◌, ◌^◌, ◌==◌, true, if◌then◌else◌, List, [], ◌∷◌, map, length, slice_index_or, Option, None, Some}
+use Rattle.std.specs.Prelude.{ℕ, zero, suc, ◌≡◌, ◌≢◌, ◌<◌, ◌≤◌, ◌+◌, ◌/◌, ◌%◌, ◌^◌, ◌==◌, Bool, true, if◌then◌else◌, List, [], ◌∷◌, map, length, slice_index_or, Option, None, Some, is_some}
+use Rattle.std.specs.Int.{bit_at}
+use Rattle.std.specs.List.{slice_get}
 use Rattle.vh_links.specs.Lists.{Lists, has, list_of}
 use Rattle.vh_links.specs.Views.{IsApart}
 use Rattle.vh_wheel.specs.declared.node.Node.{Node}
+use Rattle.vh_wheel.specs.declared.occupied.Occupied.{Occupied}
 use Rattle.vh_wheel.specs.Schedule.{Entry, Schedule, moves_of}
 
 -- The bucket of a time, seen from the present time, with the levels above the lowest that there are
@@ -34,6 +37,32 @@ pub record Lies (s : Lists) (ns : List Node) : Type 0 where
   pub whole : (x : ℕ) → x < length ns → has x (list_of (bucket_at ns x) s) ≡ true
   pub bound : (x : ℕ) → x < length ns → bucket_at ns x < 2049
   pub apart : (a : ℕ) → IsApart (list_of a s)
+
+-- The bit of a bucket: 64 to a word
+abbrev pub mark_at : Occupied → ℕ → ℕ
+mark_at o b = bit_at (slice_index_or o.words (b / 64) 0) (b % 64)
+
+abbrev pub mark_of : Bool → ℕ
+mark_of has_nodes = if has_nodes then 1 else 0
+
+-- The first bucket of the levels whose bit is set
+pub record IsFirstMark (o : Occupied) (b : ℕ) : Type 0 where
+  pub low : b < 2048
+  pub there : mark_at o b ≡ 1
+  pub first : (c : ℕ) → c < b → mark_at o c ≡ 0
+
+-- Has the list of a bucket nodes?
+abbrev pub list_mark : ℕ → Lists → ℕ
+list_mark b s = mark_of (is_some (slice_get (list_of b s) 0))
+
+-- A bit is set exactly where the list of its bucket has nodes
+abbrev pub AreMarked : Occupied → Lists → Type 0
+AreMarked o s = (b : ℕ) → b < 2049 → mark_at o b ≡ list_mark b s
+
+-- What the buckets keep
+pub record IsKept (o : Occupied) (s : Lists) (ns : List Node) : Type 0 where
+  pub lies : Lies s ns
+  pub marks : AreMarked o s
 
 -- What is held under a node
 abbrev pub entry_of : Node → Option Entry

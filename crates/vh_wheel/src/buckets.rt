@@ -1,30 +1,33 @@
-ghost use Rattle.std.specs.Prelude.{◌≡◌, ◌≢◌, ◌<◌, ◌+◌, ◌^◌, ◌++◌, ◌∷◌, [], ℕ, None, length, slice_index_or, slice_set, IfOk, IfSome, OnErr};
-ghost use Rattle.vh_wheel.specs.Views.{nowhere, bucket_at, IsLeast};
+ghost use Rattle.std.specs.Prelude.{◌≡◌, ◌≢◌, ◌<◌, ◌≤◌, ◌+◌, ◌^◌, ◌++◌, ◌∷◌, [], ℕ, None, length, slice_index_or, slice_set, IfOk, IfSome, OnErr};
+ghost use Rattle.vh_wheel.specs.Views.{nowhere, bucket_at, mark_at, list_mark, AreFrom, IsLeast};
 
 use crate::bucket::FREE;
 use crate::node::Node;
+use crate::occupied::Occupied;
 use std::alloc::Global;
 use std::marker::Model;
-use vh_base::NoMemory;
+use std::sync::ledger::Ledger;
+use vh_base::{NoMemory, Steps};
 use vh_links::Links;
 
-// The nodes, each in the list of its bucket. Contracts see the nodes.
+// The nodes, each in the list of its bucket, and which buckets have nodes. Contracts see the nodes.
 #[derive(Drop)]
 pub struct Buckets {
     links: Links,
+    occupied: Occupied,
     nodes: Vec<Node>,
 }
 
 impl Model for Buckets {
     ghost use Rattle.std.specs.Prelude.{List};
     ghost use Rattle.vh_wheel.specs.declared.node.Node.{Node};
-    ghost use Rattle.vh_wheel.specs.Views.{Lies};
+    ghost use Rattle.vh_wheel.specs.Views.{IsKept};
 
     ghost Value = { List Node };
 
     ghost view = { λ b. b.nodes.items };
 
-    ghost invariant = { λ b. Lies b.links b.nodes.items };
+    ghost invariant = { λ b. IsKept b.occupied b.links b.nodes.items };
 }
 
 impl Buckets {
@@ -35,6 +38,7 @@ impl Buckets {
         let links = Links::new(alloc, FREE + 1)?;
         Ok(Buckets {
             links,
+            occupied: Occupied::new(),
             nodes: Vec::new(alloc),
         })
     }
@@ -50,6 +54,7 @@ impl Buckets {
         self.nodes.reserve(1)?;
         let number = self.links.add_node(alloc)?;
         self.links.push_back(node.bucket, number);
+        self.occupied.set(node.bucket);
         self.nodes.push_reserved(node);
         Ok(number)
     }
@@ -60,8 +65,11 @@ impl Buckets {
         requires bucket { node.bucket < 2049 }
         ensures { self.new ≡ slice_set self.old number node }
     {
+        let from = self.get(number).bucket;
         self.links.unlink(number);
         self.links.push_back(node.bucket, number);
+        self.occupied.set(node.bucket);
+        clear_if_empty(&mut self.occupied, &self.links, from);
         self.nodes[number as usize] = node;
     }
 
@@ -82,6 +90,19 @@ impl Buckets {
         self.links.first(bucket)
     }
 
+    // The first node of the first bucket of the levels that has nodes; `None` where none has.
+    pub fn first_held<L: Ledger>(&self, steps: &mut Steps<L>) -> Option<u32>
+        ensures some { IfSome result (λ x. x < length self.now) }
+        ensures held { IfSome result (λ x. bucket_at self.now x < 2048) }
+        ensures first { IfSome result (λ x. AreFrom (bucket_at self.now x) self.now) }
+        ensures none { result ≡ None → AreFrom 2048 self.now }
+        ensures steps { steps.new ≤ steps.old + 33 }
+    {
+        let bucket = self.occupied.first(steps)?;
+        steps.tick();
+        self.links.first(bucket)
+    }
+
     // The least time of the nodes that stand in the bucket of this one.
     pub fn least(&self, number: u32) -> u64
         requires { number < length self.now }
@@ -98,5 +119,18 @@ impl Buckets {
             at = self.links.next(number);
         }
         least
+    }
+}
+
+// Says of a bucket that it has no nodes, where it lost its last one.
+fn clear_if_empty(occupied: &mut Occupied, links: &Links, bucket: u32)
+    requires bucket { bucket < 2049 }
+    requires lists { length links.now.lists ≡ 2049 }
+    requires set { mark_at occupied.old bucket ≡ 1 }
+    ensures there { mark_at occupied.new bucket ≡ list_mark bucket links.now }
+    ensures others { (b : ℕ) → b ≢ bucket → mark_at occupied.new b ≡ mark_at occupied.old b }
+{
+    if links.first(bucket).is_none() {
+        occupied.clear(bucket);
     }
 }

@@ -74,14 +74,18 @@ impl Wheel {
         free(&mut self.buckets, node)
     }
 
-    /// The least time of what is held; `None` where nothing is held. It looks at 2,048 buckets at
-    /// most, and goes over the nodes of one.
+    /// The least time of what is held; `None` where nothing is held. It looks at 32 words and one
+    /// bucket at most, and goes over the nodes of that one where it has more than one time.
     pub fn next_time<L: Ledger>(&self, steps: &mut Steps<L>) -> Option<u64>
         ensures time { result ≡ least_time self.now.entries }
         ensures later { IfSome result (λ t. self.now.present ≤ t) }
         ensures steps { steps.new ≤ steps.old + 2048 }
     {
-        let first = first_held(&self.buckets, steps)?;
+        let first = self.buckets.first_held(steps)?;
+        let node = self.buckets.get(first);
+        if node.bucket < 256 {
+            return Some(node.time);
+        }
         Some(self.buckets.least(first))
     }
 
@@ -102,23 +106,6 @@ impl Wheel {
         let due = self.buckets.first((time % 256) as u32)?;
         Some(free(&mut self.buckets, due))
     }
-}
-
-// The first node of the first bucket that has nodes; `None` where nothing is held.
-fn first_held<L: Ledger>(buckets: &Buckets, steps: &mut Steps<L>) -> Option<u32>
-    ensures some { IfSome result (λ x. x < length buckets.now) }
-    ensures held { IfSome result (λ x. bucket_at buckets.now x < 2048) }
-    ensures first { IfSome result (λ x. AreFrom (bucket_at buckets.now x) buckets.now) }
-    ensures none { result ≡ None → AreFrom 2048 buckets.now }
-    ensures steps { steps.new ≤ steps.old + 2048 }
-{
-    for bucket in 0..FREE {
-        steps.tick();
-        if let Some(first) = buckets.first(bucket) {
-            return Some(first);
-        }
-    }
-    None
 }
 
 // Frees a node; the payload that it had.

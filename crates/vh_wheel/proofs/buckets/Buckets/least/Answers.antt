@@ -1,20 +1,12 @@
-use Rattle.std.proofs.Common.{◌≡◌, ◌<◌, ◌∙◌, ℕ, List, length, true, false, ap, arith, sym, subst, refl, [], inl, inr}
+use Rattle.std.proofs.Common.{◌≡◌, ◌<◌, ◌∙◌, ℕ, List, length, ap, arith, sym, subst, refl}
 use Rattle.std.specs.List.{slice_get}
-use Rattle.std.proofs.lemmas.Bool.{cases_Bool}
-use Rattle.vh_links.specs.Lists.{Lists, has, list_of, is_linked}
-use Rattle.vh_links.proofs.ListsLemmas.{any-none}
+use Rattle.vh_links.specs.Lists.{list_of}
 use Rattle.vh_wheel.specs.declared.node.Node.{Node}
 use Rattle.vh_wheel.specs.Views.{Lies, node_at, bucket_at}
+use Rattle.vh_wheel.proofs.LiesLemmas.{linked}
 use Rattle.vh_wheel.proofs.WalkLemmas.{left_of, Walks, walk-begins, walk-goes, walk-ends}
 use Rattle.vh_wheel.proofs.buckets.Buckets.least.Goals as goal
 use Rattle.vh_wheel.proofs.buckets.Buckets.least.Goals.{then-time-least, else-time-least}
-
-linked : (s : Lists) (a x : ℕ) → has x (list_of a s) ≡ true → is_linked x s ≡ true
-linked s a x h =
-    elim (cases_Bool (is_linked x s)) [
-      | inl e ↦ e
-      | inr e ↦ absurd (let no : true ≡ false = sym h ∙ any-none (has x) s.lists a [] e refl in cc)
-    ]
 
 pub loop-at-init : goal.loop-at-init
 loop-at-init c =
@@ -26,7 +18,7 @@ loop-at-init c =
 
 pub get-time-requires : goal.get-time-requires
 get-time-requires c =
-    let lies : Lies c.self.inside.links c.args.self.now = subst (λ (ns : List Node). Lies c.self.inside.links ns) c.self.view_is c.self.invariant in
+    let lies : Lies c.self.inside.links c.args.self.now = subst (λ (ns : List Node). Lies c.self.inside.links ns) c.self.view_is c.self.invariant.lies in
     (lies.sound (bucket_at c.args.self.now c.args.number) c.in-Some.number (c.loop-at.invariant.here c.in-Some.number c.in-Some.is)).0
 
 pub next-at-requires : goal.next-at-requires
@@ -41,7 +33,7 @@ turn c =
     let ns : List Node = c.args.self.now in
     let b : ℕ = bucket_at ns c.args.number in
     let x : ℕ = c.in-Some.number in
-    let lies : Lies c.self.inside.links ns = subst (λ (ms : List Node). Lies c.self.inside.links ms) c.self.view_is c.self.invariant in
+    let lies : Lies c.self.inside.links ns = subst (λ (ms : List Node). Lies c.self.inside.links ms) c.self.view_is c.self.invariant.lies in
     let sound = lies.sound b x (c.loop-at.invariant.here x c.in-Some.is) in
     let time : c.get-time.result.time ≡ (node_at ns x).time = ap (λ (n : Node). n.time) c.get-time.ensures in
     elim c.if-time-least.branch [
@@ -63,7 +55,7 @@ loop-at-preserved c = (turn c).0
 
 pub returns : goal.returns
 returns c =
-    let lies : Lies c.self.inside.links c.args.self.now = subst (λ (ms : List Node). Lies c.self.inside.links ms) c.self.view_is c.self.invariant in
+    let lies : Lies c.self.inside.links c.args.self.now = subst (λ (ms : List Node). Lies c.self.inside.links ms) c.self.view_is c.self.invariant.lies in
     record {
       some = c.loop-at.invariant.some;
       all = walk-ends c.self.inside.links c.args.self.now c.loop-at.at (bucket_at c.args.self.now c.args.number) c.loop-at.least lies c.in_default.is c.loop-at.invariant;
