@@ -8,18 +8,17 @@ use vh_base::{CbNumber, HandleNo, ObjId, Object, Relation, Serial};
 fn numbers_name_things(rt: HostRuntime) {
     let alloc = rt.alloc();
     let mut handles = Handles::new(alloc);
-    let register = Thing::Object(object(7));
-    assert!(rt; opened(alloc, &mut handles, register) == Some(0));
+    assert!(rt; opened(alloc, &mut handles, Thing::Object(object(7))) == Some(0));
     assert!(rt; opened(alloc, &mut handles, Thing::Callback(CbNumber::new(1))) == Some(1));
     assert!(rt; opened(alloc, &mut handles, Thing::Event(Serial::new(9))) == Some(2));
     assert!(rt; handles.live() == 3);
-    assert!(rt; handles.thing(HandleNo::new(0)) == Some(register));
+    assert!(rt; handles.thing(HandleNo::new(0)) == Some(Thing::Object(object(7))));
     assert!(rt; handles.thing(HandleNo::new(3)) == None);
     assert!(rt; handles.free(HandleNo::new(1)));
     assert!(rt; !handles.free(HandleNo::new(1)));
     assert!(rt; handles.thing(HandleNo::new(1)) == None);
     assert!(rt; handles.thing(HandleNo::new(2)) == Some(Thing::Event(Serial::new(9))));
-    assert!(rt; opened(alloc, &mut handles, register) == Some(3));
+    assert!(rt; opened(alloc, &mut handles, Thing::Object(object(7))) == Some(3));
     assert!(rt; handles.live() == 3);
 }
 
