@@ -1,5 +1,5 @@
 -- The live callbacks by what they watch: the index that the registry keeps beside them. (own)
-use Rattle.std.specs.Prelude.{◌≡◌, ◌==◌, ℕ, List, [], ◌∷◌, map, filter, Bool, true, false, not, Option, Some, None, Vec}
+use Rattle.std.specs.Prelude.{◌≡◌, ℕ, List, [], ◌∷◌, map, filter, Bool, true, false, Option, Some, None, Vec}
 use Rattle.std.specs.BTreeMap.{is_at}
 use Rattle.std.specs.Map.{lookup}
 use Rattle.std.specs.Option.{option_cmp, option_map}
@@ -9,7 +9,7 @@ use Rattle.std.specs.declared.alloc.Global.{Global}
 use Rattle.vh_base.specs.declared.orders.Object.{Object}
 use Rattle.vh_base.specs.declared.words.Reason.{Reason}
 use Rattle.vh_callbacks.specs.declared.index.Watch.{Watch}
-use Rattle.vh_callbacks.specs.declared.registry.Live.{Live}
+use Rattle.vh_callbacks.specs.declared.live.Live.{Live}
 use Rattle.vh_callbacks.specs.Registration.{rank}
 
 -- What a callback with this reason and this object watches.
@@ -44,10 +44,6 @@ abbrev pub is_empty_list : Option (List ℕ) → Bool
 is_empty_list None = false
 is_empty_list (Some []) = true
 is_empty_list (Some (n ∷ ns)) = false
-
--- All numbers but this one.
-abbrev pub without_number : ℕ → List ℕ → List ℕ
-without_number n ns = filter (λ m. not (m == n)) ns
 
 module _ {B : Type 0} where
   -- Does an entry watch this?

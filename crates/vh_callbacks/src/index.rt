@@ -1,7 +1,8 @@
 ghost use Rattle.std.specs.Prelude.{◌≡◌, ◌++◌, ◌∷◌, ◌==◌, [], if◌then◌else◌, true, not, length, is_some, Some, OnOk, OnErr};
 ghost use Rattle.std.specs.Option.{option_map};
 ghost use Rattle.std.specs.BTreeMap.{is_at, get};
-ghost use Rattle.vh_callbacks.specs.Watching.{watch, watch_cmp, list_under, numbers_under, without_number, if_any, is_empty_list};
+ghost use Rattle.vh_callbacks.specs.Watching.{watch, watch_cmp, list_under, numbers_under, if_any, is_empty_list};
+ghost use Rattle.vh_callbacks.specs.Marks.{without_number};
 
 use std::alloc::Global;
 use std::collections::BTreeMap;
@@ -46,8 +47,10 @@ pub(crate) fn add(
     number: CbNumber,
 ) -> Result<(), NoMemory>
     ensures ok { OnOk result ((q : Watch) → list_under q index.new.entries
-        ≡ (if is_at (watch_cmp w) q then Some (numbers_under w index.old.entries ++ number ∷ []) else list_under q index.old.entries)) }
-    ensures kept { OnErr result ((q : Watch) → list_under q index.new.entries ≡ list_under q index.old.entries) }
+        ≡ (if is_at (watch_cmp w) q then Some (numbers_under w index.old.entries ++ number ∷ [])
+        else list_under q index.old.entries)) }
+    ensures kept { OnErr result ((q : Watch) →
+        list_under q index.new.entries ≡ list_under q index.old.entries) }
 {
     if index.contains_key(&w) {
         return push_at(index, w, number);
@@ -62,8 +65,10 @@ pub(crate) fn add(
 fn push_at(index: &mut Index, w: Watch, number: CbNumber) -> Result<(), NoMemory>
     requires { is_some (get watch_cmp index.old w) ≡ true }
     ensures ok { OnOk result ((q : Watch) → list_under q index.new.entries
-        ≡ (if is_at (watch_cmp w) q then Some (numbers_under w index.old.entries ++ number ∷ []) else list_under q index.old.entries)) }
-    ensures kept { OnErr result ((q : Watch) → list_under q index.new.entries ≡ list_under q index.old.entries) }
+        ≡ (if is_at (watch_cmp w) q then Some (numbers_under w index.old.entries ++ number ∷ [])
+        else list_under q index.old.entries)) }
+    ensures kept { OnErr result ((q : Watch) →
+        list_under q index.new.entries ≡ list_under q index.old.entries) }
 {
     let Some(numbers) = index.get_mut(&w) else {
         unreachable!();
@@ -75,7 +80,9 @@ fn push_at(index: &mut Index, w: Watch, number: CbNumber) -> Result<(), NoMemory
 /// Takes a number out of those that watch this, and their list where none are left. It walks these.
 pub(crate) fn take(index: &mut Index, w: Watch, number: CbNumber)
     ensures { (q : Watch) → list_under q index.new.entries
-        ≡ (if is_at (watch_cmp w) q then if_any (without_number number (numbers_under w index.old.entries)) else list_under q index.old.entries) }
+        ≡ (if is_at (watch_cmp w) q
+        then if_any (without_number number (numbers_under w index.old.entries))
+        else list_under q index.old.entries) }
 {
     if !drop_at(index, w, number) {
         return;
@@ -86,8 +93,11 @@ pub(crate) fn take(index: &mut Index, w: Watch, number: CbNumber)
 // Takes a number out of those that watch this. Are there some of whom none are left?
 fn drop_at(index: &mut Index, w: Watch, number: CbNumber) -> bool
     ensures taken { (q : Watch) → list_under q index.new.entries
-        ≡ (if is_at (watch_cmp w) q then option_map (without_number number) (list_under w index.old.entries) else list_under q index.old.entries) }
-    ensures empty { result ≡ is_empty_list (option_map (without_number number) (list_under w index.old.entries)) }
+        ≡ (if is_at (watch_cmp w) q
+        then option_map (without_number number) (list_under w index.old.entries)
+        else list_under q index.old.entries) }
+    ensures empty { result
+        ≡ is_empty_list (option_map (without_number number) (list_under w index.old.entries)) }
 {
     let Some(numbers) = index.get_mut(&w) else {
         return false;

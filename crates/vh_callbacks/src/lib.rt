@@ -6,13 +6,18 @@
 //! what is left after a registration and a removal. Stands on vh_base alone.
 #![tactic(auto)]
 
+mod entries;
 mod index;
 mod laws;
+mod live;
+mod numbers;
 mod registration;
 mod registry;
+mod sets;
 #[cfg(test)]
 mod tests;
 
 pub use laws::callbacks_laws;
+pub use live::Live;
 pub use registration::{RegisterFault, Registration, Removed};
-pub use registry::{Live, Registry};
+pub use registry::Registry;

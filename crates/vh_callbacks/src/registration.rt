@@ -32,6 +32,8 @@ pub enum RegisterFault<B> {
 pub enum Removed<B> {
     /// The callback is gone; this was its body.
     Gone(B),
+    /// It is live no more. Its body stays until its last activation ends.
+    Running,
     /// It wasn't live; nothing has changed.
     NotLive,
 }

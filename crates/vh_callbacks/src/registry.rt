@@ -1,51 +1,55 @@
-ghost use Rattle.std.specs.Prelude.{◌≡◌, ◌≤◌, ◌+◌, ◌++◌, ◌∷◌, [], length, false, IfOk, IfErr, OnOk, OnErr};
+ghost use Rattle.std.specs.Prelude.{◌≡◌, ◌+◌, ℕ, length, false, true, is_some, Some, IfOk, IfErr, OnErr};
 ghost use Rattle.std.specs.Option.{option_copied, option_map};
-ghost use Rattle.vh_callbacks.specs.Watching.{Indexes};
-ghost use Rattle.vh_callbacks.specs.Callbacks.{opening, is_full, registered, removed, info_of, body_of, matching, matches, HandsBack, gone_of, Rise, IsRising, IsSound};
+ghost use Rattle.vh_callbacks.specs.Callbacks.{live_at, is_full, registered, removed, info_of, body_of, held_of, known_at, matches, HandsBack, gone_of};
+ghost use Rattle.vh_callbacks.specs.Marks.{empty, marked, without_number, IsMarked};
 
-use crate::index::{Index, add, is_watched, numbers_for, take, watch_of};
+mod activations;
+mod marks;
+
+use crate::entries::{Entries, hold, live_one, put, take_body, watched};
+use crate::index::{Index, is_watched, take, watch_of};
+use crate::live::Live;
 use crate::registration::{RegisterFault, Registration, Removed};
+use crate::sets::{Sets, drop_everywhere};
 use std::alloc::Global;
 use std::collections::BTreeMap;
 use std::marker::Model;
-use vh_base::{CbNumber, MOST_CALLBACKS, MOST_NUMBERS, NoMemory, Object, Reason};
+use vh_base::{CbNumber, MOST_CALLBACKS, MOST_NUMBERS, Object, Reason};
 
-/// A callback that is live.
-#[derive(Drop)]
-pub struct Live<B> {
-    pub registration: Registration,
-    pub body: B,
-}
-
-/// The live callbacks by number, which contracts see as `Callbacks`. A body is what a
-/// callback calls; the registry only keeps it.
+/// The callbacks by number, with a set of live numbers for each depth, which contracts see as
+/// `Registered`. A body is what a callback calls; the registry only keeps it.
 #[derive(Drop)]
 pub struct Registry<B> {
-    callbacks: BTreeMap<u64, Live<B>, Global>,
+    entries: Entries<B>,
     index: Index,
     next: u64,
+    // how many are live
+    count: u32,
+    sets: Sets,
 }
 
 impl<B> Model for Registry<B> {
-    ghost use Rattle.vh_callbacks.specs.Callbacks.{Callbacks, IsSound};
-    ghost use Rattle.vh_callbacks.specs.Watching.{Indexes};
+    ghost use Rattle.vh_callbacks.specs.Marks.{Registered};
+    ghost use Rattle.vh_callbacks.specs.Keeping.{shown, IsKept};
 
-    ghost Value = { Callbacks B };
+    ghost Value = { Registered B };
 
-    ghost view = { λ r. record { live = r.callbacks.entries; next = r.next } };
+    ghost view = { λ r. shown r.entries.entries r.next r.sets.items };
 
-    ghost invariant = { λ r. IsSound (record { live = r.callbacks.entries; next = r.next }) × Indexes r.index.entries r.callbacks.entries };
+    ghost invariant = { λ r. IsKept r.entries.entries r.index.entries r.next r.count r.sets.items };
 }
 
 impl<B: Drop> Registry<B> {
     /// No callback; the first number is 1.
     pub fn new(alloc: Global) -> Registry<B>
-        ensures { result ≡ opening }
+        ensures { result ≡ empty }
     {
         Registry {
-            callbacks: BTreeMap::new(alloc),
+            entries: BTreeMap::new(alloc),
             index: BTreeMap::new(alloc),
             next: 1,
+            count: 0,
+            sets: Vec::new(alloc),
         }
     }
 
@@ -56,9 +60,11 @@ impl<B: Drop> Registry<B> {
         r: Registration,
         body: B,
     ) -> Result<CbNumber, RegisterFault<B>>
-        ensures ok { IfOk result (λ c. (is_full self.old ≡ false) × (c ≡ self.old.next) × (self.new ≡ registered r body self.old)) }
+        ensures ok { IfOk result (λ c. (is_full self.old.callbacks ≡ false)
+            × (c ≡ self.old.callbacks.next)
+            × (self.new ≡ record self.old { callbacks = registered r body self.old.callbacks })) }
         // A full registry refuses, and no other but where memory is refused; the body comes back.
-        ensures err { IfErr result (HandsBack (is_full self.old) body) }
+        ensures err { IfErr result (HandsBack (is_full self.old.callbacks) body) }
         ensures kept { OnErr result (self.new ≡ self.old) }
     {
         if self.is_full() {
@@ -68,143 +74,103 @@ impl<B: Drop> Registry<B> {
         let live = Live {
             registration: r,
             body,
+            activations: 0,
         };
-        if let Err(live) = put(alloc, &mut self.callbacks, &mut self.index, number, live) {
+        if let Err(live) = put(alloc, &mut self.entries, &mut self.index, number, live) {
             return Err(RegisterFault::NoMemory(live.body));
         }
         self.next = number + 1;
+        self.count += 1;
         Ok(CbNumber::new(number))
     }
 
-    /// Takes a callback out, if it is live.
+    /// Takes a callback out, if it is live, and its number out of each set. One of which an
+    /// activation runs is held from now on.
     pub fn remove(&mut self, c: CbNumber) -> Removed<B>
-        ensures answer { result ≡ gone_of (body_of c self.old) }
-        ensures removed { self.new ≡ removed c self.old }
+        ensures answer { result ≡ gone_of (live_at c self.old.callbacks.live) }
+        ensures callbacks { self.new.callbacks ≡ removed c self.old.callbacks }
+        ensures sets { (d : ℕ) → marked d self.new ≡ without_number c (marked d self.old) }
     {
-        let Some(live) = self.callbacks.remove(&c.number()) else {
+        let number = c.number();
+        let Some(w) = watched(&self.entries, number) else {
             return Removed::NotLive;
         };
-        let w = watch_of(live.registration.reason, &live.registration.object);
         take(&mut self.index, w, c);
-        Removed::Gone(live.body)
+        drop_everywhere(&mut self.sets, c);
+        self.count -= 1;
+        if hold(&mut self.entries, number) {
+            return Removed::Running;
+        }
+        Removed::Gone(take_body(&mut self.entries, number))
     }
 
     /// What a callback was registered with; none where it isn't live.
     pub fn info(&self, c: CbNumber) -> Option<Registration>
-        ensures { result ≡ info_of c self.now }
+        ensures { result ≡ info_of c self.now.callbacks }
     {
         let live = self.callback(c)?;
         Some(live.registration)
     }
 
-    /// What a callback calls; none where it isn't live.
-    pub fn body(&self, c: CbNumber) -> Option<&B>
-        ensures { option_copied result ≡ body_of c self.now }
+    /// The callback of this number; none where it isn't live.
+    pub fn callback(&self, c: CbNumber) -> Option<&Live<B>>
+        ensures live { option_copied result ≡ live_at c self.now.callbacks.live }
+        ensures info { option_map (λ live. live.now.registration) result
+            ≡ info_of c self.now.callbacks }
+        ensures body { option_map (λ live. live.now.body) result ≡ body_of c self.now.callbacks }
     {
-        let live = self.callback(c)?;
-        Some(&live.body)
+        live_one(&self.entries, c.number())
     }
 
-    /// The callback of this number, with what it was registered with and what it calls; none
-    /// where it isn't live.
-    pub fn callback(&self, c: CbNumber) -> Option<&Live<B>>
-        ensures info { option_map (λ live. live.now.registration) result ≡ info_of c self.now }
-        ensures body { option_map (λ live. live.now.body) result ≡ body_of c self.now }
+    /// What a held callback was registered with: one that was removed, and of which an
+    /// activation still runs. None for every other.
+    pub fn held(&self, c: CbNumber) -> Option<Registration>
+        ensures { result ≡ held_of c self.now.callbacks }
     {
-        self.callbacks.get(&c.number())
+        let kept = self.entries.get(&c.number())?;
+        if kept.is_live {
+            return None;
+        }
+        Some(kept.callback.registration)
+    }
+
+    /// What a live or held callback calls.
+    pub fn body(&self, c: CbNumber) -> &B
+        requires known { is_some (known_at c self.now.callbacks) ≡ true }
+        ensures { option_map (λ l. l.body) (known_at c self.now.callbacks) ≡ Some result.now }
+    {
+        let Some(kept) = self.entries.get(&c.number()) else {
+            unreachable!();
+        };
+        &kept.callback.body
     }
 
     /// The number that the next registration gets.
     pub fn next_number(&self) -> CbNumber
-        ensures number { result ≡ self.now.next }
-        ensures sound { IsSound self.now }
+        ensures number { result ≡ self.now.callbacks.next }
+        ensures marked { IsMarked self.now }
     {
         CbNumber::new(self.next)
     }
 
     /// How many callbacks are live: [`MOST_CALLBACKS`] at most.
     pub fn live(&self) -> u32
-        ensures { result ≡ length self.now.live }
+        ensures { result ≡ length self.now.callbacks.live }
     {
-        self.callbacks.len() as u32
+        self.count
     }
 
     /// May no callback be registered? So many are live, or the numbers are used up.
     pub fn is_full(&self) -> bool
-        ensures { result ≡ is_full self.now }
+        ensures { result ≡ is_full self.now.callbacks }
     {
-        self.callbacks.len() >= MOST_CALLBACKS || self.next > MOST_NUMBERS
+        self.count as usize >= MOST_CALLBACKS || self.next > MOST_NUMBERS
     }
 
     /// Has a live callback this reason and this object? Callbacks of others are not walked.
     pub fn matches(&self, reason: Reason, o: Option<Object>) -> bool
-        ensures { result ≡ matches reason o self.now }
+        ensures { result ≡ matches reason o self.now.callbacks }
     {
         is_watched(&self.index, watch_of(reason, &o))
-    }
-
-    /// The live callbacks with this reason and this object, by rising number. Callbacks of
-    /// others are not walked.
-    pub fn matching(
-        &self,
-        alloc: Global,
-        reason: Reason,
-        o: Option<Object>,
-    ) -> Result<Vec<CbNumber>, NoMemory>
-        ensures numbers { IfOk result (λ numbers. numbers.items ≡ matching reason o self.now) }
-        ensures rising { IfOk result (λ numbers. IsRising 0 numbers.items) }
-        ensures bound { IfOk result (λ numbers. length numbers.items ≤ MOST_CALLBACKS) }
-    {
-        let numbers = numbers_for(&self.index, watch_of(reason, &o));
-        Ok(Vec::from_slice(alloc, numbers)?)
-    }
-}
-
-// Puts a callback into the map and the index, or hands it back.
-fn put<B: Drop>(
-    alloc: Global,
-    callbacks: &mut BTreeMap<u64, Live<B>, Global>,
-    index: &mut Index,
-    number: u64,
-    live: Live<B>,
-) -> Result<(), Live<B>>
-    requires rising { Rise 1 callbacks.old.entries number }
-    requires indexed { Indexes index.old.entries callbacks.old.entries }
-    ensures ok { OnOk result (callbacks.new.entries ≡ callbacks.old.entries ++ (number, live) ∷ []) }
-    ensures err { IfErr result (λ back. back ≡ live) }
-    ensures kept { OnErr result (callbacks.new.entries ≡ callbacks.old.entries) }
-    ensures indexed { Indexes index.new.entries callbacks.new.entries }
-{
-    let w = watch_of(live.registration.reason, &live.registration.object);
-    let c = CbNumber::new(number);
-    let Ok(()) = add(alloc, index, w, c) else {
-        return Err(live);
-    };
-    match put_last(callbacks, number, live) {
-        Ok(()) => Ok(()),
-        Err(back) => {
-            take(index, w, c);
-            Err(back)
-        }
-    }
-}
-
-// Puts a callback under a number above all others, or hands it back.
-fn put_last<B: Drop>(
-    callbacks: &mut BTreeMap<u64, Live<B>, Global>,
-    number: u64,
-    live: Live<B>,
-) -> Result<(), Live<B>>
-    requires { Rise 1 callbacks.old.entries number }
-    ensures ok { OnOk result (callbacks.new.entries ≡ callbacks.old.entries ++ (number, live) ∷ []) }
-    ensures err { IfErr result (λ back. back ≡ live) }
-    ensures kept { OnErr result (callbacks.new.entries ≡ callbacks.old.entries) }
-{
-    match callbacks.insert(number, live) {
-        Ok(_) => Ok(()),
-        Err(refused) => {
-            let (_, back) = refused.value;
-            Err(back)
-        }
     }
 }

@@ -7,21 +7,21 @@ use Rattle.vh_callbacks.specs.Callbacks.{info_of, body_of}
 use Rattle.vh_kernel.specs.declared.activation.Activation.{Activation}
 use Rattle.vh_kernel.specs.declared.control.Control.{Control}
 use Rattle.vh_kernel.specs.declared.control.Control.TheVariants as top
-use Rattle.vh_kernel.specs.declared.events.Entry.{Entry}
+use Rattle.vh_queue.specs.declared.queue.Entry.{Entry}
 use Rattle.vh_kernel.specs.declared.label.Ending.TheVariants as ending
 use Rattle.vh_kernel.specs.declared.label.Label.{Label}
 use Rattle.vh_kernel.specs.declared.label.Label.TheVariants as label
 use Rattle.vh_kernel.specs.declared.occurrence.Agendum.{Agendum}
 use Rattle.vh_kernel.specs.declared.occurrence.Agendum.TheVariants as agendum
-use Rattle.vh_kernel.specs.declared.occurrence.Frame.{Frame}
-use Rattle.vh_kernel.specs.Events.{without_serial}
-use Rattle.vh_kernel.specs.Numbers.{without_number}
+use Rattle.vh_kernel.specs.declared.occurrence.Told.{Told}
+use Rattle.vh_queue.specs.Events.{without_serial}
+use Rattle.vh_dispatch.specs.Frames.{without_in_top}
 use Rattle.vh_kernel.specs.Occurrences.{Occurrence, occurrence_of}
-use Rattle.vh_kernel.specs.Orders.{Given}
+use Rattle.vh_orders.specs.Orders.{Given}
 use Rattle.vh_kernel.specs.Outcome.{Made, Outcome, Move, after_made}
 use Rattle.vh_kernel.specs.Run.{given_in}
 use Rattle.vh_kernel.specs.Settle.{settled}
-use Rattle.vh_kernel.specs.State.{State, with_top, without_top}
+use Rattle.vh_kernel.specs.State.{State, with_top, without_top, with_frames}
 use Rattle.vh_kernel.specs.Step.{called, activation_move, work_outcome, telling_outcome, is_end}
 use Rattle.vh_kernel.specs.Table.{HasTop, HasNext, TellsNext, Acts, Row, IsSound, OneStateAfter}
 use Rattle.vh_kernel.proofs.RunLemmas.{activation-shows}
@@ -31,7 +31,7 @@ use Rattle.vh_kernel.proofs.SoundLemmas.{one_entry}
 one-activation : (s : State) (a b : Activation) → HasTop s (top.Activation a) → HasTop s (top.Activation b) → a ≡ b
 one-activation s a b one other = let x = one.on in let y = other.on in cc
 
-one-frame : (s : State) (f g : Frame) → HasTop s (top.Frame f) → HasTop s (top.Frame g) → f ≡ g
+one-frame : (s : State) (f g : Told) → HasTop s (top.Frame f) → HasTop s (top.Frame g) → f ≡ g
 one-frame s f g one other = let x = one.on in let y = other.on in cc
 
 one-pending : (s : State) (o p : Occurrence) → HasTop s (top.Pending o) → HasTop s (top.Pending p) → o ≡ p
@@ -65,9 +65,9 @@ by-label script vars a s u g l is =
 
 one-acted : (s u v : State) (l : Label) → Acts s l u → Acts s l v → u ≡ v
 one-acted s u v l one other =
-    let first = by-label (slice_get s.scripts one.who.script) (slice_get s.variables one.who.script) one.who (without_top s) u one.given l one.makes in
-    let second = by-label (slice_get s.scripts other.who.script) (slice_get s.variables other.who.script) other.who (without_top s) v other.given l other.makes in
-    let alike = ap (λ (x : Activation). activation_move (slice_get s.scripts x.script) (slice_get s.variables x.script) x (without_top s) (given_in l))
+    let first = by-label (slice_get s.world.scripts one.who.script) (slice_get s.world.variables one.who.script) one.who (without_top s) u one.given l one.makes in
+    let second = by-label (slice_get s.world.scripts other.who.script) (slice_get s.world.variables other.who.script) other.who (without_top s) v other.given l other.makes in
+    let alike = ap (λ (x : Activation). activation_move (slice_get s.world.scripts x.script) (slice_get s.world.variables x.script) x (without_top s) (given_in l))
     (one-activation s one.who other.who one.on other.on) in
     ap (λ (m : Move). m.1) (sym first ∙ alike ∙ second)
 
@@ -83,8 +83,8 @@ one-row s u v (label.Occ n reason object) sound one other =
     one.leaves ∙ ap (λ (m : Made). after_made m) (one-made (telling_outcome one.what one.rest) one.made other.made one.makes there) ∙ sym other.leaves
 one-row s u v (label.Fire n c) sound one other =
     one.leaves
-    ∙ ap (λ (x : Frame). called (info_of c s.callbacks) (body_of c s.callbacks) c x.what
-    (with_top (top.Frame (record x { left = without_number c x.left })) (without_top s))) (one-frame s one.frame other.frame one.on other.on)
+    ∙ ap (λ (x : Told). called (info_of c s.world.callbacks) (body_of c s.world.callbacks) c x.what
+    (with_top (top.Frame x) (with_frames (without_in_top c s.world.frames) (without_top s)))) (one-frame s one.frame other.frame one.on other.on)
     ∙ sym other.leaves
 one-row s u v (label.Done n) sound one other = one.leaves ∙ sym other.leaves
 one-row s u v (label.Activate r) sound one other = one.1 ∙ sym other.1

@@ -9,34 +9,35 @@ use Rattle.vh_app.specs.Script.{ScriptData}
 use Rattle.vh_kernel.specs.declared.activation.Activation.{Activation}
 use Rattle.vh_kernel.specs.declared.control.Control.{Control}
 use Rattle.vh_kernel.specs.declared.control.Control.TheVariants as top
-use Rattle.vh_kernel.specs.declared.events.Entry.{Entry}
-use Rattle.vh_kernel.specs.declared.label.Region.{Region}
+use Rattle.vh_queue.specs.declared.queue.Entry.{Entry}
+use Rattle.vh_queue.specs.declared.region.Region.{Region}
 use Rattle.vh_kernel.specs.declared.occurrence.Agendum.{Agendum}
 use Rattle.vh_kernel.specs.declared.occurrence.Agendum.TheVariants as agendum
-use Rattle.vh_kernel.specs.declared.occurrence.Frame.{Frame}
+use Rattle.vh_kernel.specs.declared.occurrence.Told.{Told}
 use Rattle.vh_kernel.specs.declared.phase.Phase.{Phase}
 use Rattle.vh_kernel.specs.declared.phase.Phase.TheVariants as phase
-use Rattle.vh_kernel.specs.Events.{eligible, next_region, least_time, without_serial}
-use Rattle.vh_kernel.specs.Handles.{Handles}
+use Rattle.vh_queue.specs.Events.{eligible, next_region, least_time, without_serial}
+use Rattle.vh_handles.specs.Handles.{Handles}
 use Rattle.vh_kernel.specs.Occurrences.{occurrence_of}
 use Rattle.vh_kernel.specs.Settle.{settled}
 use Rattle.vh_kernel.specs.Statements.{next_statement, statement_outcome}
 use Rattle.vh_kernel.specs.declared.label.Label.{Label}
 use Rattle.vh_kernel.specs.declared.label.Label.TheVariants as label
-use Rattle.vh_kernel.specs.Orders.{Given, Effect, answered, effect_of, is_return}
-use Rattle.vh_kernel.specs.Outcome.{Outcome, Move, silently, move_of}
+use Rattle.vh_dispatch.specs.Frames.{top_set}
+use Rattle.vh_orders.specs.Orders.{Given, Effect, answered, effect_of, with_error, is_return}
+use Rattle.vh_orders.specs.World.{World}
+use Rattle.vh_kernel.specs.Outcome.{Outcome, Move, move_of}
 use Rattle.vh_kernel.specs.Run.{Chooser, chooser_after, move_from, moves_with, handle_in, given_in, all_given, OneRun}
-use Rattle.vh_kernel.specs.State.{State, with_top, without_top, without_item}
-use Rattle.vh_kernel.specs.Step.{FitsAnswer, Fits, IsStep, fire_move, telling_outcome, work_outcome, time_move, region_move, pick_move, agenda_move, idle_move, resumed, answer_move, order_move, activation_move, item_move, top_move, crowded_move, is_crowded, settled_move, step_of, choices_of, is_end}
-use Rattle.vh_kernel.proofs.OrdersLemmas.{IsForm, refuses, answers_only, opens_object, registers, removes, effect-form}
-use Rattle.vh_kernel.proofs.StepLemmas.{IsQuiet, quiet-by}
+use Rattle.vh_kernel.specs.State.{State, with_top, without_top, without_item, with_variables}
+use Rattle.vh_kernel.specs.Step.{FitsAnswer, Fits, IsStep, fire_move, telling_outcome, work_outcome, time_move, region_move, pick_move, agenda_move, idle_move, answer_move, order_move, activation_move, item_move, top_move, crowded_move, is_crowded, settled_move, step_of, choices_of, is_end}
+use Rattle.vh_orders.proofs.OrdersLemmas.{IsForm, refuses, answers_only, opens_object, registers, removes, effect-form}
 
 -- By the number that its answer shows, an order is answered again.
-abbrev GivesAgain : State → Given → Effect → Type 0
+abbrev GivesAgain : World → Given → Effect → Type 0
 GivesAgain s g e =
-    (let given : Answer × Outcome = answered e s (record { handle = handle_in (answered e s g).0 }) in given) ≡ answered e s g
+    (let given : Answer × World = answered e s (record { handle = handle_in (answered e s g).0 }) in given) ≡ answered e s g
 
-again-by : (o : Order) (s : State) (g : Given) (e : Effect) → IsForm o s e → GivesAgain s g e
+again-by : (o : Order) (s : World) (g : Given) (e : Effect) → IsForm o s e → GivesAgain s g e
 again-by o s g e (refuses c is) = subst (λ (x : Effect). GivesAgain s g x) (sym is) refl
 again-by o s g e (answers_only a plain is) = subst (λ (x : Effect). GivesAgain s g x) (sym is) refl
 again-by o s g e (opens_object text name scope id by means at room is) = subst (λ (x : Effect). GivesAgain s g x) (sym is) refl
@@ -48,21 +49,12 @@ again-by o s g e (removes c h by names is) = subst (λ (x : Effect). GivesAgain 
 abbrev Shows : (Given → Move) → Given → Type 0
 Shows moves g = moves (given_in (moves g).0) ≡ moves g
 
--- An answered order is told as itself.
-told-as : (o : Order) (a : Activation) (given : Answer × Outcome) (before t : State) → given.1 ≡ silently t
-    → (answer_move o a given before).0 ≡ label.Do a.who o given.0
-told-as o a given before t is =
-    ap (λ (out : Outcome). (move_of (λ shown. label.Do a.who o given.0) before (resumed a given.0 out)).0) is
-
 order-shows : (b : Bool) (o : Order) (a : Activation) (before s : State) (g : Given)
     → Shows (λ x. order_move b o a before s x) g
 order-shows true o a before s g = refl
 order-shows false o a before s g =
-    let e : Effect = effect_of o a.who s in
-    let quiet : IsQuiet s (answered e s g) = quiet-by o s g e (effect-form o a.who s) in
-    let shown = ap (λ (l : Label). given_in l) (told-as o a (answered e s g) before quiet.after quiet.outcome) in
-    ap (λ (x : Given). answer_move o a (answered e s x) before) shown
-    ∙ ap (λ (given : Answer × Outcome). answer_move o a given before) (again-by o s g e (effect-form o a.who s))
+    ap (λ (given : Answer × World). answer_move o a (with_error given) before s)
+    (again-by o s.world g (effect_of o a.who s.world) (effect-form o a.who s.world))
 
 pub activation-shows : (script : Option ScriptData) (vars : Option (List Answer)) (a : Activation) (s : State) (g : Given)
     → Shows (λ x. activation_move script vars a s x) g
@@ -71,14 +63,14 @@ activation-shows (Some script) None a s g = refl
 activation-shows (Some script) (Some vars) a s g =
     let next : Order × Point × List Answer = next_order script a.at vars a.seen in
     order-shows (is_return next.0) next.0 (record a { at = next.1 }) (with_top (top.Activation a) s)
-    (record s { variables = slice_set s.variables a.script next.2 }) g
+    (with_variables (slice_set s.world.variables a.script next.2) s) g
 
 item-shows : (c : Control) (s : State) (k : ℕ) (g : Given) → Shows (λ x. item_move c s k x) g
 item-shows (top.Process p) s k g = refl
 item-shows (top.Pending o) s k g = refl
 item-shows (top.Frame f) s k g = refl
 item-shows (top.Activation a) s k g =
-    activation-shows (slice_get s.scripts a.script) (slice_get s.variables a.script) a s g
+    activation-shows (slice_get s.world.scripts a.script) (slice_get s.world.variables a.script) a s g
 item-shows (top.Leave c) s k g = refl
 
 top-shows : (o : Option Control) (s : State) (k : ℕ) (g : Given) → Shows (λ x. top_move o s k x) g
@@ -97,45 +89,42 @@ plain-fits : (s : State) (a : Answer) → (a ≡ answer.Done) ⊎ (a ≡ answer.
 plain-fits s a (inl is) = subst (λ (x : Answer). FitsAnswer s x) (sym is) tt
 plain-fits s a (inr is) = subst (λ (x : Answer). FitsAnswer s x) (sym is) tt
 
-answer-fits : (o : Order) (s : State) (g : Given) (e : Effect) → IsForm o s e → s.handles.is_given g.handle ≡ false
-    → FitsAnswer s (answered e s g).0
-answer-fits o s g e (refuses c is) fresh = subst (λ (x : Effect). FitsAnswer s (answered x s g).0) (sym is) tt
+answer-fits : (o : Order) (s : State) (g : Given) (e : Effect) → IsForm o s.world e → s.world.handles.is_given g.handle ≡ false
+    → FitsAnswer s (answered e s.world g).0
+answer-fits o s g e (refuses c is) fresh = subst (λ (x : Effect). FitsAnswer s (answered x s.world g).0) (sym is) tt
 answer-fits o s g e (answers_only a plain is) fresh =
-    subst (λ (x : Effect). FitsAnswer s (answered x s g).0) (sym is) (plain-fits s a plain)
+    subst (λ (x : Effect). FitsAnswer s (answered x s.world g).0) (sym is) (plain-fits s a plain)
 answer-fits o s g e (opens_object text name scope id by means at room is) fresh =
-    subst (λ (x : Effect). FitsAnswer s (answered x s g).0) (sym is) fresh
+    subst (λ (x : Effect). FitsAnswer s (answered x s.world g).0) (sym is) fresh
 answer-fits o s g e (registers r h time n body object b by watches calls room free is) fresh =
-    subst (λ (x : Effect). FitsAnswer s (answered x s g).0) (sym is) fresh
-answer-fits o s g e (removes c h by names is) fresh = subst (λ (x : Effect). FitsAnswer s (answered x s g).0) (sym is) tt
+    subst (λ (x : Effect). FitsAnswer s (answered x s.world g).0) (sym is) fresh
+answer-fits o s g e (removes c h by names is) fresh = subst (λ (x : Effect). FitsAnswer s (answered x s.world g).0) (sym is) tt
 
-order-fits : (b : Bool) (o : Order) (a : Activation) (before s : State) (g : Given) → s.handles.is_given g.handle ≡ false
+order-fits : (b : Bool) (o : Order) (a : Activation) (before s : State) (g : Given) → s.world.handles.is_given g.handle ≡ false
     → Fits s (order_move b o a before s g).0
 order-fits true o a before s g fresh = tt
 order-fits false o a before s g fresh =
-    let e : Effect = effect_of o a.who s in
-    let quiet : IsQuiet s (answered e s g) = quiet-by o s g e (effect-form o a.who s) in
-    subst (λ (l : Label). Fits s l) (sym (told-as o a (answered e s g) before quiet.after quiet.outcome))
-    (answer-fits o s g e (effect-form o a.who s) fresh)
+    answer-fits o s g (effect_of o a.who s.world) (effect-form o a.who s.world) fresh
 
 activation-fits : (script : Option ScriptData) (vars : Option (List Answer)) (a : Activation) (s : State) (g : Given)
-    → s.handles.is_given g.handle ≡ false → Fits s (activation_move script vars a s g).0
+    → s.world.handles.is_given g.handle ≡ false → Fits s (activation_move script vars a s g).0
 activation-fits None vars a s g fresh = tt
 activation-fits (Some script) None a s g fresh = tt
 activation-fits (Some script) (Some vars) a s g fresh =
     let next : Order × Point × List Answer = next_order script a.at vars a.seen in
     order-fits (is_return next.0) next.0 (record a { at = next.1 }) (with_top (top.Activation a) s)
-    (record s { variables = slice_set s.variables a.script next.2 }) g fresh
+    (with_variables (slice_set s.world.variables a.script next.2) s) g fresh
 
 outcome-fits : (s before : State) (l : Option (List ℕ) → Label) (out : Outcome) → ((shown : Option (List ℕ)) → Fits s (l shown))
     → Fits s (move_of l before out).0
 outcome-fits s before l (Ok m) fits = fits m.shown
 outcome-fits s before l (Err f) fits = tt
 
-fire-fits : (s t : State) (o : Option ℕ) (f : Frame) → Fits s (fire_move o f t).0
+fire-fits : (s t : State) (o : Option ℕ) (f : Told) → Fits s (fire_move o f t).0
 fire-fits s t None f = tt
 fire-fits s t (Some c) f = tt
 
-fits-label : (s t : State) (l : Label) → t.handles ≡ s.handles → Fits t l → Fits s l
+fits-label : (s t : State) (l : Label) → t.world.handles ≡ s.world.handles → Fits t l → Fits s l
 fits-label s t (label.Startup k) same fits = tt
 fits-label s t (label.Do who order answer.Done) same fits = tt
 fits-label s t (label.Do who order answer.Null) same fits = tt
@@ -155,17 +144,17 @@ fits-label s t (label.Stmt p shown) same fits = tt
 fits-label s t (label.Finish c) same fits = tt
 fits-label s t (label.End e) same fits = tt
 
-item-fits : (s t : State) (c : Control) (k : ℕ) (g : Given) → t.handles ≡ s.handles → s.handles.is_given g.handle ≡ false
+item-fits : (s t : State) (c : Control) (k : ℕ) (g : Given) → t.world.handles ≡ s.world.handles → s.world.handles.is_given g.handle ≡ false
     → Fits s (item_move c t k g).0
 item-fits s t (top.Process p) k g same fresh = outcome-fits s (with_top (top.Process p) t) (λ shown. label.Stmt p shown)
     (statement_outcome p (next_statement p t) t) (λ shown. tt)
 item-fits s t (top.Pending o) k g same fresh = outcome-fits s (with_top (top.Pending o) t)
     (λ shown. label.Occ t.occurrence o.reason o.object) (telling_outcome o t) (λ shown. tt)
-item-fits s t (top.Frame f) k g same fresh = fire-fits s t (slice_get f.left k) f
+item-fits s t (top.Frame f) k g same fresh = fire-fits s t (slice_get (top_set t.world.frames) k) f
 item-fits s t (top.Activation a) k g same fresh =
-    let there : t.handles.is_given g.handle ≡ false = subst (λ (hs : Handles). hs.is_given g.handle ≡ false) (sym same) fresh in
-    fits-label s t (activation_move (slice_get t.scripts a.script) (slice_get t.variables a.script) a t g).0 same
-    (activation-fits (slice_get t.scripts a.script) (slice_get t.variables a.script) a t g there)
+    let there : t.world.handles.is_given g.handle ≡ false = subst (λ (hs : Handles). hs.is_given g.handle ≡ false) (sym same) fresh in
+    fits-label s t (activation_move (slice_get t.world.scripts a.script) (slice_get t.world.variables a.script) a t g).0 same
+    (activation-fits (slice_get t.world.scripts a.script) (slice_get t.world.variables a.script) a t g there)
 item-fits s t (top.Leave c) k g same fresh = tt
 
 time-fits : (s : State) (o : Option ℕ) → Fits s (time_move o s).0
@@ -192,11 +181,11 @@ idle-fits s phase.Running k = agenda-fits s (slice_get s.agenda 0) k
 idle-fits s (phase.Finished c) k = tt
 idle-fits s (phase.Ended e) k = tt
 
-top-fits : (s : State) (o : Option Control) (k : ℕ) (g : Given) → s.handles.is_given g.handle ≡ false → Fits s (top_move o s k g).0
+top-fits : (s : State) (o : Option Control) (k : ℕ) (g : Given) → s.world.handles.is_given g.handle ≡ false → Fits s (top_move o s k g).0
 top-fits s None k g fresh = idle-fits s s.phase k
 top-fits s (Some c) k g fresh = item-fits s (without_top s) c k g refl fresh
 
-crowded-fits : (s : State) (b : Bool) (k : ℕ) (g : Given) → s.handles.is_given g.handle ≡ false → Fits s (crowded_move b s k g).0
+crowded-fits : (s : State) (b : Bool) (k : ℕ) (g : Given) → s.world.handles.is_given g.handle ≡ false → Fits s (crowded_move b s k g).0
 crowded-fits s true k g fresh = tt
 crowded-fits s false k g fresh = top-fits s (slice_get s.control 0) k g fresh
 
@@ -212,7 +201,7 @@ pub makes-move : (s t u : State) (k : ℕ) (g : Given) (l : Label) (b : Bool)
 makes-move s t u k g l b is ends after = ap (λ (m : Move). settled_move m) is ∙ settles-by b l t u ends after
 
 -- They are a step.
-pub makes-step : (s t u : State) (k : ℕ) (g : Given) (l : Label) (b : Bool) → s.handles.is_given g.handle ≡ false
+pub makes-step : (s t u : State) (k : ℕ) (g : Given) (l : Label) (b : Bool) → s.world.handles.is_given g.handle ≡ false
     → crowded_move (is_crowded s) s k g ≡ (l, t) → is_end l ≡ b → u ≡ cond b t (settled t) → IsStep s k (l, u)
 makes-step s t u k g l b fresh is ends after = record {
   given = g;

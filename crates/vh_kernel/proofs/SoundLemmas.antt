@@ -1,5 +1,5 @@
 -- Serials rise from the opening on, and each is given once.
-use Rattle.std.proofs.Common.{◌≡◌, ℕ, zero, suc, ◌+◌, ◌-◌, ◌≤◌, List, [], ◌∷◌, ◌++◌, filter, length, Bool, true, false, not, cond, nat_eq, nat_lt, nat_le, Option, Some, None, Ok, slice_get, bytes_eq, refl, sym, ap, subst, arith, inl, inr}
+use Rattle.std.proofs.Common.{◌≡◌, ℕ, zero, suc, ◌+◌, ◌-◌, ◌≤◌, List, [], ◌∷◌, ◌++◌, drop, filter, length, Bool, true, false, not, cond, nat_eq, nat_lt, nat_le, Option, Some, None, Ok, slice_get, bytes_eq, refl, sym, ap, subst, arith, inl, inr}
 use Rattle.vh_base.specs.declared.limits.TheConstants.{MOST_FRAMES, MOST_NUMBERS, MOST_TIME}
 use Rattle.vh_base.specs.declared.faults.Fault.TheVariants as fault
 use Rattle.vh_base.specs.declared.first.FirstBit.{FirstBit}
@@ -8,22 +8,21 @@ use Rattle.vh_base.specs.declared.first.FirstCode.TheVariants as code
 use Rattle.vh_base.proofs.ChecksLemmas.{unless-holds}
 use Rattle.vh_callbacks.specs.Callbacks.{info_of, body_of}
 use Rattle.vh_kernel.specs.declared.control.Control.TheVariants as top
-use Rattle.vh_kernel.specs.declared.events.Entry.{Entry}
-use Rattle.vh_kernel.specs.declared.events.Work.{Work}
-use Rattle.vh_kernel.specs.declared.events.Work.TheVariants as work
+use Rattle.vh_queue.specs.declared.queue.Entry.{Entry}
+use Rattle.vh_queue.specs.declared.queue.Work.{Work}
+use Rattle.vh_queue.specs.declared.queue.Work.TheVariants as work
 use Rattle.vh_kernel.specs.declared.label.Ending.TheVariants as ending
 use Rattle.vh_kernel.specs.declared.label.Label.{Label}
 use Rattle.vh_kernel.specs.declared.label.Label.TheVariants as label
-use Rattle.vh_kernel.specs.declared.label.Region.{Region}
-use Rattle.vh_kernel.specs.declared.label.Region.TheVariants as region
+use Rattle.vh_queue.specs.declared.region.Region.{Region}
+use Rattle.vh_queue.specs.declared.region.Region.TheVariants as region
 use Rattle.vh_kernel.specs.declared.phase.Phase.TheVariants as phase
-use Rattle.vh_kernel.specs.Control.{frames}
-use Rattle.vh_kernel.specs.Events.{Events, is_due, is_ripe, any_due, eligible, activated_entry, activated_of, advanced, is_full, evaluations}
-use Rattle.vh_kernel.specs.Numbers.{without_number}
+use Rattle.vh_queue.specs.Events.{Events, is_due, is_ripe, any_due, eligible, activated_entry, activated_of, advanced, is_full, evaluations}
+use Rattle.vh_dispatch.specs.Frames.{without_in_top}
 use Rattle.vh_kernel.specs.Occurrences.{Occurrence, bit_text}
 use Rattle.vh_kernel.specs.Outcome.{Made, Outcome, Move, after_made}
 use Rattle.vh_kernel.specs.Settle.{settled}
-use Rattle.vh_kernel.specs.State.{State, before_all, with_top, without_top, without_item}
+use Rattle.vh_kernel.specs.State.{State, before_all, with_top, without_top, without_item, with_frames}
 use Rattle.vh_kernel.specs.Statements.{next_statement, going_on, value_outcome, statement_outcome}
 use Rattle.vh_kernel.specs.Step.{called, started, finish_move, work_outcome, telling_outcome, is_end}
 use Rattle.vh_kernel.specs.Table.{Rises, IsSound, TellsNext, Acts, Row, StaysSound, OpensSound}
@@ -94,7 +93,7 @@ statement-sound p (Some code.Finish) s sound = sound
 
 telling-sound : (o : Occurrence) (s : State) → IsSound s → AllMade LeavesSound (telling_outcome o s)
 telling-sound o s sound =
-    unless-holds (AllMade LeavesSound) (nat_le MOST_FRAMES (frames s.control)) fault.F1 _ (λ _. tt)
+    unless-holds (AllMade LeavesSound) (nat_le MOST_FRAMES (length s.world.frames)) fault.F1 _ (λ _. tt)
     (λ _. unless-holds (AllMade LeavesSound) (nat_lt MOST_NUMBERS s.occurrence) fault.F3 _ (λ _. tt) (λ _. sound))
 
 work-sound : (w : Work) (s : State) → IsSound s → AllMade LeavesSound (work_outcome w s)
@@ -117,14 +116,14 @@ tells-queue s o r tells = elim tells [
 acts-sound : (s u : State) (l : Label) → IsSound s → Acts s l u → IsSound u
 acts-sound s u l sound row =
     let kept = acts-kept row.who (without_top s) row.given _
-    (acts (slice_get s.scripts row.who.script) (slice_get s.variables row.who.script) row.who (without_top s) row.given) in
+    (acts (slice_get s.world.scripts row.who.script) (slice_get s.world.variables row.who.script) row.who (without_top s) row.given) in
     let P : Move → Type 0 = λ m. m.1.queue ≡ s.queue in
     sound-by s u (subst P row.makes kept.queue) sound
 
 -- Each row leaves a sound state.
 row-sound : (s u : State) (l : Label) → IsSound s → Row s l u → IsSound u
 row-sound s u (label.Startup k) sound row =
-    let script = slice_get s.scripts (k - 1) in
+    let script = slice_get s.world.scripts (k - 1) in
     sound-at u (started script k (without_item s)) row.1
     (sound-by s (started script k (without_item s)) (started-kept script k (without_item s)).queue sound)
 row-sound s u (label.Do who order answer) sound row = acts-sound s u (label.Do who order answer) sound row
@@ -133,11 +132,11 @@ row-sound s u (label.Occ n reason object) sound row =
     made-sound _ row.made u row.makes row.leaves
     (telling-sound row.what row.rest (sound-by s row.rest (tells-queue s row.what row.rest row.next) sound))
 row-sound s u (label.Fire n c) sound row =
-    let before : State = with_top (top.Frame (record row.frame { left = without_number c row.frame.left })) (without_top s) in
-    let kept = called-kept (info_of c s.callbacks) (body_of c s.callbacks) c row.frame.what before in
-    let next : State = called (info_of c s.callbacks) (body_of c s.callbacks) c row.frame.what before in
+    let before : State = with_top (top.Frame row.frame) (with_frames (without_in_top c s.world.frames) (without_top s)) in
+    let kept = called-kept (info_of c s.world.callbacks) (body_of c s.world.callbacks) c row.frame.what before in
+    let next : State = called (info_of c s.world.callbacks) (body_of c s.world.callbacks) c row.frame.what before in
     sound-at u next row.leaves (sound-by s next kept.queue sound)
-row-sound s u (label.Done n) sound row = sound-at u (without_top s) row.leaves sound
+row-sound s u (label.Done n) sound row = sound-at u (with_frames (drop 1 s.world.frames) (without_top s)) row.leaves sound
 row-sound s u (label.Activate r) sound row =
     sound-at u (record s { queue = record s.queue { entries = activated_of r s.queue.time s.queue.entries } }) row.1
     (rises_activated r s.queue.time 1 s.queue.next s.queue.entries sound)

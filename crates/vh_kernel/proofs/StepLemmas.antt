@@ -1,6 +1,6 @@
 -- What a step leaves: which outcomes keep the queue and the phase, and that the machine goes on after a
 -- label that is no end.
-use Rattle.std.proofs.Common.{◌≡◌, ◌<◌, ◌+◌, ◌-◌, nat_le, ℕ, List, ◌∷◌, length, max, Bool, true, false, cond, Option, Some, None, Ok, Err, nat_lt, slice_get, slice_set, bytes_eq, refl, sym, ap, subst, ◌∙◌, arith}
+use Rattle.std.proofs.Common.{◌≡◌, ◌<◌, ◌+◌, ◌-◌, nat_le, ℕ, List, length, max, Bool, true, false, cond, Option, Some, None, Ok, Err, nat_lt, slice_get, slice_set, bytes_eq, refl, sym, ap, subst, ◌∙◌, arith}
 use Rattle.vh_base.specs.declared.limits.TheConstants.{MOST_FRAMES, MOST_NUMBERS, MOST_TIME}
 use Rattle.vh_base.specs.declared.faults.Fault.TheVariants as fault
 use Rattle.vh_base.specs.declared.first.First.{First}
@@ -16,31 +16,29 @@ use Rattle.vh_app.specs.Script.{ScriptData}
 use Rattle.vh_callbacks.specs.declared.registration.Registration.{Registration}
 use Rattle.vh_callbacks.specs.Callbacks.{info_of, body_of}
 use Rattle.vh_kernel.specs.declared.activation.Activation.{Activation}
-use Rattle.vh_kernel.specs.declared.activation.Body.{Body}
+use Rattle.vh_orders.specs.declared.who.Body.{Body}
 use Rattle.vh_kernel.specs.declared.control.Control.{Control}
 use Rattle.vh_kernel.specs.declared.control.Control.TheVariants as top
-use Rattle.vh_kernel.specs.declared.events.Entry.{Entry}
-use Rattle.vh_kernel.specs.declared.events.Work.{Work}
-use Rattle.vh_kernel.specs.declared.events.Work.TheVariants as work
+use Rattle.vh_queue.specs.declared.queue.Entry.{Entry}
+use Rattle.vh_queue.specs.declared.queue.Work.{Work}
+use Rattle.vh_queue.specs.declared.queue.Work.TheVariants as work
 use Rattle.vh_kernel.specs.declared.label.Label.{Label}
 use Rattle.vh_kernel.specs.declared.label.Label.TheVariants as label
-use Rattle.vh_kernel.specs.declared.label.Region.{Region}
+use Rattle.vh_queue.specs.declared.region.Region.{Region}
 use Rattle.vh_kernel.specs.declared.occurrence.Agendum.{Agendum}
 use Rattle.vh_kernel.specs.declared.occurrence.Agendum.TheVariants as agendum
-use Rattle.vh_kernel.specs.declared.occurrence.Frame.{Frame}
+use Rattle.vh_kernel.specs.declared.occurrence.Told.{Told}
 use Rattle.vh_kernel.specs.declared.phase.Phase.{Phase}
 use Rattle.vh_kernel.specs.declared.phase.Phase.TheVariants as phase
-use Rattle.vh_kernel.specs.Control.{frames}
-use Rattle.vh_kernel.specs.Events.{eligible, next_region, least_time, is_full}
-use Rattle.vh_kernel.specs.Numbers.{without_number}
+use Rattle.vh_queue.specs.Events.{eligible, next_region, least_time, is_full}
+use Rattle.vh_dispatch.specs.Frames.{top_set, without_in_top}
 use Rattle.vh_kernel.specs.Occurrences.{Occurrence, occurrence_of, bit_text}
-use Rattle.vh_kernel.specs.Orders.{Given, Effect, answered, effect_of, is_return, error_in}
-use Rattle.vh_kernel.specs.Outcome.{Made, Outcome, Move, silently, move_of}
+use Rattle.vh_orders.specs.Orders.{Given, performed, is_return}
+use Rattle.vh_kernel.specs.Outcome.{Made, Outcome, Move, move_of}
 use Rattle.vh_kernel.specs.Settle.{settled, opening}
-use Rattle.vh_kernel.specs.State.{State, with_top, without_top, without_item}
+use Rattle.vh_kernel.specs.State.{State, with_top, without_top, without_item, with_frames, with_variables}
 use Rattle.vh_kernel.specs.Statements.{next_statement, going_on, value_outcome, statement_outcome}
-use Rattle.vh_kernel.specs.Step.{telling_outcome, called, fire_move, resumed, order_move, activation_move, work_outcome, time_move, region_move, pick_move, started, agenda_move, idle_move, item_move, top_move, crowded_move, is_crowded, is_end, step_of, is_over, item_choices, agenda_choices, idle_choices, top_choices, choices_of}
-use Rattle.vh_kernel.proofs.OrdersLemmas.{IsForm, refuses, answers_only, opens_object, registers, removes, effect-form}
+use Rattle.vh_kernel.specs.Step.{telling_outcome, called, fire_move, order_move, activation_move, work_outcome, time_move, region_move, pick_move, started, agenda_move, idle_move, item_move, top_move, crowded_move, is_crowded, is_end, step_of, is_over, item_choices, agenda_choices, idle_choices, top_choices, choices_of}
 
 -- The second state has the queue and the phase of the first.
 pub record IsKept (s t : State) : Type 0 where
@@ -50,67 +48,32 @@ pub record IsKept (s t : State) : Type 0 where
 pub same : (s : State) → IsKept s s
 same s = record { phase = refl; queue = refl }
 
--- An order is answered with a state that keeps both, and nothing else comes of it.
-pub record IsQuiet (s : State) (given : Answer × Outcome) : Type 0 where
-  pub after : State
-  pub outcome : given.1 ≡ silently after
-  pub kept : IsKept s after
-
-pub quiet-by : (o : Order) (s : State) (g : Given) (e : Effect) → IsForm o s e → IsQuiet s (answered e s g)
-quiet-by o s g e (refuses c is) =
-    subst (λ (x : Effect). IsQuiet s (answered x s g)) (sym is) (record { after = s; outcome = refl; kept = same s })
-quiet-by o s g e (answers_only a plain is) =
-    subst (λ (x : Effect). IsQuiet s (answered x s g)) (sym is) (record { after = s; outcome = refl; kept = same s })
-quiet-by o s g e (opens_object text name scope id by means at room is) =
-    subst (λ (x : Effect). IsQuiet s (answered x s g)) (sym is)
-    (record { after = _; outcome = refl; kept = record { phase = refl; queue = refl } })
-quiet-by o s g e (registers r h time n body object b by watches calls room free is) =
-    subst (λ (x : Effect). IsQuiet s (answered x s g)) (sym is)
-    (record { after = _; outcome = refl; kept = record { phase = refl; queue = refl } })
-quiet-by o s g e (removes c h by names is) =
-    subst (λ (x : Effect). IsQuiet s (answered x s g)) (sym is)
-    (record { after = _; outcome = refl; kept = record { phase = refl; queue = refl } })
-
--- The state with these variables.
-abbrev pub with_variables : List (List Answer) → State → State
-with_variables vars s = record s { variables = vars }
-
 -- What an activation does: it returns, or it gives an order and is answered, and is on control again.
 pub data IsActing (a : Activation) (s : State) (g : Given) (m : Move) : Type 0 where
   returns : (vars : List (List Answer)) → m ≡ (label.Ret a.who, with_variables vars s) → IsActing a s g m
-  orders : (vars : List (List Answer)) (o : Order) (further : Activation) (t : State)
-      → (answered (effect_of o a.who (with_variables vars s)) (with_variables vars s) g).1 ≡ silently t
-      → IsKept s t
+  orders : (vars : List (List Answer)) (o : Order) (further : Activation)
       → m ≡ (
-        label.Do a.who o (answered (effect_of o a.who (with_variables vars s)) (with_variables vars s) g).0,
-        record t {
-          control = top.Activation further ∷ t.control;
-          error = error_in (answered (effect_of o a.who (with_variables vars s)) (with_variables vars s) g).0;
-        },
+        label.Do a.who o (performed o a.who (with_variables vars s).world g).0,
+        with_top (top.Activation further) (record s { world = (performed o a.who (with_variables vars s).world g).1 }),
       )
       → IsActing a s g m
 
 order-acts : (b : Bool) (o : Order) (a : Activation) (p : Point) (vars : List (List Answer)) (before s : State) (g : Given)
     → IsActing a s g (order_move b o (record a { at = p }) before (with_variables vars s) g)
 order-acts true o a p vars before s g = returns vars refl
-order-acts false o a p vars before s g =
-    let given : Answer × Outcome = answered (effect_of o a.who (with_variables vars s)) (with_variables vars s) g in
-    let quiet : IsQuiet (with_variables vars s) given = quiet-by o (with_variables vars s) g _ (effect-form o a.who (with_variables vars s)) in
-    orders vars o _ quiet.after quiet.outcome (record { phase = quiet.kept.phase; queue = quiet.kept.queue })
-    (ap (λ (out : Outcome). move_of (λ shown. label.Do a.who o given.0) before (resumed (record a { at = p }) given.0 out)) quiet.outcome)
+order-acts false o a p vars before s g = orders vars o _ refl
 
 pub acts : (script : Option ScriptData) (vars : Option (List Answer)) (a : Activation) (s : State) (g : Given)
     → IsActing a s g (activation_move script vars a s g)
-acts None vars a s g = returns s.variables refl
-acts (Some script) None a s g = returns s.variables refl
+acts None vars a s g = returns s.world.variables refl
+acts (Some script) None a s g = returns s.world.variables refl
 acts (Some script) (Some vars) a s g =
     let next : Order × Point × List Answer = next_order script a.at vars a.seen in
-    order-acts (is_return next.0) next.0 a next.1 (slice_set s.variables a.script next.2) (with_top (top.Activation a) s) s g
+    order-acts (is_return next.0) next.0 a next.1 (slice_set s.world.variables a.script next.2) (with_top (top.Activation a) s) s g
 
 pub acts-kept : (a : Activation) (s : State) (g : Given) (m : Move) → IsActing a s g m → IsKept s m.1
 acts-kept a s g m (returns vars is) = subst (λ (x : Move). IsKept s x.1) (sym is) (record { phase = refl; queue = refl })
-acts-kept a s g m (orders vars o further t answers kept is) =
-    subst (λ (x : Move). IsKept s x.1) (sym is) (record { phase = kept.phase; queue = kept.queue })
+acts-kept a s g m (orders vars o further is) = subst (λ (x : Move). IsKept s x.1) (sym is) (record { phase = refl; queue = refl })
 
 -- What holds of all that an outcome may leave.
 abbrev pub AllMade : (Made → Type 0) → Outcome → Type 0
@@ -141,7 +104,7 @@ statement-phase p (Some code.Finish) s = refl
 
 telling-phase : (o : Occurrence) (s : State) → AllMade (HasPhase s.phase) (telling_outcome o s)
 telling-phase o s =
-    unless-holds (AllMade (HasPhase s.phase)) (nat_le MOST_FRAMES (frames s.control)) fault.F1 _ (λ _. tt)
+    unless-holds (AllMade (HasPhase s.phase)) (nat_le MOST_FRAMES (length s.world.frames)) fault.F1 _ (λ _. tt)
     (λ _. unless-holds (AllMade (HasPhase s.phase)) (nat_lt MOST_NUMBERS s.occurrence) fault.F3 _ (λ _. tt) (λ _. refl))
 
 work-phase : (w : Work) (s : State) → AllMade (HasPhase s.phase) (work_outcome w s)
@@ -164,11 +127,11 @@ called-phase (Some r) (Some b) c o s = record { phase = refl; queue = refl }
 pub called-kept : (r : Option Registration) (b : Option Body) (c : ℕ) (o : Occurrence) (s : State) → IsKept s (called r b c o s)
 called-kept = called-phase
 
-fire-goes : (o : Option ℕ) (f : Frame) (s : State) → is_over s.phase ≡ false → Goes (fire_move o f s)
+fire-goes : (o : Option ℕ) (f : Told) (s : State) → is_over s.phase ≡ false → Goes (fire_move o f s)
 fire-goes None f s alive = λ open_yet. alive
 fire-goes (Some c) f s alive =
-    let before : State = with_top (top.Frame (record f { left = without_number c f.left })) s in
-    let kept = called-phase (info_of c s.callbacks) (body_of c s.callbacks) c f.what before in
+    let before : State = with_top (top.Frame f) (with_frames (without_in_top c s.world.frames) s) in
+    let kept = called-phase (info_of c s.world.callbacks) (body_of c s.world.callbacks) c f.what before in
     λ open_yet. ap is_over kept.phase ∙ alive
 
 time-goes : (o : Option ℕ) (s : State) → is_over s.phase ≡ false → Goes (time_move o s)
@@ -190,7 +153,7 @@ started-kept (Some script) k s = record { phase = refl; queue = refl }
 agenda-goes : (o : Option Agendum) (s : State) (k : ℕ) → is_over s.phase ≡ false → Goes (agenda_move o s k)
 agenda-goes None s k alive = pick-goes (slice_get (eligible s.queue) k) s alive
 agenda-goes (Some (agendum.Startup n)) s k alive =
-    let kept = started-kept (slice_get s.scripts (n - 1)) n (without_item s) in
+    let kept = started-kept (slice_get s.world.scripts (n - 1)) n (without_item s) in
     λ open_yet. ap is_over kept.phase ∙ alive
 agenda-goes (Some (agendum.Occurrence r)) s k alive =
     outcome-goes _ s s.phase _ alive (telling-phase (occurrence_of r) (without_item s))
@@ -205,9 +168,9 @@ item-goes (top.Process p) s k g alive =
     outcome-goes (λ shown. label.Stmt p shown) (with_top (top.Process p) s) s.phase _ alive (statement-phase p (next_statement p s) s)
 item-goes (top.Pending o) s k g alive =
     outcome-goes (λ shown. label.Occ s.occurrence o.reason o.object) (with_top (top.Pending o) s) s.phase _ alive (telling-phase o s)
-item-goes (top.Frame f) s k g alive = fire-goes (slice_get f.left k) f s alive
+item-goes (top.Frame f) s k g alive = fire-goes (slice_get (top_set s.world.frames) k) f s alive
 item-goes (top.Activation a) s k g alive =
-    let kept = acts-kept a s g _ (acts (slice_get s.scripts a.script) (slice_get s.variables a.script) a s g) in
+    let kept = acts-kept a s g _ (acts (slice_get s.world.scripts a.script) (slice_get s.world.variables a.script) a s g) in
     λ open_yet. ap is_over kept.phase ∙ alive
 item-goes (top.Leave c) s k g alive = λ open_yet. refl
 
@@ -223,12 +186,12 @@ crowded-goes false s k g alive = top-goes (slice_get s.control 0) s k g alive
 one-of : (n : ℕ) → 0 < max n 1
 one-of n = omega arith
 
-item-some : (c : Control) → 0 < item_choices c
-item-some (top.Process p) = omega arith
-item-some (top.Pending o) = omega arith
-item-some (top.Frame f) = one-of (length f.left)
-item-some (top.Activation a) = omega arith
-item-some (top.Leave c) = omega arith
+item-some : (c : Control) (s : State) → 0 < item_choices c s
+item-some (top.Process p) s = omega arith
+item-some (top.Pending o) s = omega arith
+item-some (top.Frame f) s = one-of (length (top_set s.world.frames))
+item-some (top.Activation a) s = omega arith
+item-some (top.Leave c) s = omega arith
 
 agenda-some : (o : Option Agendum) (s : State) → 0 < agenda_choices o s
 agenda-some None s = one-of (length (eligible s.queue))
@@ -241,7 +204,7 @@ idle-some (phase.Ended e) s alive = absurd (cc)
 
 top-some : (o : Option Control) (s : State) → is_over s.phase ≡ false → 0 < top_choices o s
 top-some None s alive = idle-some s.phase s alive
-top-some (Some c) s alive = item-some c
+top-some (Some c) s alive = item-some c s
 
 choices-by : (over crowded : Bool) (n : ℕ) → over ≡ false → 0 < n → 0 < cond over 0 (cond crowded 1 n)
 choices-by true crowded n alive some = absurd (cc)

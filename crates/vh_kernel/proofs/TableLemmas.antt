@@ -8,21 +8,22 @@ use Rattle.vh_base.specs.declared.words.Reason.{Reason}
 use Rattle.vh_kernel.specs.declared.activation.Activation.{Activation}
 use Rattle.vh_kernel.specs.declared.control.Control.{Control}
 use Rattle.vh_kernel.specs.declared.control.Control.TheVariants as top
-use Rattle.vh_kernel.specs.declared.events.Entry.{Entry}
-use Rattle.vh_kernel.specs.declared.events.Work.{Work}
-use Rattle.vh_kernel.specs.declared.events.Work.TheVariants as work
+use Rattle.vh_queue.specs.declared.queue.Entry.{Entry}
+use Rattle.vh_queue.specs.declared.queue.Work.{Work}
+use Rattle.vh_queue.specs.declared.queue.Work.TheVariants as work
 use Rattle.vh_kernel.specs.declared.label.Ending.TheVariants as ending
 use Rattle.vh_kernel.specs.declared.label.Label.{Label}
 use Rattle.vh_kernel.specs.declared.label.Label.TheVariants as label
-use Rattle.vh_kernel.specs.declared.label.Region.{Region}
+use Rattle.vh_queue.specs.declared.region.Region.{Region}
 use Rattle.vh_kernel.specs.declared.occurrence.Agendum.{Agendum}
 use Rattle.vh_kernel.specs.declared.occurrence.Agendum.TheVariants as agendum
-use Rattle.vh_kernel.specs.declared.occurrence.Frame.{Frame}
+use Rattle.vh_kernel.specs.declared.occurrence.Told.{Told}
 use Rattle.vh_kernel.specs.declared.phase.Phase.{Phase}
 use Rattle.vh_kernel.specs.declared.phase.Phase.TheVariants as phase
-use Rattle.vh_kernel.specs.Events.{eligible, without_serial, next_region, least_time}
+use Rattle.vh_queue.specs.Events.{eligible, without_serial, next_region, least_time}
 use Rattle.vh_kernel.specs.Occurrences.{Occurrence, occurrence_of}
-use Rattle.vh_kernel.specs.Orders.{Given}
+use Rattle.vh_dispatch.specs.Frames.{top_set}
+use Rattle.vh_orders.specs.Orders.{Given}
 use Rattle.vh_kernel.specs.Outcome.{Outcome, Move, after_made, move_of, end_move}
 use Rattle.vh_kernel.specs.State.{State, with_top, without_top, without_item}
 use Rattle.vh_kernel.specs.Statements.{next_statement, statement_outcome}
@@ -82,20 +83,20 @@ telling-row o s before r (Ok m) tells same is = record {
 telling-row o s before r (Err f) tells same is = fault-row s before f same (by_occurrence o r tells is)
 
 -- A frame.
-fire-row : (o : Option ℕ) (f : Frame) (s : State) (k : ℕ) → HasTop s (top.Frame f) → k < max (length f.left) 1
-    → slice_get f.left k ≡ o → HasRow s (fire_move o f (without_top s))
-fire-row None f s k on below is = record { frame = f; on = on; number = refl; none = none-left f.left k below is; leaves = refl }
+fire-row : (o : Option ℕ) (f : Told) (s : State) (k : ℕ) → HasTop s (top.Frame f) → k < max (length (top_set s.world.frames)) 1
+    → slice_get (top_set s.world.frames) k ≡ o → HasRow s (fire_move o f (without_top s))
+fire-row None f s k on below is = record { frame = f; on = on; number = refl; none = none-left (top_set s.world.frames) k below is; leaves = refl }
 fire-row (Some c) f s k on below is =
     record { frame = f; choice = k; on = on; number = refl; chosen = is; leaves = refl }
 
 -- An activation.
 acting-row : (a : Activation) (s : State) (g : Given) (m : Move) → HasTop s (top.Activation a)
-    → activation_move (slice_get s.scripts a.script) (slice_get s.variables a.script) a (without_top s) g ≡ m
+    → activation_move (slice_get s.world.scripts a.script) (slice_get s.world.variables a.script) a (without_top s) g ≡ m
     → IsActing a (without_top s) g m → Fits s m.0 → HasRow s m
 acting-row a s g m on makes (returns vars is) fits =
     let P : Move → Type 0 = HasRow s in
     subst P (sym is) (record { who = a; given = g; on = on; fits = tt; makes = makes ∙ is })
-acting-row a s g m on makes (orders vars o further t answers kept is) fits =
+acting-row a s g m on makes (orders vars o further is) fits =
     let P : Move → Type 0 = HasRow s in
     let Q : Move → Type 0 = λ x. Fits s x.0 in
     subst P (sym is) (record { who = a; given = g; on = on; fits = subst Q is fits; makes = makes ∙ is })
@@ -134,13 +135,13 @@ agenda-row (Some (agendum.Occurrence r)) s k next below =
     telling-row (occurrence_of r) s s (without_item s) _ (inr (r, next, refl, refl)) refl refl
 
 item-row : (c : Control) (s : State) (k : ℕ) (g : Given) → HasTop s c → Fits s (item_move c (without_top s) k g).0
-    → k < item_choices c → HasRow s (item_move c (without_top s) k g)
+    → k < item_choices c s → HasRow s (item_move c (without_top s) k g)
 item-row (top.Process p) s k g on fits below = statement-row p s _ on refl
 item-row (top.Pending o) s k g on fits below =
     telling-row o s (with_top (top.Pending o) (without_top s)) (without_top s) _ (inl (on, refl)) (put-back s (top.Pending o) on.on) refl
-item-row (top.Frame f) s k g on fits below = fire-row (slice_get f.left k) f s k on below refl
+item-row (top.Frame f) s k g on fits below = fire-row (slice_get (top_set s.world.frames) k) f s k on below refl
 item-row (top.Activation a) s k g on fits below =
-    acting-row a s g _ on refl (acts (slice_get s.scripts a.script) (slice_get s.variables a.script) a (without_top s) g) fits
+    acting-row a s g _ on refl (acts (slice_get s.world.scripts a.script) (slice_get s.world.variables a.script) a (without_top s) g) fits
 item-row (top.Leave c) s k g on fits below = (inl on, refl)
 
 idle-row : (f : Phase) (s : State) (k : ℕ) → IsGoing s → s.phase ≡ f → slice_get s.control 0 ≡ None → k < idle_choices f s
@@ -202,7 +203,7 @@ by-top : (s : State) (c : Control) (k : ℕ) (g : Given) → HasTop s c
     → crowded_move (is_crowded s) s k g ≡ item_move c (without_top s) k g
 by-top s c k g on = by-going s k g on.going ∙ ap (λ (o : Option Control). top_move o s k g) on.on
 
-choices-by-top : (s : State) (c : Control) → HasTop s c → choices_of s ≡ item_choices c
+choices-by-top : (s : State) (c : Control) → HasTop s c → choices_of s ≡ item_choices c s
 choices-by-top s c on = choices-going s on.going ∙ ap (λ (o : Option Control). top_choices o s) on.on
 
 some-top : (s : State) (c : Control) → HasTop s c → 0 < choices_of s
@@ -326,7 +327,7 @@ row-chosen s u (label.Occ n reason object) row = record {
 row-chosen s u (label.Fire n c) row = record {
   choice = row.choice;
   given = nothing;
-  below = (let within : row.choice < length row.frame.left = slice_get_within row.frame.left row.choice c row.chosen in
+  below = (let within : row.choice < length (top_set s.world.frames) = slice_get_within (top_set s.world.frames) row.choice c row.chosen in
       let e = choices-by-top s (top.Frame row.frame) row.on in omega arith);
   fits = tt;
   makes = by-top s (top.Frame row.frame) row.choice nothing row.on

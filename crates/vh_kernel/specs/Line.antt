@@ -5,15 +5,15 @@ use Rattle.std.specs.Option.{option_map}
 use Rattle.vh_base.specs.declared.orders.Object.{Object}
 use Rattle.vh_base.specs.Faults.{cause_name, fault_name}
 use Rattle.vh_base.specs.Words.{reason_text}
-use Rattle.vh_kernel.specs.declared.activation.Who.{Who}
-use Rattle.vh_kernel.specs.declared.activation.Who.TheVariants as who_is
+use Rattle.vh_orders.specs.declared.who.Who.{Who}
+use Rattle.vh_orders.specs.declared.who.Who.TheVariants as who_is
 use Rattle.vh_kernel.specs.declared.label.Ending.{Ending}
 use Rattle.vh_kernel.specs.declared.label.Ending.TheVariants as ending
 use Rattle.vh_kernel.specs.declared.label.Label.{Label}
 use Rattle.vh_kernel.specs.declared.label.Label.TheVariants as label
-use Rattle.vh_kernel.specs.Names.{name_of}
-use Rattle.vh_kernel.specs.OrderText.{order_text, answer_text}
-use Rattle.vh_kernel.specs.Quoted.{quoted, plain_text}
+use Rattle.vh_orders.specs.Names.{name_of}
+use Rattle.vh_lines.specs.OrderText.{order_text, answer_text}
+use Rattle.vh_lines.specs.Quoted.{quoted, plain_text}
 use Rattle.vh_kernel.specs.State.{State}
 
 -- The name of an end.
@@ -37,12 +37,12 @@ who_text (who_is.Startup k) = 115 ∷ decimal k
 
 -- The name of a script, by its number from 1.
 abbrev pub script_name : ℕ → State → List ℕ
-script_name k s = unwrap_or (option_map (λ d. d.name) (slice_get s.scripts (k - 1))) []
+script_name k s = unwrap_or (option_map (λ d. d.name) (slice_get s.world.scripts (k - 1))) []
 
 -- The full name of an object, or a dash for none.
 abbrev pub object_text : Option Object → State → List ℕ
 object_text None s = 45 ∷ []
-object_text (Some o) s = plain_text (name_of o.id s.names)
+object_text (Some o) s = plain_text (name_of o.id s.world.names)
 
 -- The text of a label, without its time: a row for each label. Silent labels have none.
 abbrev pub text_at : State → Label → Option (List ℕ)

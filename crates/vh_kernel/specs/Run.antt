@@ -7,7 +7,7 @@ use Rattle.vh_base.specs.declared.orders.Answer.{Answer}
 use Rattle.vh_base.specs.declared.orders.Answer.TheVariants as answer
 use Rattle.vh_kernel.specs.Line.{line_at}
 use Rattle.vh_kernel.specs.State.{State}
-use Rattle.vh_kernel.specs.Orders.{Given}
+use Rattle.vh_orders.specs.Orders.{Given}
 use Rattle.vh_kernel.specs.Outcome.{Move}
 use Rattle.vh_kernel.specs.Step.{IsStep, next_given, step_of, choices_of, is_end}
 

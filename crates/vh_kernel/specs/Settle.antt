@@ -4,7 +4,7 @@ use Rattle.std.specs.Prelude.{List, [], ◌∷◌, Bool, false, if◌then◌else
 use Rattle.vh_base.specs.declared.first.First.{First}
 use Rattle.vh_app.specs.Script.{ScriptData}
 use Rattle.vh_callbacks.specs.Callbacks.{Callbacks}
-use Rattle.vh_kernel.specs.declared.activation.Body.{Body}
+use Rattle.vh_orders.specs.declared.who.Body.{Body}
 use Rattle.vh_kernel.specs.declared.occurrence.Agendum.{Agendum}
 use Rattle.vh_kernel.specs.declared.occurrence.Agendum.TheVariants as agendum
 use Rattle.vh_kernel.specs.declared.control.Control.{Control}
@@ -38,12 +38,12 @@ without_front so (x ∷ xs) = if so x then without_front so xs else x ∷ xs
 -- The state before the next label: control without void occurrences on top, and where nothing is left
 -- on it, the agenda without those at its front.
 abbrev pub settled_control : State → List Control
-settled_control s = without_front (is_void s.callbacks) s.control
+settled_control s = without_front (is_void s.world.callbacks) s.control
 
 abbrev pub settled : State → State
 settled s = record s {
   control = settled_control s;
-  agenda = if is_some (slice_get (settled_control s) 0) then s.agenda else without_front (is_void_item s.callbacks) s.agenda;
+  agenda = if is_some (slice_get (settled_control s) 0) then s.agenda else without_front (is_void_item s.world.callbacks) s.agenda;
 }
 
 -- The state at the opening of a design with its scripts.

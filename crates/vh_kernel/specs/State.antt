@@ -1,43 +1,35 @@
 -- The machine's state. (IEEE 1364-2005, clause 11)
-use Rattle.std.specs.Prelude.{ℕ, zero, suc, ◌+◌, ◌++◌, List, [], ◌∷◌, map, length, drop, Option, None}
+use Rattle.std.specs.Prelude.{ℕ, zero, suc, ◌+◌, ◌++◌, List, [], ◌∷◌, map, length, drop, None}
 use Rattle.vh_base.specs.declared.first.FirstBit.{FirstBit}
 use Rattle.vh_base.specs.declared.first.FirstBit.TheVariants as bit
 use Rattle.vh_base.specs.declared.first.FirstCode.{FirstCode}
 use Rattle.vh_base.specs.declared.first.First.{First}
 use Rattle.vh_base.specs.declared.orders.Answer.{Answer}
-use Rattle.vh_base.specs.declared.words.Code.{Code}
 use Rattle.vh_base.specs.declared.words.Reason.TheVariants as reason
 use Rattle.vh_app.specs.Next.{no_answers}
 use Rattle.vh_app.specs.Script.{ScriptData}
-use Rattle.vh_callbacks.specs.Callbacks.{Callbacks, opening as no_callbacks}
-use Rattle.vh_kernel.specs.declared.activation.Body.{Body}
+use Rattle.vh_callbacks.specs.Callbacks.{opening as no_callbacks}
 use Rattle.vh_kernel.specs.declared.occurrence.Agendum.{Agendum}
 use Rattle.vh_kernel.specs.declared.occurrence.Agendum.TheVariants as agendum
 use Rattle.vh_kernel.specs.declared.phase.Phase.{Phase}
 use Rattle.vh_kernel.specs.declared.phase.Phase.TheVariants as phase
 use Rattle.vh_kernel.specs.declared.control.Control.{Control}
-use Rattle.vh_kernel.specs.Events.{Events, opening_events}
-use Rattle.vh_kernel.specs.Handles.{Handles, no_handles}
-use Rattle.vh_kernel.specs.Names.{full_names}
+use Rattle.vh_queue.specs.Events.{Events, opening_events}
+use Rattle.vh_handles.specs.Handles.{no_handles}
+use Rattle.vh_orders.specs.Names.{full_names}
+use Rattle.vh_orders.specs.World.{World}
 
--- The full names of the design's objects by number, and the scripts, which no step changes; the
--- registers' values by number; the event queue with the present time; for each process the statements
--- that it has still to perform; the variables of each script; the callbacks; the handles; control, a
--- stack with its top first; the agenda; the number of the next occurrence; the error of the last order;
--- and the phase.
+-- The world of the applications; the registers' values by number; the event queue with the present time;
+-- for each process the statements that it has still to perform; control, a stack with its top first; the
+-- agenda; the number of the next occurrence; and the phase.
 pub record State : Type 0 where
-  pub names : List (List ℕ)
-  pub scripts : List ScriptData
+  pub world : World
   pub store : List FirstBit
   pub queue : Events
   pub threads : List (List FirstCode)
-  pub variables : List (List Answer)
-  pub callbacks : Callbacks Body
-  pub handles : Handles
   pub control : List Control
   pub agenda : List Agendum
   pub occurrence : ℕ
-  pub error : Option Code
   pub phase : Phase
 
 -- The startups of so many scripts, by number from this one on.
@@ -52,24 +44,39 @@ opening_agenda scripts =
     startups 1 (length scripts)
     ++ agendum.Occurrence reason.CbEndOfCompile ∷ agendum.Occurrence reason.CbStartOfSimulation ∷ []
 
--- The state before all: every register is x, each process has an evaluation entry at time 0, every
--- variable is null, and nothing is on control.
-abbrev pub before_all : First → List ScriptData → State
-before_all f scripts = record {
+-- The world before all: every variable is null, no callback is live, no frame stands, no handle was given.
+abbrev pub world_before : First → List ScriptData → World
+world_before f scripts = record {
   names = full_names f;
   scripts = scripts;
+  variables = map no_answers scripts;
+  callbacks = no_callbacks;
+  frames = [];
+  handles = no_handles;
+  error = None;
+}
+
+-- The state before all: every register is x, each process has an evaluation entry at time 0, and nothing is
+-- on control.
+abbrev pub before_all : First → List ScriptData → State
+before_all f scripts = record {
+  world = world_before f scripts;
   store = map (λ _. bit.X) f.regs;
   queue = opening_events (length f.blocks);
   threads = f.blocks;
-  variables = map no_answers scripts;
-  callbacks = no_callbacks;
-  handles = no_handles;
   control = [];
   agenda = opening_agenda scripts;
   occurrence = 1;
-  error = None;
   phase = phase.Running;
 }
+
+-- The frames that stand have other sets.
+abbrev pub with_frames : List (List ℕ) → State → State
+with_frames frames s = record s { world = record s.world { frames = frames } }
+
+-- The variables of the scripts are others.
+abbrev pub with_variables : List (List Answer) → State → State
+with_variables variables s = record s { world = record s.world { variables = variables } }
 
 -- Something is put on top of control, and the top is taken off.
 abbrev pub with_top : Control → State → State

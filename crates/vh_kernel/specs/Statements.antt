@@ -9,12 +9,12 @@ use Rattle.vh_base.specs.declared.first.FirstCode.{FirstCode}
 use Rattle.vh_base.specs.declared.first.FirstCode.TheVariants as code
 use Rattle.vh_base.specs.declared.words.Reason.TheVariants as reason
 use Rattle.vh_base.specs.Checks.{unless}
-use Rattle.vh_kernel.specs.declared.events.Work.TheVariants as work
-use Rattle.vh_kernel.specs.declared.label.Region.TheVariants as region
+use Rattle.vh_queue.specs.declared.queue.Work.TheVariants as work
+use Rattle.vh_queue.specs.declared.region.Region.TheVariants as region
 use Rattle.vh_kernel.specs.declared.control.Control.TheVariants as top
 use Rattle.vh_kernel.specs.Occurrences.{Occurrence, bit_text}
-use Rattle.vh_kernel.specs.Events.{added, is_full}
-use Rattle.vh_kernel.specs.Names.{whole}
+use Rattle.vh_queue.specs.Events.{added, is_full}
+use Rattle.vh_orders.specs.Names.{whole}
 use Rattle.vh_kernel.specs.Outcome.{Outcome, silently}
 use Rattle.vh_kernel.specs.State.{State, with_top}
 

@@ -1,6 +1,6 @@
 -- The machine's step: a state, a choice and what is given besides it make the label and the state after
 -- it. (IEEE 1364-2005, 11.4 and 27.33; the numbers that end a run are own.)
-use Rattle.std.specs.Prelude.{◌≡◌, ⊤, ℕ, ◌+◌, ◌-◌, List, [], ◌∷◌, length, max, min, Bool, true, false, if◌then◌else◌, nat_le, nat_lt, Option, Some, None, Ok, Err, slice_get, slice_set}
+use Rattle.std.specs.Prelude.{◌≡◌, ⊤, ℕ, ◌+◌, ◌-◌, List, [], ◌∷◌, drop, length, max, min, Bool, true, false, if◌then◌else◌, nat_le, nat_lt, Option, Some, None, slice_get, slice_set}
 use Rattle.vh_base.specs.declared.limits.TheConstants.{MOST_ENTRIES, MOST_FRAMES, MOST_NUMBERS}
 use Rattle.vh_base.specs.declared.faults.Cause.{Cause}
 use Rattle.vh_base.specs.declared.faults.Cause.TheVariants as cause
@@ -17,15 +17,15 @@ use Rattle.vh_app.specs.Next.{opening as start_of, next_of as next_order}
 use Rattle.vh_app.specs.Script.{ScriptData}
 use Rattle.vh_callbacks.specs.declared.registration.Registration.{Registration}
 use Rattle.vh_callbacks.specs.Callbacks.{info_of, body_of}
-use Rattle.vh_kernel.specs.declared.activation.Body.{Body}
-use Rattle.vh_kernel.specs.declared.activation.Who.TheVariants as who_is
-use Rattle.vh_kernel.specs.declared.events.Entry.{Entry}
-use Rattle.vh_kernel.specs.declared.events.Work.{Work}
-use Rattle.vh_kernel.specs.declared.events.Work.TheVariants as work
+use Rattle.vh_orders.specs.declared.who.Body.{Body}
+use Rattle.vh_orders.specs.declared.who.Who.TheVariants as who_is
+use Rattle.vh_queue.specs.declared.queue.Entry.{Entry}
+use Rattle.vh_queue.specs.declared.queue.Work.{Work}
+use Rattle.vh_queue.specs.declared.queue.Work.TheVariants as work
 use Rattle.vh_kernel.specs.declared.label.Ending.TheVariants as ending
 use Rattle.vh_kernel.specs.declared.label.Label.{Label}
 use Rattle.vh_kernel.specs.declared.label.Label.TheVariants as label
-use Rattle.vh_kernel.specs.declared.label.Region.{Region}
+use Rattle.vh_queue.specs.declared.region.Region.{Region}
 use Rattle.vh_kernel.specs.declared.occurrence.Agendum.{Agendum}
 use Rattle.vh_kernel.specs.declared.occurrence.Agendum.TheVariants as agendum
 use Rattle.vh_kernel.specs.declared.phase.Phase.{Phase}
@@ -33,22 +33,23 @@ use Rattle.vh_kernel.specs.declared.phase.Phase.TheVariants as phase
 use Rattle.vh_kernel.specs.declared.activation.Activation.{Activation}
 use Rattle.vh_kernel.specs.declared.control.Control.{Control}
 use Rattle.vh_kernel.specs.declared.control.Control.TheVariants as top
-use Rattle.vh_kernel.specs.declared.occurrence.Frame.{Frame}
-use Rattle.vh_kernel.specs.Control.{frames}
+use Rattle.vh_kernel.specs.declared.occurrence.Told.{Told}
 use Rattle.vh_kernel.specs.Occurrences.{Occurrence, occurrence_of, set_of}
-use Rattle.vh_kernel.specs.Events.{eligible, without_serial, next_region, activated_of, least_time, advanced}
-use Rattle.vh_kernel.specs.Numbers.{without_number}
-use Rattle.vh_kernel.specs.Orders.{Given, answered, effect_of, is_return, error_in}
+use Rattle.vh_queue.specs.Events.{eligible, without_serial, next_region, activated_of, least_time, advanced}
+use Rattle.vh_dispatch.specs.Frames.{top_set, without_in_top}
+use Rattle.vh_orders.specs.Orders.{Given, performed, is_return}
+use Rattle.vh_orders.specs.World.{World}
 use Rattle.vh_kernel.specs.Outcome.{Outcome, Move, silently, end_move, move_of}
 use Rattle.vh_kernel.specs.Settle.{settled}
-use Rattle.vh_kernel.specs.State.{State, with_top, without_top, without_item}
+use Rattle.vh_kernel.specs.State.{State, with_top, without_top, without_item, with_frames, with_variables}
 use Rattle.vh_kernel.specs.Statements.{next_statement, statement_outcome}
 
--- A finish empties control, the agenda and the queue, and the end of simulation is pending.
+-- A finish empties control with its frames, the agenda and the queue, and the end of simulation is pending.
 abbrev pub finish_move : Cause → State → Move
 finish_move c s = (
   label.Finish c,
   record s {
+    world = record s.world { frames = [] };
     queue = record s.queue { entries = [] };
     control = top.Pending (occurrence_of reason.CbEndOfSimulation) ∷ [];
     agenda = [];
@@ -60,10 +61,10 @@ finish_move c s = (
 -- and numbers go up to 2^63. The first state is that before, the second has it taken off.
 abbrev pub telling_outcome : Occurrence → State → Outcome
 telling_outcome o s =
-    unless (nat_le MOST_FRAMES (frames s.control)) fault.F1
+    unless (nat_le MOST_FRAMES (length s.world.frames)) fault.F1
     (unless (nat_lt MOST_NUMBERS s.occurrence) fault.F3
-    (silently (with_top (top.Frame (record { number = s.occurrence; what = o; left = set_of o s.callbacks }))
-    (record s { occurrence = s.occurrence + 1 }))))
+    (silently (with_top (top.Frame (record { number = s.occurrence; what = o }))
+    (with_frames (set_of o s.world.callbacks ∷ s.world.frames) (record s { occurrence = s.occurrence + 1 })))))
 
 abbrev pub occurrence_move : Occurrence → State → State → Move
 occurrence_move o before s = move_of (λ shown. label.Occ s.occurrence o.reason o.object) before (telling_outcome o s)
@@ -107,12 +108,12 @@ called (Some r) (Some b) c o s = with_top (top.Activation (record {
 })) s
 
 -- A frame fires the callback of its set that was chosen; where its set is empty, it is done.
-abbrev pub fire_move : Option ℕ → Frame → State → Move
-fire_move None f s = (label.Done f.number, s)
+abbrev pub fire_move : Option ℕ → Told → State → Move
+fire_move None f s = (label.Done f.number, with_frames (drop 1 s.world.frames) s)
 fire_move (Some c) f s = (
   label.Fire f.number c,
-  called (info_of c s.callbacks) (body_of c s.callbacks) c f.what
-      (with_top (top.Frame (record f { left = without_number c f.left })) s),
+  called (info_of c s.world.callbacks) (body_of c s.world.callbacks) c f.what
+      (with_top (top.Frame f) (with_frames (without_in_top c s.world.frames) s)),
 )
 
 -- An activation after an order: it has seen one step more, and its answer. The count of steps stays at
@@ -120,26 +121,24 @@ fire_move (Some c) f s = (
 abbrev pub seen_after : Answer → Seen → Seen
 seen_after a seen = record seen { step = min (seen.step + 1) 4294967295; last = a }
 
--- It stands on control again, below the occurrences that the order made.
-abbrev pub resumed : Activation → Answer → Outcome → Outcome
-resumed a x (Err f) = Err f
-resumed a x (Ok m) = Ok (record m {
-  state = with_top (top.Activation (record a { seen = seen_after x a.seen })) (record m.state { error = error_in x });
-})
+-- It stands on control again, in the world that the order left.
+abbrev pub order_outcome : Activation → Answer × World → State → Outcome
+order_outcome a given s =
+    silently (with_top (top.Activation (record a { seen = seen_after given.0 a.seen })) (record s { world = given.1 }))
 
 -- It gives an order and is answered, or returns. The first state is that before.
-abbrev pub answer_move : Order → Activation → Answer × Outcome → State → Move
-answer_move o a given before = move_of (λ shown. label.Do a.who o given.0) before (resumed a given.0 given.1)
+abbrev pub answer_move : Order → Activation → Answer × World → State → State → Move
+answer_move o a given before s = move_of (λ shown. label.Do a.who o given.0) before (order_outcome a given s)
 
 abbrev pub order_move : Bool → Order → Activation → State → State → Given → Move
 order_move true o a before s g = (label.Ret a.who, s)
-order_move false o a before s g = answer_move o a (answered (effect_of o a.who s) s g) before
+order_move false o a before s g = answer_move o a (performed o a.who s.world g) before s
 
 -- The script has said what it orders next.
 abbrev pub next_move_of : Order × Point × List Answer → Activation → State → State → Given → Move
 next_move_of next a before s g =
     order_move (is_return next.0) next.0 (record a { at = next.1 }) before
-    (record s { variables = slice_set s.variables a.script next.2 }) g
+    (with_variables (slice_set s.world.variables a.script next.2) s) g
 
 abbrev pub activation_move : Option ScriptData → Option (List Answer) → Activation → State → Given → Move
 activation_move None vars a s g = (label.Ret a.who, s)
@@ -180,7 +179,7 @@ started (Some script) k s = with_top (top.Activation (record {
 
 abbrev pub agenda_move : Option Agendum → State → ℕ → Move
 agenda_move None s k = pick_move (slice_get (eligible s.queue) k) s
-agenda_move (Some (agendum.Startup n)) s k = (label.Startup n, started (slice_get s.scripts (n - 1)) n (without_item s))
+agenda_move (Some (agendum.Startup n)) s k = (label.Startup n, started (slice_get s.world.scripts (n - 1)) n (without_item s))
 agenda_move (Some (agendum.Occurrence r)) s k = occurrence_move (occurrence_of r) s (without_item s)
 
 -- With nothing on control: the agenda goes on, or after the finish the run is over.
@@ -194,8 +193,8 @@ abbrev pub item_move : Control → State → ℕ → Given → Move
 item_move (top.Process p) s k g =
     move_of (λ shown. label.Stmt p shown) (with_top (top.Process p) s) (statement_outcome p (next_statement p s) s)
 item_move (top.Pending o) s k g = occurrence_move o (with_top (top.Pending o) s) s
-item_move (top.Frame f) s k g = fire_move (slice_get f.left k) f s
-item_move (top.Activation a) s k g = activation_move (slice_get s.scripts a.script) (slice_get s.variables a.script) a s g
+item_move (top.Frame f) s k g = fire_move (slice_get (top_set s.world.frames) k) f s
+item_move (top.Activation a) s k g = activation_move (slice_get s.world.scripts a.script) (slice_get s.world.variables a.script) a s g
 item_move (top.Leave c) s k g = finish_move c s
 
 abbrev pub top_move : Option Control → State → ℕ → Given → Move
@@ -235,13 +234,13 @@ step_of s k g = settled_move (crowded_move (is_crowded s) s k g)
 
 -- Where numbers are given in order, the next is the count of those given before.
 abbrev pub next_given : State → Given
-next_given s = record { handle = s.handles.count }
+next_given s = record { handle = s.world.handles.count }
 
 -- A handle that is given has a number that was never given before.
 abbrev pub FitsAnswer : State → Answer → Type 0
 FitsAnswer s answer.Done = ⊤
 FitsAnswer s answer.Null = ⊤
-FitsAnswer s (answer.Handle h) = s.handles.is_given h ≡ false
+FitsAnswer s (answer.Handle h) = s.world.handles.is_given h ≡ false
 FitsAnswer s (answer.Number n) = ⊤
 FitsAnswer s (answer.Text text) = ⊤
 FitsAnswer s (answer.Refused c) = ⊤
@@ -268,12 +267,12 @@ pub record IsStep (s : State) (k : ℕ) (m : Move) : Type 0 where
 
 -- How many choices there are: the entries that may be picked where one is, the callbacks of a frame's set
 -- where one is, else one; and none after the end.
-abbrev pub item_choices : Control → ℕ
-item_choices (top.Process p) = 1
-item_choices (top.Pending o) = 1
-item_choices (top.Frame f) = max (length f.left) 1
-item_choices (top.Activation a) = 1
-item_choices (top.Leave c) = 1
+abbrev pub item_choices : Control → State → ℕ
+item_choices (top.Process p) s = 1
+item_choices (top.Pending o) s = 1
+item_choices (top.Frame f) s = max (length (top_set s.world.frames)) 1
+item_choices (top.Activation a) s = 1
+item_choices (top.Leave c) s = 1
 
 abbrev pub agenda_choices : Option Agendum → State → ℕ
 agenda_choices None s = max (length (eligible s.queue)) 1
@@ -286,7 +285,7 @@ idle_choices (phase.Ended e) s = 0
 
 abbrev pub top_choices : Option Control → State → ℕ
 top_choices None s = idle_choices s.phase s
-top_choices (Some c) s = item_choices c
+top_choices (Some c) s = item_choices c s
 
 abbrev pub is_over : Phase → Bool
 is_over phase.Running = false

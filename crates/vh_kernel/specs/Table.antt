@@ -1,6 +1,6 @@
 -- The machine's step as a table: from which state a label leads to which, a row for each label.
 -- (IEEE 1364-2005, 11.4 and 27.33)
-use Rattle.std.specs.Prelude.{◌≡◌, ℕ, ◌+◌, ◌-◌, ◌<◌, ◌≤◌, List, [], ◌∷◌, true, false, if◌then◌else◌, Option, Some, None, Ok, Err, slice_get, ◌⊎◌}
+use Rattle.std.specs.Prelude.{◌≡◌, ℕ, ◌+◌, ◌-◌, ◌<◌, ◌≤◌, List, [], ◌∷◌, drop, true, false, if◌then◌else◌, Option, Some, None, Ok, Err, slice_get, ◌⊎◌}
 use Rattle.vh_base.specs.declared.faults.Cause.{Cause}
 use Rattle.vh_base.specs.declared.faults.Cause.TheVariants as cause
 use Rattle.vh_base.specs.declared.faults.Fault.{Fault}
@@ -13,22 +13,22 @@ use Rattle.vh_callbacks.specs.Callbacks.{info_of, body_of}
 use Rattle.vh_kernel.specs.declared.activation.Activation.{Activation}
 use Rattle.vh_kernel.specs.declared.control.Control.{Control}
 use Rattle.vh_kernel.specs.declared.control.Control.TheVariants as top
-use Rattle.vh_kernel.specs.declared.events.Entry.{Entry}
+use Rattle.vh_queue.specs.declared.queue.Entry.{Entry}
 use Rattle.vh_kernel.specs.declared.label.Ending.TheVariants as ending
 use Rattle.vh_kernel.specs.declared.label.Label.{Label}
 use Rattle.vh_kernel.specs.declared.label.Label.TheVariants as label
-use Rattle.vh_kernel.specs.declared.label.Region.{Region}
+use Rattle.vh_queue.specs.declared.region.Region.{Region}
 use Rattle.vh_kernel.specs.declared.occurrence.Agendum.{Agendum}
 use Rattle.vh_kernel.specs.declared.occurrence.Agendum.TheVariants as agendum
-use Rattle.vh_kernel.specs.declared.occurrence.Frame.{Frame}
+use Rattle.vh_kernel.specs.declared.occurrence.Told.{Told}
 use Rattle.vh_kernel.specs.declared.phase.Phase.TheVariants as phase
-use Rattle.vh_kernel.specs.Events.{eligible, without_serial, next_region, activated_of, least_time, advanced}
-use Rattle.vh_kernel.specs.Numbers.{without_number}
+use Rattle.vh_queue.specs.Events.{eligible, without_serial, next_region, activated_of, least_time, advanced}
+use Rattle.vh_dispatch.specs.Frames.{top_set, without_in_top}
 use Rattle.vh_kernel.specs.Occurrences.{Occurrence, occurrence_of}
-use Rattle.vh_kernel.specs.Orders.{Given}
+use Rattle.vh_orders.specs.Orders.{Given}
 use Rattle.vh_kernel.specs.Outcome.{Made, after_made}
 use Rattle.vh_kernel.specs.Settle.{settled, opening}
-use Rattle.vh_kernel.specs.State.{State, with_top, without_top, without_item}
+use Rattle.vh_kernel.specs.State.{State, with_top, without_top, without_item, with_frames}
 use Rattle.vh_kernel.specs.Statements.{next_statement, statement_outcome}
 use Rattle.vh_kernel.specs.Step.{Fits, IsStep, is_crowded, is_over, work_outcome, telling_outcome, called, activation_move, started, finish_move, is_end, choices_of}
 
@@ -86,7 +86,7 @@ pub record Acts (s : State) (l : Label) (u : State) : Type 0 where
   pub given : Given
   pub on : HasTop s (top.Activation who)
   pub fits : Fits s l
-  pub makes : activation_move (slice_get s.scripts who.script) (slice_get s.variables who.script) who (without_top s) given ≡ (l, u)
+  pub makes : activation_move (slice_get s.world.scripts who.script) (slice_get s.world.variables who.script) who (without_top s) given ≡ (l, u)
 
 -- An occurrence gets the next number, and a frame with its whole set.
 pub record Tells (s : State) (n : ℕ) (reason : Reason) (object : Option Object) (u : State) : Type 0 where
@@ -102,21 +102,21 @@ pub record Tells (s : State) (n : ℕ) (reason : Reason) (object : Option Object
 
 -- Any callback of the set on top leaves it and is called.
 pub record Fires (s : State) (n c : ℕ) (u : State) : Type 0 where
-  pub frame : Frame
+  pub frame : Told
   pub choice : ℕ
   pub on : HasTop s (top.Frame frame)
   pub number : n ≡ frame.number
-  pub chosen : slice_get frame.left choice ≡ Some c
-  pub leaves : u ≡ called (info_of c s.callbacks) (body_of c s.callbacks) c frame.what
-      (with_top (top.Frame (record frame { left = without_number c frame.left })) (without_top s))
+  pub chosen : slice_get (top_set s.world.frames) choice ≡ Some c
+  pub leaves : u ≡ called (info_of c s.world.callbacks) (body_of c s.world.callbacks) c frame.what
+      (with_top (top.Frame frame) (with_frames (without_in_top c s.world.frames) (without_top s)))
 
 -- A frame whose set is empty is done.
 pub record Closes (s : State) (n : ℕ) (u : State) : Type 0 where
-  pub frame : Frame
+  pub frame : Told
   pub on : HasTop s (top.Frame frame)
   pub number : n ≡ frame.number
-  pub none : frame.left ≡ []
-  pub leaves : u ≡ without_top s
+  pub none : top_set s.world.frames ≡ []
+  pub leaves : u ≡ with_frames (drop 1 s.world.frames) (without_top s)
 
 -- Any entry that may be picked leaves the queue and is performed.
 pub record Picks (s : State) (n : ℕ) (shown : Option (List ℕ)) (u : State) : Type 0 where
@@ -140,7 +140,7 @@ pub record Performs (s : State) (p : ℕ) (shown : Option (List ℕ)) (u : State
 abbrev pub Row : State → Label → State → Type 0
 -- the startup that is next on the agenda begins
 Row s (label.Startup k) u =
-    HasNext s (Some (agendum.Startup k)) × (u ≡ started (slice_get s.scripts (k - 1)) k (without_item s))
+    HasNext s (Some (agendum.Startup k)) × (u ≡ started (slice_get s.world.scripts (k - 1)) k (without_item s))
 Row s (label.Do who order answer) u = Acts s (label.Do who order answer) u
 Row s (label.Ret who) u = Acts s (label.Ret who) u
 Row s (label.Occ n reason object) u = Tells s n reason object u
@@ -155,7 +155,7 @@ Row s (label.Advance time) u =
     IsCalm s None × (least_time s.queue.entries ≡ Some time) × (u ≡ record s { queue = advanced time s.queue })
 Row s (label.Pick n shown) u = Picks s n shown u
 Row s (label.Stmt p shown) u = Performs s p shown u
--- control, the agenda and the queue are emptied, and the end of simulation is pending
+-- control with its frames, the agenda and the queue are emptied, and the end of simulation is pending
 Row s (label.Finish c) u = FinishIsDue s c × (u ≡ (finish_move c s).1)
 -- the run is over, with the cause of its finish, once nothing is on control
 Row s (label.End (ending.Cause c)) u =

@@ -1,12 +1,11 @@
-ghost use Rattle.std.specs.Prelude.{◌≡◌, List, [], ◌∷◌, drop, map, length, filter, slice_get, reverse, option_copied, OnOk, IfNone};
+ghost use Rattle.std.specs.Prelude.{◌≡◌, List, [], ◌∷◌, drop, slice_get, reverse, option_copied, OnOk, IfNone};
 ghost use Rattle.vh_kernel.specs.declared.control.Control.{Control};
-ghost use Rattle.vh_kernel.specs.Control.{is_frame, without_in, without_all, frames};
 
 use crate::activation::Activation;
-use crate::occurrence::{Frame, Occurrence};
+use crate::occurrence::{Occurrence, Told};
 use std::alloc::Global;
 use std::marker::Model;
-use vh_base::{Boxed, Cause, CbNumber, NoMemory};
+use vh_base::{Boxed, Cause, NoMemory};
 
 /// What may stand on control.
 #[derive(Drop)]
@@ -16,44 +15,11 @@ pub enum Control {
     /// An occurrence that is told next, if a callback watches it.
     Pending(Occurrence),
     /// An occurrence that was told, and fires its callbacks.
-    Frame(Frame),
+    Frame(Told),
     /// A startup or a procedure that gives its orders.
     Activation(Boxed<Activation>),
     /// The run finishes next.
     Leave(Cause),
-}
-
-impl Control {
-    ghost use Rattle.vh_kernel.specs.Step.{item_choices};
-
-    /// How many choices the next label has with this on top.
-    pub fn choices(&self) -> u32
-        ensures { result ≡ item_choices self.now }
-    {
-        match self {
-            Control::Frame(frame) => (frame.left.len() as u32).max(1),
-            Control::Process(_)
-            | Control::Pending(_)
-            | Control::Activation(_)
-            | Control::Leave(_) => 1,
-        }
-    }
-
-    /// Is it a frame?
-    fn is_frame(&self) -> bool
-        ensures { result ≡ is_frame self.now }
-    {
-        matches!(self, Control::Frame(_))
-    }
-
-    /// A callback's number is in no set of a frame any more.
-    fn drop_number(&mut self, c: CbNumber)
-        ensures { self.new ≡ without_in c self.old }
-    {
-        if let Control::Frame(frame) = self {
-            frame.left.drop_number(c);
-        }
-    }
 }
 
 /// A stack, which contracts see as the list of what is on it, the top first.
@@ -106,47 +72,5 @@ impl Stack {
         ensures { self.new ≡ [] }
     {
         self.items.clear();
-    }
-
-    /// How many frames stand.
-    pub fn frames(&self) -> usize
-        ensures { result ≡ frames self.now }
-    {
-        count_frames(&self.items)
-    }
-
-    /// A callback's number is in no set of a frame any more.
-    pub fn drop_number(&mut self, c: CbNumber)
-        ensures { self.new ≡ without_all c self.old }
-    {
-        drop_in_vec(&mut self.items, c);
-    }
-}
-
-// How many frames stand among these.
-fn count_frames(items: &Vec<Control>) -> usize
-    ensures { result ≡ frames items.now.items }
-{
-    let mut count = 0;
-    for item in items.iter() {
-        if item.is_frame() {
-            count += 1;
-        }
-    }
-    count
-}
-
-// A callback's number is in no set of a frame any more.
-fn drop_in_vec(items: &mut Vec<Control>, c: CbNumber)
-    ensures { items.new.items ≡ without_all c items.old.items }
-{
-    drop_in_all(items, c);
-}
-
-fn drop_in_all(items: &mut [Control], c: CbNumber)
-    ensures { items.new ≡ without_all c items.old }
-{
-    for item in items.iter_mut() {
-        item.drop_number(c);
     }
 }

@@ -1,49 +1,42 @@
 ghost use Rattle.std.specs.Prelude.{◌≡◌, ◌<◌, ℕ, false, List, [], slice_get, length, ◌^◌, IfOk, IsTrue};
-ghost use Rattle.vh_kernel.specs.Events.{eligible, next_region, least_time};
-ghost use Rattle.vh_kernel.specs.Names.{name_of};
+ghost use Rattle.vh_queue.specs.Events.{eligible, next_region, least_time};
+ghost use Rattle.vh_orders.specs.Names.{name_of};
 ghost use Rattle.vh_kernel.specs.Step.{startup_seen};
 
 mod callbacks;
+mod frames;
 mod opening;
-mod orders;
 mod processes;
 mod settling;
 
-use crate::activation::{Activation, Body, Who};
+use crate::activation::Activation;
 use crate::control::{Control, Stack};
-use crate::events::{Queue, Work};
-use crate::handles::Handles;
 use crate::label::{Ending, Label};
 use crate::occurrence::{Agendum, Occurrence};
 use crate::phase::Phase;
 use crate::thread::Thread;
-pub(crate) use opening::joined;
 use std::alloc::Global;
 use std::collections::VecDeque;
-use vh_app::{Script, Vars};
+use vh_app::Script;
 use vh_base::{
-    Answer, Boxed, Bytes, Cause, Code, Fault, First, FirstBit, MOST_ENTRIES, NoMemory, ObjId,
-    Reason, Seen, Serial,
+    Answer, Boxed, Cause, Fault, First, FirstBit, MOST_ENTRIES, NoMemory, ObjId, Reason, Seen,
+    Serial,
 };
-use vh_callbacks::Registry;
+use vh_orders::{Who, World};
+use vh_queue::{Queue, Work};
 
 /// The machine of one design with its scripts. What it shows is a state; each call of
 /// [`Kernel::step`] goes over the queue's entries, and over the design's names where an order
 /// looks for one, and takes no other time that grows with the design.
 #[derive(Drop)]
 pub struct Kernel {
-    names: Vec<Bytes>,
-    scripts: Vec<Script>,
+    world: World,
     store: Vec<FirstBit>,
     queue: Queue,
     threads: Vec<Thread>,
-    vars: Vec<Vars>,
-    callbacks: Registry<Body>,
-    handles: Handles,
     control: Stack,
     agenda: VecDeque<Agendum>,
     occurrence: u64,
-    error: Option<Code>,
     phase: Phase,
 }
 
@@ -69,7 +62,7 @@ impl Kernel {
     ghost use Rattle.vh_kernel.specs.Line.{script_name};
     ghost use Rattle.vh_kernel.specs.Outcome.{end_move};
     ghost use Rattle.vh_kernel.specs.Settle.{opening};
-    ghost use Rattle.vh_kernel.specs.Step.{finish_move, time_move, region_move, pick_move, agenda_move, idle_move, crowded_move, top_move, is_crowded, is_end, step_of, next_given, IsStep, choices_of, top_choices, idle_choices, agenda_choices};
+    ghost use Rattle.vh_kernel.specs.Step.{finish_move, time_move, region_move, pick_move, agenda_move, idle_move, crowded_move, top_move, is_crowded, is_end, step_of, next_given, IsStep, choices_of, top_choices, item_choices, idle_choices, agenda_choices};
     ghost use Rattle.vh_kernel.specs.Views.{state_of, given_by, Moves};
 
     /// The machine at the opening of a design with its scripts.
@@ -93,19 +86,16 @@ impl Kernel {
 
     /// The full name of an object; no bytes where the design has no such object.
     pub(crate) fn object_name(&self, id: ObjId) -> &[u8]
-        ensures { result.now ≡ name_of id (state_of self.now).names }
+        ensures { result.now ≡ name_of id (state_of self.now).world.names }
     {
-        match self.names.get(id.number() as usize) {
-            Some(name) => name.as_slice(),
-            None => &[],
-        }
+        self.world.object_name(id)
     }
 
     /// The name of a script by its number from 1; no bytes where there is no such script.
     pub(crate) fn script_name(&self, number: u32) -> &[u8]
         ensures { result.now ≡ script_name number (state_of self.now) }
     {
-        match self.scripts.get(number.saturating_sub(1) as usize) {
+        match self.world.scripts.get(number.saturating_sub(1) as usize) {
             Some(script) => script.name().bytes(),
             None => &[],
         }
@@ -122,8 +112,20 @@ impl Kernel {
             return 1;
         }
         match self.control.top() {
-            Some(item) => item.choices(),
+            Some(item) => self.item_choices(item),
             None => self.idle_choices(),
+        }
+    }
+
+    fn item_choices(&self, item: &Control) -> u32
+        ensures { result ≡ item_choices item.now (state_of self.now) }
+    {
+        match item {
+            Control::Frame(_) => self.left().max(1),
+            Control::Process(_)
+            | Control::Pending(_)
+            | Control::Activation(_)
+            | Control::Leave(_) => 1,
         }
     }
 
@@ -182,7 +184,7 @@ impl Kernel {
             None => self.go_idle(alloc, k),
             Some(Control::Process(p)) => self.perform_next(alloc, p),
             Some(Control::Pending(what)) => self.occur(alloc, what),
-            Some(Control::Frame(frame)) => self.fire(alloc, frame, k),
+            Some(Control::Frame(told)) => self.fire(alloc, told, k),
             Some(Control::Activation(activation)) => self.act(alloc, activation.into_inner()),
             Some(Control::Leave(cause)) => self.finish(cause),
         }
@@ -209,6 +211,7 @@ impl Kernel {
         self.queue.clear();
         self.agenda.clear();
         self.control.clear();
+        self.close_frames();
         let what = Occurrence::new(Reason::CbEndOfSimulation);
         self.control.push(Control::Pending(what))?;
         self.phase = Phase::Finished(cause);
@@ -249,7 +252,7 @@ impl Kernel {
     {
         let _ = self.agenda.pop_front();
         let i = number.saturating_sub(1) as usize;
-        let Some(script) = self.scripts.get(i) else {
+        let Some(script) = self.world.scripts.get(i) else {
             return Ok(Label::Startup(number));
         };
         let activation = Activation {

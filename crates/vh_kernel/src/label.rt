@@ -1,24 +1,10 @@
 ghost use Rattle.std.specs.Prelude.{◌≡◌};
 
-use crate::activation::Who;
 use vh_base::{
     Answer, Boxed, Bytes, Cause, CbNumber, Fault, Object, Order, ProcId, Reason, Serial,
 };
-
-/// A region of the event queue (IEEE 1364-2005, 11.3).
-#[derive(Clone, Copy, Debug, PartialEq, Eq)]
-pub enum Region {
-    /// Before all else of a time: the callbacks at the start of a time.
-    Start,
-    /// Performed in any order.
-    Active,
-    /// Performed when no active entry is left, as after `#0`.
-    Inactive,
-    /// The nonblocking updates, performed when no active or inactive entry is left.
-    Nonblocking,
-    /// The last of a time: strobes and monitors.
-    Monitor,
-}
+use vh_orders::Who;
+use vh_queue::Region;
 
 /// How a run ends.
 #[derive(Clone, Copy, Debug, PartialEq, Eq)]

@@ -9,23 +9,17 @@
 
 mod activation;
 mod control;
-mod events;
-mod halt;
-mod handles;
 mod kernel;
 mod label;
 mod laws;
 mod line;
-mod numbers;
 mod occurrence;
-mod order_text;
 mod phase;
-mod quoted;
 mod thread;
 
-pub use activation::Who;
 pub use kernel::Kernel;
-pub use label::{Ending, Label, Region};
+pub use label::{Ending, Label};
 pub use laws::step_laws;
 pub use line::line_of;
 pub use vh_base::Boxed;
+pub use vh_orders::Who;

@@ -3,17 +3,16 @@ ghost use Rattle.std.specs.Option.{option_map};
 ghost use Rattle.std.specs.Fmt.{decimal};
 ghost use Rattle.vh_kernel.specs.Line.{ending_name, stamped, who_text, object_text, script_name, line_at, shown_text};
 ghost use Rattle.vh_base.specs.Words.{reason_text};
-ghost use Rattle.vh_kernel.specs.OrderText.{order_text, answer_text};
-ghost use Rattle.vh_kernel.specs.Quoted.{plain_text};
+ghost use Rattle.vh_lines.specs.OrderText.{order_text, answer_text};
+ghost use Rattle.vh_lines.specs.Quoted.{plain_text};
 ghost use Rattle.vh_kernel.specs.Views.{state_of};
 
-use crate::activation::Who;
 use crate::kernel::Kernel;
 use crate::label::{Ending, Label};
-use crate::order_text::{push_answer, push_order};
-use crate::quoted::{push_plain, push_quoted};
 use std::alloc::{AllocError, Global};
 use vh_base::{Answer, Bytes, NoMemory, Object, Order, Reason};
+use vh_lines::{push_answer, push_order, push_plain, push_quoted};
+use vh_orders::Who;
 
 /// The line of a label at the time that the kernel shows, with its newline; none for a
 /// label that is silent.

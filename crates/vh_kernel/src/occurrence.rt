@@ -1,13 +1,13 @@
-ghost use Rattle.std.specs.Prelude.{◌≡◌, ◌≤◌, Some, None, option_map, not, length, IfOk};
-ghost use Rattle.vh_callbacks.specs.Callbacks.{IsRising};
+ghost use Rattle.std.specs.Prelude.{◌≡◌, ◌<◌, ◌∷◌, Some, None, option_map, not, length, OnOk};
+ghost use Rattle.vh_dispatch.specs.Frames.{stack_of};
 ghost use Rattle.vh_kernel.specs.Occurrences.{bit_text, occurrence_of, set_of, is_empty};
 
-use crate::activation::Body;
-use crate::numbers::Numbers;
 use std::alloc::Global;
 use std::marker::Model;
-use vh_base::{CbNumber, FirstBit, NoMemory, Object, Reason, Short};
+use vh_base::{FirstBit, MOST_FRAMES, NoMemory, Object, Reason, Short};
 use vh_callbacks::Registry;
+use vh_dispatch::Dispatch;
+use vh_orders::Body;
 
 /// Something has happened that callbacks may watch: why, to which object, and the value that
 /// it left there (IEEE 1364-2005, 27.33). Contracts see the value as its text.
@@ -65,22 +65,27 @@ impl Occurrence {
 
     /// Does a callback watch it?
     pub fn is_watched(&self, callbacks: &Registry<Body>) -> bool
-        ensures { result ≡ not (is_empty (set_of self.now callbacks.now)) }
+        ensures { result ≡ not (is_empty (set_of self.now callbacks.now.callbacks)) }
     {
         callbacks.matches(self.reason, self.object)
     }
 
-    /// The callbacks that watch it, by rising number.
-    pub fn watching(
+    /// A frame under this number stands, with the callbacks that watch it.
+    pub fn begin(
         &self,
         alloc: Global,
-        callbacks: &Registry<Body>,
-    ) -> Result<Vec<CbNumber>, NoMemory>
-        ensures all { IfOk result (λ v. v.items ≡ set_of self.now callbacks.now) }
-        ensures few { IfOk result (λ v. length v.items ≤ 65536) }
-        ensures rising { IfOk result (λ v. IsRising 0 v.items) }
+        dispatch: &mut Dispatch,
+        callbacks: &mut Registry<Body>,
+        number: u64,
+    ) -> Result<(), NoMemory>
+        requires { length dispatch.old < MOST_FRAMES }
+        ensures sets { OnOk result (stack_of dispatch.new callbacks.new
+            ≡ set_of self.now callbacks.old.callbacks ∷ stack_of dispatch.old callbacks.old) }
+        ensures callbacks { callbacks.new.callbacks ≡ callbacks.old.callbacks }
     {
-        callbacks.matching(alloc, self.reason, self.object)
+        let reason = self.reason;
+        let object = self.object;
+        dispatch.begin_all(alloc, callbacks, number, reason, object)
     }
 
     /// Why it has happened.
@@ -126,13 +131,13 @@ fn text_of(value: FirstBit) -> &'static [u8]
     }
 }
 
-/// An occurrence under its number, with the callbacks that are still to fire for it.
+/// An occurrence that was told, under its number. Which callbacks are still to fire for it,
+/// the frames of the world have.
 #[derive(Drop)]
-pub struct Frame {
+pub struct Told {
     /// From 1, in the order in which occurrences are told.
     pub number: u64,
     pub what: Occurrence,
-    pub left: Numbers,
 }
 
 /// What begins once nothing is on control, before the first entry is picked.

@@ -1,5 +1,5 @@
 -- What the callbacks keep in a step: they stay, or one is registered, or one is removed.
-use Rattle.std.proofs.Common.{◌≡◌, ℕ, ◌+◌, ◌<◌, ◌≤◌, List, [], ◌∷◌, Bool, true, false, cond, not, ◌||◌, nat_eq, nat_le, Option, Some, None, is_some, refl, sym, ap, subst, ◌∙◌, arith}
+use Rattle.std.proofs.Common.{◌≡◌, ℕ, ◌+◌, ◌<◌, ◌≤◌, [], ◌∷◌, Bool, true, false, cond, ◌||◌, nat_eq, nat_le, Option, Some, None, is_some, refl, sym, ap, subst, ◌∙◌, arith}
 use Rattle.std.proofs.lemmas.Bool.{eqb-true, eq-eqb, ne_eqb, leb-true, leb-false}
 use Rattle.std.specs.Option.{option_map}
 use Rattle.vh_base.specs.declared.orders.Answer.{Answer}
@@ -7,54 +7,17 @@ use Rattle.vh_base.specs.declared.orders.Object.{Object}
 use Rattle.vh_base.specs.declared.orders.Order.{Order}
 use Rattle.vh_base.specs.declared.words.Reason.{Reason}
 use Rattle.vh_callbacks.specs.declared.registration.Registration.{Registration}
-use Rattle.vh_callbacks.specs.declared.registry.Live.{Live}
+use Rattle.vh_callbacks.specs.declared.live.Live.{Live}
 use Rattle.vh_callbacks.specs.Callbacks.{Callbacks, live_at, is_live, info_of, is_full, matching, registered, removed, IsSound}
 use Rattle.vh_callbacks.specs.Registration.{is_some_for}
-use Rattle.vh_callbacks.proofs.Rising.{sound_registered, sound_removed}
-use Rattle.vh_callbacks.proofs.Telling.{next_is_new, keeps_registered, tells_removed, keeps_removed}
-use Rattle.vh_callbacks.proofs.Matching.{matching_is_set}
-use Rattle.vh_kernel.specs.declared.activation.Body.{Body}
+use Rattle.vh_callbacks.proofs.LawsLemmas.{sound_registered, sound_removed, next_is_new, keeps_registered, tells_removed, keeps_removed, matching_is_set}
+use Rattle.vh_orders.specs.declared.who.Body.{Body}
 use Rattle.vh_kernel.specs.declared.label.Label.{Label}
-use Rattle.vh_kernel.specs.Numbers.{without_number}
+use Rattle.vh_callbacks.specs.Marks.{is_among}
 use Rattle.vh_kernel.specs.Occurrences.{Occurrence, set_of, set_by}
 use Rattle.vh_kernel.specs.State.{State}
-use Rattle.vh_laws.specs.Paths.{is_among}
 use Rattle.vh_laws.proofs.Works.{View, Changes, changes_none, opens_one, registers_one, removes_one, Works, works_none, empties, orders_one, tells_one, fires_one, closes_one}
-use Rattle.vh_laws.proofs.Splits.{not_both, or_right, or_left}
-
--- Sets of numbers.
-less_by : (b here : Bool) (d c x : ℕ) (xs rest : List ℕ) → nat_eq x c ≡ b → nat_eq d x ≡ here
-    → (is_among d rest ≡ true → (is_among d xs ≡ true) × (nat_eq d c ≡ false))
-    → is_among d (cond (not b) (x ∷ rest) rest) ≡ true → (is_among d (x ∷ xs) ≡ true) × (nat_eq d c ≡ false)
-less_by true here d c x xs rest is at kept among =
-    let k = kept among in (or_right (nat_eq d x) (is_among d xs) k.0, k.1)
-less_by false true d c x xs rest is at kept among =
-    let same : d ≡ x = eqb-true d x at in (rw at refl, ap (λ (n : ℕ). nat_eq n c) same ∙ is)
-less_by false false d c x xs rest is at kept among =
-    let there : is_among d rest ≡ true = (rw at at among) in
-    let k = kept there in (or_right (nat_eq d x) (is_among d xs) k.0, k.1)
-
--- What is among the numbers without one is among them, and isn't that one;
-pub among_less : (d c : ℕ) (xs : List ℕ) → is_among d (without_number c xs) ≡ true → (is_among d xs ≡ true) × (nat_eq d c ≡ false)
-among_less d c [] among = absurd (cc)
-among_less d c (x ∷ xs) among =
-    less_by (nat_eq x c) (nat_eq d x) d c x xs (without_number c xs) refl refl (among_less d c xs) among
-
-kept_by : (b here : Bool) (d c x : ℕ) (xs rest : List ℕ) → nat_eq x c ≡ b → nat_eq d x ≡ here → nat_eq d c ≡ false
-    → (is_among d xs ≡ true → is_among d rest ≡ true) → (here || is_among d xs) ≡ true
-    → is_among d (cond (not b) (x ∷ rest) rest) ≡ true
-kept_by true true d c x xs rest is at apart kept among =
-    let same : d ≡ x = eqb-true d x at in
-    absurd (not_both (nat_eq d c) (ap (λ (n : ℕ). nat_eq n c) same ∙ is) apart)
-kept_by true false d c x xs rest is at apart kept among = kept among
-kept_by false true d c x xs rest is at apart kept among = or_left (nat_eq d x) (is_among d rest) at
-kept_by false false d c x xs rest is at apart kept among = or_right (nat_eq d x) (is_among d rest) (kept among)
-
--- and what isn't that one stays.
-pub among_kept : (d c : ℕ) (xs : List ℕ) → nat_eq d c ≡ false → is_among d xs ≡ true → is_among d (without_number c xs) ≡ true
-among_kept d c [] apart among = absurd (cc)
-among_kept d c (x ∷ xs) apart among =
-    kept_by (nat_eq x c) (nat_eq d x) d c x xs (without_number c xs) refl refl apart (among_kept d c xs apart) among
+use Rattle.vh_laws.proofs.Splits.{not_both}
 
 -- A callback is live where it has a registration.
 some_told : (o : Option (Live Body)) → is_some (option_map (λ (k : Live Body). k.registration) o) ≡ is_some o
@@ -121,13 +84,13 @@ pub data ChangesByOne (a b : Callbacks Body) : Type 0 where
   adds : (r : Registration) (body : Body) → is_full a ≡ false → b ≡ registered r body a → ChangesByOne a b
   drops : (c : ℕ) → b ≡ removed c a → ChangesByOne a b
 
-changes-turn : (s : State) (o : Order) (a : Answer) (w : View) → Changes s o a w → ChangesByOne s.callbacks w.callbacks
+changes-turn : (s : State) (o : Order) (a : Answer) (w : View) → Changes s o a w → ChangesByOne s.world.callbacks w.callbacks
 changes-turn s o a w (changes_none plain is) = stays (ap (λ (x : View). x.callbacks) is)
 changes-turn s o a w (opens_one h x gives fresh finds is) = stays (ap (λ (x : View). x.callbacks) is)
 changes-turn s o a w (registers_one h r b gives fresh room asks is) = adds r b room (ap (λ (x : View). x.callbacks) is)
 changes-turn s o a w (removes_one c h by one names is) = drops c (ap (λ (x : View). x.callbacks) is)
 
-pub works-turn : (s : State) (l : Label) (w : View) → Works s l w → ChangesByOne s.callbacks w.callbacks
+pub works-turn : (s : State) (l : Label) (w : View) → Works s l w → ChangesByOne s.world.callbacks w.callbacks
 works-turn s l w (works_none quiet is) = stays (ap (λ (x : View). x.callbacks) is)
 works-turn s l w (empties quiet is) = stays (ap (λ (x : View). x.callbacks) is)
 works-turn s l w (orders_one who o a is changes) = changes-turn s o a w changes

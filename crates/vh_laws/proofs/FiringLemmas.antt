@@ -8,23 +8,26 @@ use Rattle.vh_base.specs.declared.orders.Order.{Order}
 use Rattle.vh_base.specs.declared.orders.Order.TheVariants as order
 use Rattle.vh_base.specs.declared.words.Reason.{Reason}
 use Rattle.vh_callbacks.specs.Callbacks.{Callbacks, is_live, removed, IsSound}
-use Rattle.vh_kernel.specs.declared.activation.Body.{Body}
-use Rattle.vh_kernel.specs.declared.activation.Who.{Who}
-use Rattle.vh_kernel.specs.declared.handles.Thing.{Thing}
-use Rattle.vh_kernel.specs.declared.handles.Thing.TheVariants as thing
+use Rattle.vh_orders.specs.declared.who.Body.{Body}
+use Rattle.vh_orders.specs.declared.who.Who.{Who}
+use Rattle.vh_handles.specs.declared.handles.Thing.{Thing}
+use Rattle.vh_handles.specs.declared.handles.Thing.TheVariants as thing
 use Rattle.vh_kernel.specs.declared.label.Label.{Label}
 use Rattle.vh_kernel.specs.declared.label.Label.TheVariants as label
-use Rattle.vh_kernel.specs.declared.occurrence.Frame.{Frame}
-use Rattle.vh_kernel.specs.Handles.{Handles, thing_at, opened, freed}
-use Rattle.vh_kernel.specs.Numbers.{without_number}
+use Rattle.vh_laws.specs.Firing.{Frame}
+use Rattle.vh_handles.specs.Handles.{Handles, thing_at, opened, freed}
+use Rattle.vh_callbacks.specs.Marks.{is_among, without_number}
 use Rattle.vh_kernel.specs.Occurrences.{Occurrence, set_of}
 use Rattle.vh_kernel.specs.Outcome.{Move}
 use Rattle.vh_kernel.specs.State.{State}
 use Rattle.vh_laws.specs.Firing.{frames_of, IsTelling, TellsOnce, WasTold, FiresOnce, left_of, KeepsSets, LeavesNone, DoneOnce, ClosesInOrder, IsRemoval, GoesByRemoval, RemovesForGood}
 use Rattle.vh_laws.specs.Laws.{KeepsFiringLaw}
-use Rattle.vh_laws.specs.Paths.{Deed, tells, fires, closes, answers, other, deed_of, fires_for, fires_any, tells_of, closes_of, is_among, is_told, is_fire, is_fire_of, is_done, any, was_removed, IsPath, end_of}
-use Rattle.vh_laws.proofs.CallbacksLemmas.{ChangesByOne, works-turn, turns_sound, turns_next, stays_gone, set-live, live_low, live_registered, live_removed, gone_removed, among_less}
-use Rattle.vh_laws.proofs.HandlesLemmas.{NumbersRise, works-hand, stays-climbing, other_more, same_more, other_less, freed-none}
+use Rattle.vh_laws.specs.Paths.{Deed, tells, fires, closes, answers, other, deed_of, fires_for, fires_any, tells_of, closes_of, is_told, is_fire, is_fire_of, is_done, any, was_removed, IsPath, end_of}
+use Rattle.vh_callbacks.proofs.MarksLemmas.{among_less}
+use Rattle.vh_laws.proofs.CallbacksLemmas.{ChangesByOne, works-turn, turns_sound, turns_next, stays_gone, set-live, live_low, live_registered, live_removed, gone_removed}
+use Rattle.vh_handles.specs.Laws.{NumbersRise}
+use Rattle.vh_handles.proofs.EntriesLemmas.{other_more, same_more, other_less}
+use Rattle.vh_laws.proofs.HandlesLemmas.{works-hand, stays-climbing, freed-none}
 use Rattle.vh_laws.proofs.SetsLemmas.{Falls, falls-below, works-falls, works-number, HasSet, has-on, filter-among, map-at}
 use Rattle.vh_laws.proofs.Splits.{either, not_both, or_left, or_right, or_false, path_split, path_at}
 use Rattle.vh_laws.proofs.Works.{View, view_of, taken_from, IsPlain, Changes, changes_none, opens_one, registers_one, removes_one, Works, works_none, empties, orders_one, tells_one, fires_one, closes_one}
@@ -160,13 +163,13 @@ and-false true b is = is
 and-false false b is = refl
 
 fires-stands : (history : List Move) (s : State) (m : Move) (n c : ℕ) (f : Frame) (rest : List Frame) → m.0 ≡ label.Fire n c
-    → frames_of s.control ≡ f ∷ rest → n ≡ f.number → Falls s.occurrence (frames_of s.control)
-    → ((i : ℕ) (g : Frame) → slice_get (frames_of s.control) i ≡ Some g → Stands history s.callbacks g.number g.left)
-    → (i : ℕ) (g : Frame) → slice_get (taken_from c f ∷ rest) i ≡ Some g → Stands (and_then history m) s.callbacks g.number g.left
+    → frames_of s ≡ f ∷ rest → n ≡ f.number → Falls s.occurrence (frames_of s)
+    → ((i : ℕ) (g : Frame) → slice_get (frames_of s) i ≡ Some g → Stands history s.world.callbacks g.number g.left)
+    → (i : ℕ) (g : Frame) → slice_get (taken_from c f ∷ rest) i ≡ Some g → Stands (and_then history m) s.world.callbacks g.number g.left
 fires-stands history s m n c f rest is on number falls all zero g at =
     let here : taken_from c f ≡ g = cc in
-    subst (λ (x : Frame). Stands (and_then history m) s.callbacks x.number x.left) here
-    (stands-more history s.callbacks s.callbacks m f.number f.left (without_number c f.left)
+    subst (λ (x : Frame). Stands (and_then history m) s.world.callbacks x.number x.left) here
+    (stands-more history s.world.callbacks s.world.callbacks m f.number f.left (without_number c f.left)
     (ap (λ (x : Label). is_done f.number x) is)
     (λ d among. (
       (among_less d c f.left among).0,
@@ -177,7 +180,7 @@ fires-stands history s m n c f rest is on number falls all zero g at =
 fires-stands history s m n c f rest is on number falls all (suc i) g at =
     let there : Falls s.occurrence (f ∷ rest) = subst (λ (fs : List Frame). Falls s.occurrence fs) on falls in
     let low : g.number < f.number = falls-below f.number i rest g there.1 at in
-    stands-more history s.callbacks s.callbacks m g.number g.left g.left (ap (λ (x : Label). is_done g.number x) is)
+    stands-more history s.world.callbacks s.world.callbacks m g.number g.left g.left (ap (λ (x : Label). is_done g.number x) is)
     (λ d among. (
       among,
       ap (λ (x : Label). is_fire g.number d x) is
@@ -187,37 +190,37 @@ fires-stands history s m n c f rest is on number falls all (suc i) g at =
     (all (suc i) g (ap (λ (fs : List Frame). slice_get fs (suc i)) on ∙ at))
 
 closes-stands : (history : List Move) (s : State) (m : Move) (n : ℕ) (f : Frame) (rest : List Frame) → m.0 ≡ label.Done n
-    → frames_of s.control ≡ f ∷ rest → n ≡ f.number → Falls s.occurrence (frames_of s.control)
-    → ((i : ℕ) (g : Frame) → slice_get (frames_of s.control) i ≡ Some g → Stands history s.callbacks g.number g.left)
-    → (i : ℕ) (g : Frame) → slice_get rest i ≡ Some g → Stands (and_then history m) s.callbacks g.number g.left
+    → frames_of s ≡ f ∷ rest → n ≡ f.number → Falls s.occurrence (frames_of s)
+    → ((i : ℕ) (g : Frame) → slice_get (frames_of s) i ≡ Some g → Stands history s.world.callbacks g.number g.left)
+    → (i : ℕ) (g : Frame) → slice_get rest i ≡ Some g → Stands (and_then history m) s.world.callbacks g.number g.left
 closes-stands history s m n f rest is on number falls all i g at =
     let there : Falls s.occurrence (f ∷ rest) = subst (λ (fs : List Frame). Falls s.occurrence fs) on falls in
     let low : g.number < f.number = falls-below f.number i rest g there.1 at in
-    stands-more history s.callbacks s.callbacks m g.number g.left g.left
+    stands-more history s.world.callbacks s.world.callbacks m g.number g.left g.left
     (ap (λ (x : Label). is_done g.number x) is ∙ ne_eqb g.number n (λ same. omega arith))
     (λ d among. (among, ap (λ (x : Label). is_fire g.number d x) is, λ alive. alive))
     (all (suc i) g (ap (λ (fs : List Frame). slice_get fs (suc i)) on ∙ at))
 
-removes-stands : (history : List Move) (s : State) (m : Move) (c : ℕ) → IsQuiet m.0 → IsSound s.callbacks
-    → ((i : ℕ) (g : Frame) → slice_get (frames_of s.control) i ≡ Some g → Stands history s.callbacks g.number g.left)
-    → (i : ℕ) (g : Frame) → slice_get (map (taken_from c) (frames_of s.control)) i ≡ Some g
-    → Stands (and_then history m) (removed c s.callbacks) g.number g.left
+removes-stands : (history : List Move) (s : State) (m : Move) (c : ℕ) → IsQuiet m.0 → IsSound s.world.callbacks
+    → ((i : ℕ) (g : Frame) → slice_get (frames_of s) i ≡ Some g → Stands history s.world.callbacks g.number g.left)
+    → (i : ℕ) (g : Frame) → slice_get (map (taken_from c) (frames_of s)) i ≡ Some g
+    → Stands (and_then history m) (removed c s.world.callbacks) g.number g.left
 removes-stands history s m c quiet sound all i g at =
-    let from = map-at c i (frames_of s.control) g at in
-    subst (λ (x : Frame). Stands (and_then history m) (removed c s.callbacks) x.number x.left) from.2
-    (stands-more history s.callbacks (removed c s.callbacks) m from.0.number from.0.left (without_number c from.0.left)
+    let from = map-at c i (frames_of s) g at in
+    subst (λ (x : Frame). Stands (and_then history m) (removed c s.world.callbacks) x.number x.left) from.2
+    (stands-more history s.world.callbacks (removed c s.world.callbacks) m from.0.number from.0.left (without_number c from.0.left)
     (quiet.undone from.0.number)
     (λ d among. (
       (among_less d c from.0.left among).0,
       quiet.unfired from.0.number d,
-      λ alive. live_removed c d s.callbacks (among_less d c from.0.left among).1 ∙ alive,
+      λ alive. live_removed c d s.world.callbacks (among_less d c from.0.left among).1 ∙ alive,
     ))
     (all i from.0 from.1))
 
 -- The label and the state after it tell of an occurrence.
 telling-of : (s : State) (m : Move) (n : ℕ) (what : Occurrence) → m.0 ≡ label.Occ n what.reason what.object
     → view_of m.1 ≡ record (view_of s) {
-      frames = record { number = n; what = what; left = set_of what s.callbacks } ∷ frames_of s.control;
+      frames = record { number = n; what = what; left = set_of what s.world.callbacks } ∷ frames_of s;
       occurrence = n + 1;
     } → IsTelling m n what
 telling-of s m n what is after = record {
@@ -229,23 +232,23 @@ telling-of s m n what is after = record {
 tells-stands : (history : List Move) (s : State) (m : Move) (n : ℕ) (what : Occurrence) → m.0 ≡ label.Occ n what.reason what.object
     → n ≡ s.occurrence
     → view_of m.1 ≡ record (view_of s) {
-      frames = record { number = n; what = what; left = set_of what s.callbacks } ∷ frames_of s.control;
+      frames = record { number = n; what = what; left = set_of what s.world.callbacks } ∷ frames_of s;
       occurrence = n + 1;
     }
     → Keeps history (view_of s)
-    → (i : ℕ) (g : Frame) → slice_get (record { number = n; what = what; left = set_of what s.callbacks } ∷ frames_of s.control) i ≡ Some g
-    → Stands (and_then history m) s.callbacks g.number g.left
+    → (i : ℕ) (g : Frame) → slice_get (record { number = n; what = what; left = set_of what s.world.callbacks } ∷ frames_of s) i ≡ Some g
+    → Stands (and_then history m) s.world.callbacks g.number g.left
 tells-stands history s m n what is number after keeps zero g at =
-    let f : Frame = record { number = n; what = what; left = set_of what s.callbacks } in
+    let f : Frame = record { number = n; what = what; left = set_of what s.world.callbacks } in
     let here : f ≡ g = cc in
     let quiet : IsQuiet m.0 = told-quiet m.0 n what.reason what.object is in
     let ahead : IsAhead history n = keeps.ahead n (omega arith) in
-    let same : m.1.callbacks ≡ s.callbacks = ap (λ (x : View). x.callbacks) after in
-    subst (λ (x : Frame). Stands (and_then history m) s.callbacks x.number x.left) here (record {
+    let same : m.1.world.callbacks ≡ s.world.callbacks = ap (λ (x : View). x.callbacks) after in
+    subst (λ (x : Frame). Stands (and_then history m) s.world.callbacks x.number x.left) here (record {
       told = any-here (is_told n) history m (ap (λ (x : Label). is_told n x) is ∙ eq-eqb n n refl);
       undone = any-last (is_done n) history m ahead.undone (quiet.undone n);
       waits = λ c among. (record {
-        live = set-live what s.callbacks c keeps.sound among;
+        live = set-live what s.world.callbacks c keeps.sound among;
         told = record {
           front = history;
           rest = [];
@@ -259,52 +262,52 @@ tells-stands history s m n what is number after keeps zero g at =
       });
     })
 tells-stands history s m n what is number after keeps (suc i) g at =
-    quiet-stands history s.callbacks s.callbacks m (frames_of s.control) (told-quiet m.0 n what.reason what.object is)
+    quiet-stands history s.world.callbacks s.world.callbacks m (frames_of s) (told-quiet m.0 n what.reason what.object is)
     (λ c alive. alive) keeps.stands i g at
 
 works-stands : (history : List Move) (s : State) (m : Move) → Works s m.0 (view_of m.1) → Keeps history (view_of s)
-    → (i : ℕ) (f : Frame) → slice_get (frames_of m.1.control) i ≡ Some f → Stands (and_then history m) m.1.callbacks f.number f.left
+    → (i : ℕ) (f : Frame) → slice_get (frames_of m.1) i ≡ Some f → Stands (and_then history m) m.1.world.callbacks f.number f.left
 works-stands history s m (works_none quiet is) keeps i f at =
-    quiet-stands history s.callbacks m.1.callbacks m (frames_of s.control) (quiet-of m.0 quiet)
-    (same-live s.callbacks m.1.callbacks (ap (λ (x : View). x.callbacks) is)) keeps.stands i f
+    quiet-stands history s.world.callbacks m.1.world.callbacks m (frames_of s) (quiet-of m.0 quiet)
+    (same-live s.world.callbacks m.1.world.callbacks (ap (λ (x : View). x.callbacks) is)) keeps.stands i f
     (sym (ap (λ (x : View). slice_get x.frames i) is) ∙ at)
 works-stands history s m (empties quiet is) keeps i f at =
-    absurd (let none : slice_get (frames_of m.1.control) i ≡ None = ap (λ (x : View). slice_get x.frames i) is in cc)
+    absurd (let none : slice_get (frames_of m.1) i ≡ None = ap (λ (x : View). slice_get x.frames i) is in cc)
 works-stands history s m (orders_one who o a is (changes_none plain after)) keeps i f at =
-    quiet-stands history s.callbacks m.1.callbacks m (frames_of s.control) (order-quiet m.0 who o a is)
-    (same-live s.callbacks m.1.callbacks (ap (λ (x : View). x.callbacks) after)) keeps.stands i f
+    quiet-stands history s.world.callbacks m.1.world.callbacks m (frames_of s) (order-quiet m.0 who o a is)
+    (same-live s.world.callbacks m.1.world.callbacks (ap (λ (x : View). x.callbacks) after)) keeps.stands i f
     (sym (ap (λ (x : View). slice_get x.frames i) after) ∙ at)
 works-stands history s m (orders_one who o a is (opens_one h x gives fresh finds after)) keeps i f at =
-    quiet-stands history s.callbacks m.1.callbacks m (frames_of s.control) (order-quiet m.0 who o a is)
-    (same-live s.callbacks m.1.callbacks (ap (λ (y : View). y.callbacks) after)) keeps.stands i f
+    quiet-stands history s.world.callbacks m.1.world.callbacks m (frames_of s) (order-quiet m.0 who o a is)
+    (same-live s.world.callbacks m.1.world.callbacks (ap (λ (y : View). y.callbacks) after)) keeps.stands i f
     (sym (ap (λ (y : View). slice_get y.frames i) after) ∙ at)
 works-stands history s m (orders_one who o a is (registers_one h r b gives fresh room asks after)) keeps i f at =
-    quiet-stands history s.callbacks m.1.callbacks m (frames_of s.control) (order-quiet m.0 who o a is)
+    quiet-stands history s.world.callbacks m.1.world.callbacks m (frames_of s) (order-quiet m.0 who o a is)
     (λ c alive. ap (λ (x : View). is_live c x.callbacks) after
-    ∙ live_registered c r b s.callbacks (live_low c s.callbacks keeps.sound alive) ∙ alive) keeps.stands i f
+    ∙ live_registered c r b s.world.callbacks (live_low c s.world.callbacks keeps.sound alive) ∙ alive) keeps.stands i f
     (sym (ap (λ (x : View). slice_get x.frames i) after) ∙ at)
 works-stands history s m (orders_one who o a is (removes_one c h by one names after)) keeps i f at =
-    let same : m.1.callbacks ≡ removed c s.callbacks = ap (λ (x : View). x.callbacks) after in
+    let same : m.1.world.callbacks ≡ removed c s.world.callbacks = ap (λ (x : View). x.callbacks) after in
     subst (λ (x : Callbacks Body). Stands (and_then history m) x f.number f.left) (sym same)
     (removes-stands history s m c (order-quiet m.0 who o a is) keeps.sound keeps.stands i f
     (sym (ap (λ (x : View). slice_get x.frames i) after) ∙ at))
 works-stands history s m (tells_one n what is number after) keeps i f at =
-    let same : m.1.callbacks ≡ s.callbacks = ap (λ (x : View). x.callbacks) after in
+    let same : m.1.world.callbacks ≡ s.world.callbacks = ap (λ (x : View). x.callbacks) after in
     subst (λ (x : Callbacks Body). Stands (and_then history m) x f.number f.left) (sym same)
     (tells-stands history s m n what is number after keeps i f (sym (ap (λ (x : View). slice_get x.frames i) after) ∙ at))
 works-stands history s m (fires_one n c g rest is on number among after) keeps i f at =
-    let same : m.1.callbacks ≡ s.callbacks = ap (λ (x : View). x.callbacks) after in
+    let same : m.1.world.callbacks ≡ s.world.callbacks = ap (λ (x : View). x.callbacks) after in
     subst (λ (x : Callbacks Body). Stands (and_then history m) x f.number f.left) (sym same)
     (fires-stands history s m n c g rest is on number keeps.falls keeps.stands i f
     (sym (ap (λ (x : View). slice_get x.frames i) after) ∙ at))
 works-stands history s m (closes_one n g rest is on number none after) keeps i f at =
-    let same : m.1.callbacks ≡ s.callbacks = ap (λ (x : View). x.callbacks) after in
+    let same : m.1.world.callbacks ≡ s.world.callbacks = ap (λ (x : View). x.callbacks) after in
     subst (λ (x : Callbacks Body). Stands (and_then history m) x f.number f.left) (sym same)
     (closes-stands history s m n g rest is on number keeps.falls keeps.stands i f
     (sym (ap (λ (x : View). slice_get x.frames i) after) ∙ at))
 
 -- A number still to come is of no frame.
-works-yet : (s : State) (m : Move) → Works s m.0 (view_of m.1) → Falls s.occurrence (frames_of s.control)
+works-yet : (s : State) (m : Move) → Works s m.0 (view_of m.1) → Falls s.occurrence (frames_of s)
     → (n : ℕ) → s.occurrence ≤ n → (is_done n m.0 ≡ false) × ((c : ℕ) → is_fire n c m.0 ≡ false)
 works-yet s m (works_none quiet is) falls n above = ((quiet-of m.0 quiet).undone n, (quiet-of m.0 quiet).unfired n)
 works-yet s m (empties quiet is) falls n above = ((quiet-of m.0 quiet).undone n, (quiet-of m.0 quiet).unfired n)
@@ -351,8 +354,8 @@ freed-names true h k c a is climb at =
     absurd (cc)
 freed-names false h k c a is climb at = sym (other_less h k a.live is) ∙ at
 
-works-names : (s : State) (l : Label) (w : View) → Works s l w → NumbersRise 0 s.handles.live
-    → ((h c : ℕ) → thing_at h s.handles ≡ Some (thing.Callback c) → c < s.callbacks.next)
+works-names : (s : State) (l : Label) (w : View) → Works s l w → NumbersRise 0 s.world.handles.live
+    → ((h c : ℕ) → thing_at h s.world.handles ≡ Some (thing.Callback c) → c < s.world.callbacks.next)
     → (h c : ℕ) → thing_at h w.handles ≡ Some (thing.Callback c) → c < w.callbacks.next
 works-names s l w (works_none quiet is) climb names h c =
     subst (λ (x : View). thing_at h x.handles ≡ Some (thing.Callback c) → c < x.callbacks.next) (sym is) (names h c)
@@ -362,15 +365,15 @@ works-names s l w (orders_one who o a is (changes_none plain after)) climb names
     subst (λ (x : View). thing_at h x.handles ≡ Some (thing.Callback c) → c < x.callbacks.next) (sym after) (names h c)
 works-names s l w (orders_one who o a is (opens_one k x gives fresh finds after)) climb names h c =
     subst (λ (y : View). thing_at h y.handles ≡ Some (thing.Callback c) → c < y.callbacks.next) (sym after)
-    (opened-names (nat_eq h k) h k c s.callbacks.next x s.handles refl
+    (opened-names (nat_eq h k) h k c s.world.callbacks.next x s.world.handles refl
     (λ d same. absurd (let object = finds.names in cc)) (names h c))
 works-names s l w (orders_one who o a is (registers_one k r b gives fresh room asks after)) climb names h c =
     subst (λ (y : View). thing_at h y.handles ≡ Some (thing.Callback c) → c < y.callbacks.next) (sym after)
-    (opened-names (nat_eq h k) h k c (s.callbacks.next + 1) (thing.Callback s.callbacks.next) s.handles refl
-    (λ d same. (let e : s.callbacks.next ≡ d = cc in omega arith)) (λ at. (let low = names h c at in omega arith)))
+    (opened-names (nat_eq h k) h k c (s.world.callbacks.next + 1) (thing.Callback s.world.callbacks.next) s.world.handles refl
+    (λ d same. (let e : s.world.callbacks.next ≡ d = cc in omega arith)) (λ at. (let low = names h c at in omega arith)))
 works-names s l w (orders_one who o a is (removes_one d k by one at after)) climb names h c =
     subst (λ (y : View). thing_at h y.handles ≡ Some (thing.Callback c) → c < y.callbacks.next) (sym after)
-    (λ there. names h c (freed-names (nat_eq h k) h k c s.handles refl climb there))
+    (λ there. names h c (freed-names (nat_eq h k) h k c s.world.handles refl climb there))
 works-names s l w (tells_one n what is number after) climb names h c =
     subst (λ (x : View). thing_at h x.handles ≡ Some (thing.Callback c) → c < x.callbacks.next) (sym after) (names h c)
 works-names s l w (fires_one n d f rest is on number among after) climb names h c =
@@ -381,8 +384,8 @@ works-names s l w (closes_one n f rest is on number none after) climb names h c 
 works-keeps : (history : List Move) (s : State) (m : Move) → Works s m.0 (view_of m.1) → Keeps history (view_of s)
     → Keeps (and_then history m) (view_of m.1)
 works-keeps history s m works keeps = record {
-  sound = turns_sound s.callbacks m.1.callbacks (works-turn s m.0 (view_of m.1) works) keeps.sound;
-  climbs = stays-climbing s.handles m.1.handles m.0 (works-hand s m.0 (view_of m.1) works) keeps.climbs;
+  sound = turns_sound s.world.callbacks m.1.world.callbacks (works-turn s m.0 (view_of m.1) works) keeps.sound;
+  climbs = stays-climbing s.world.handles m.1.world.handles m.0 (works-hand s m.0 (view_of m.1) works) keeps.climbs;
   names = works-names s m.0 (view_of m.1) works keeps.climbs keeps.names;
   falls = works-falls s m.0 (view_of m.1) works keeps.falls;
   stands = works-stands history s m works keeps;
@@ -401,9 +404,9 @@ keeps-on history s (m ∷ moves) path keeps =
 record ToldFrom (s : State) (n : ℕ) (w : View) : Type 0 where
   number : n ≡ s.occurrence
   top : Frame
-  frames : w.frames ≡ top ∷ frames_of s.control
+  frames : w.frames ≡ top ∷ frames_of s
   next : w.occurrence ≡ n + 1
-  same : w.callbacks ≡ s.callbacks
+  same : w.callbacks ≡ s.world.callbacks
 
 told-from : (s : State) (l : Label) (n : ℕ) (reason : Reason) (object : Option Object) (w : View) → l ≡ label.Occ n reason object
     → Works s l w → ToldFrom s n w
@@ -417,7 +420,7 @@ told-from s l n reason object w told (tells_one k what is number after) =
     let d : tells n ≡ tells k = ap deed_of (sym told ∙ is) in
     let same : n ≡ k = cc in record {
       number = same ∙ number;
-      top = record { number = k; what = what; left = set_of what s.callbacks };
+      top = record { number = k; what = what; left = set_of what s.world.callbacks };
       frames = ap (λ (x : View). x.frames) after;
       next = ap (λ (x : View). x.occurrence) after ∙ ap (λ (x : ℕ). x + 1) (sym same);
       same = ap (λ (x : View). x.callbacks) after;
@@ -430,7 +433,7 @@ told-from s l n reason object w told (closes_one k f rest is on number none afte
 record FiredFrom (s : State) (n c : ℕ) : Type 0 where
   frame : Frame
   rest : List Frame
-  on : frames_of s.control ≡ frame ∷ rest
+  on : frames_of s ≡ frame ∷ rest
   number : n ≡ frame.number
   among : is_among c frame.left ≡ true
 
@@ -454,7 +457,7 @@ fired-from s n c w (closes_one k f rest is on number none after) = absurd (let d
 record DoneFrom (s : State) (n : ℕ) (w : View) : Type 0 where
   frame : Frame
   rest : List Frame
-  on : frames_of s.control ≡ frame ∷ rest
+  on : frames_of s ≡ frame ∷ rest
   number : n ≡ frame.number
   none : frame.left ≡ []
   left : w.frames ≡ rest
@@ -478,7 +481,7 @@ done-from s n w (closes_one k f rest is on number none after) =
       next = ap (λ (x : View). x.occurrence) after;
     }
 
-at-top : (s : State) (f : Frame) (rest : List Frame) → frames_of s.control ≡ f ∷ rest → slice_get (frames_of s.control) 0 ≡ Some f
+at-top : (s : State) (f : Frame) (rest : List Frame) → frames_of s ≡ f ∷ rest → slice_get (frames_of s) 0 ≡ Some f
 at-top s f rest on = ap (λ (fs : List Frame). slice_get fs 0) on
 
 -- A callback fires right.
@@ -489,48 +492,48 @@ fires-once s moves path keeps before behind n c t is =
     let u : State = end_of s before in
     let there : Keeps before (view_of u) = keeps-on [] s before parts.0 keeps in
     let from : FiredFrom u n c = fired-from u n c (view_of t) (made-works u m parts.1.0) in
-    let stands : Stands before u.callbacks from.frame.number from.frame.left =
+    let stands : Stands before u.world.callbacks from.frame.number from.frame.left =
     there.stands 0 from.frame (at-top u from.frame from.rest from.on) in
-    let here : Stands before u.callbacks n from.frame.left =
-    subst (λ (k : ℕ). Stands before u.callbacks k from.frame.left) (sym from.number) stands in
-    let waits : Waits before u.callbacks n c = here.waits c from.among in
+    let here : Stands before u.world.callbacks n from.frame.left =
+    subst (λ (k : ℕ). Stands before u.world.callbacks k from.frame.left) (sym from.number) stands in
+    let waits : Waits before u.world.callbacks n c = here.waits c from.among in
     record { told = waits.told; yet = here.undone; once = waits.unfired }
 
 first-set : (s : State) (m : Move) (n : ℕ) (what : Occurrence) → ToldFrom s n (view_of m.1) → IsTelling m n what
-    → Falls s.occurrence (frames_of s.control)
-    → (i : ℕ) (f : Frame) → slice_get (frames_of m.1.control) i ≡ Some f → f.number ≡ n → f.left ≡ set_of what m.1.callbacks
+    → Falls s.occurrence (frames_of s)
+    → (i : ℕ) (f : Frame) → slice_get (frames_of m.1) i ≡ Some f → f.number ≡ n → f.left ≡ set_of what m.1.world.callbacks
 first-set s m n what from telling falls zero f at of =
-    let both : Some f ≡ Some (record { number = n; what = what; left = set_of what m.1.callbacks }) = sym at ∙ telling.frame in
-    let same : f ≡ record { number = n; what = what; left = set_of what m.1.callbacks } = cc in
+    let both : Some f ≡ Some (record { number = n; what = what; left = set_of what m.1.world.callbacks }) = sym at ∙ telling.frame in
+    let same : f ≡ record { number = n; what = what; left = set_of what m.1.world.callbacks } = cc in
     ap (λ (x : Frame). x.left) same
 first-set s m n what from telling falls (suc i) f at of =
-    let old : slice_get (frames_of s.control) i ≡ Some f = sym (ap (λ (fs : List Frame). slice_get fs (suc i)) from.frames) ∙ at in
-    let low : f.number < s.occurrence = falls-below s.occurrence i (frames_of s.control) f falls old in
+    let old : slice_get (frames_of s) i ≡ Some f = sym (ap (λ (fs : List Frame). slice_get fs (suc i)) from.frames) ∙ at in
+    let low : f.number < s.occurrence = falls-below s.occurrence i (frames_of s) f falls old in
     let e = from.number in absurd (omega arith)
 
 -- An occurrence has its set from its telling on.
 starts-set : (s : State) (m : Move) (n : ℕ) (what : Occurrence) → Works s m.0 (view_of m.1) → IsTelling m n what
-    → IsSound m.1.callbacks → Falls s.occurrence (frames_of s.control) → HasSet n (set_of what m.1.callbacks) (view_of m.1)
+    → IsSound m.1.world.callbacks → Falls s.occurrence (frames_of s) → HasSet n (set_of what m.1.world.callbacks) (view_of m.1)
 starts-set s m n what works telling sound falls =
     let from : ToldFrom s n (view_of m.1) = told-from s m.0 n what.reason what.object (view_of m.1) telling.told works in record {
       below = (let e = from.next in omega arith);
       falls = works-falls s m.0 (view_of m.1) works falls;
-      live = λ c among. set-live what m.1.callbacks c sound among;
+      live = λ c among. set-live what m.1.world.callbacks c sound among;
       sets = first-set s m n what from telling falls;
     }
 
 -- The state in which an occurrence is told, and its set along what follows.
 set-along : (s : State) (moves front mid rest : List Move) (m : Move) (n : ℕ) (what : Occurrence) → IsPath s moves → Keeps [] (view_of s)
     → moves ≡ front ++ m ∷ mid ++ rest → IsTelling m n what
-    → HasSet n (left_of n mid (set_of what m.1.callbacks)) (view_of (end_of m.1 mid)) × IsPath (end_of m.1 mid) rest
+    → HasSet n (left_of n mid (set_of what m.1.world.callbacks)) (view_of (end_of m.1 mid)) × IsPath (end_of m.1 mid) rest
 set-along s moves front mid rest m n what path keeps is telling =
     let parts = path_at s moves front ((m ∷ mid) ++ rest) path (is ∙ append_assoc front (m ∷ mid) rest) in
     let u : State = end_of s front in
     let there : Keeps front (view_of u) = keeps-on [] s front parts.0 keeps in
     let works : Works u m.0 (view_of m.1) = made-works u m parts.1.0 in
-    let sound : IsSound m.1.callbacks = turns_sound u.callbacks m.1.callbacks (works-turn u m.0 (view_of m.1) works) there.sound in
+    let sound : IsSound m.1.world.callbacks = turns_sound u.world.callbacks m.1.world.callbacks (works-turn u m.0 (view_of m.1) works) there.sound in
     let halves = path_split m.1 mid rest parts.1.1 in
-    (has-on n (set_of what m.1.callbacks) m.1 mid halves.0 sound (starts-set u m n what works telling sound there.falls), halves.1)
+    (has-on n (set_of what m.1.world.callbacks) m.1 mid halves.0 sound (starts-set u m n what works telling sound there.falls), halves.1)
 
 keeps-sets : (s : State) (moves : List Move) → IsPath s moves → Keeps [] (view_of s) → KeepsSets moves
 keeps-sets s moves path keeps front mid behind m n i what f is telling at of =
@@ -555,10 +558,10 @@ leaves-none s moves path keeps front mid behind m n c what t is telling among =
     let along = set-along s moves front mid (last ∷ behind) m n what path keeps is telling in
     let w : State = end_of m.1 mid in
     let from : DoneFrom w n (view_of t) = done-from w n (view_of t) (made-works w last along.1.0) in
-    let empty : left_of n mid (set_of what m.1.callbacks) ≡ [] =
+    let empty : left_of n mid (set_of what m.1.world.callbacks) ≡ [] =
     sym (along.0.sets 0 from.frame (at-top w from.frame from.rest from.on) (sym from.number)) ∙ from.none in
     left-none (any (is_fire n c) mid) (was_removed c mid)
-    (none-among (set_of what m.1.callbacks) (λ d. not (any (is_fire n d) mid) && not (was_removed d mid)) c empty among)
+    (none-among (set_of what m.1.world.callbacks) (λ d. not (any (is_fire n d) mid) && not (was_removed d mid)) c empty among)
 
 -- A number that was told is told no more.
 told-high : (n : ℕ) (s : State) (l : Label) (w : View) → Works s l w → n < s.occurrence → is_told n l ≡ false
@@ -606,20 +609,20 @@ record HasNone (n : ℕ) (v : View) : Type 0 where
   below : n < v.occurrence
   none : (i : ℕ) (f : Frame) → slice_get v.frames i ≡ Some f → f.number ≡ n → ⊥
 
-same-none : (n : ℕ) (s : State) (w : View) → w.frames ≡ frames_of s.control → HasNone n (view_of s)
+same-none : (n : ℕ) (s : State) (w : View) → w.frames ≡ frames_of s → HasNone n (view_of s)
     → (i : ℕ) (f : Frame) → slice_get w.frames i ≡ Some f → f.number ≡ n → ⊥
 same-none n s w same has i f at of = has.none i f (sym (ap (λ (fs : List Frame). slice_get fs i) same) ∙ at) of
 
 told-none : (n k i : ℕ) (s : State) (what : Occurrence) (f : Frame) → HasNone n (view_of s) → k ≡ s.occurrence
-    → slice_get (record { number = k; what = what; left = set_of what s.callbacks } ∷ frames_of s.control) i ≡ Some f
+    → slice_get (record { number = k; what = what; left = set_of what s.world.callbacks } ∷ frames_of s) i ≡ Some f
     → f.number ≡ n → ⊥
 told-none n k zero s what f has number at of =
-    let here : record { number = k; what = what; left = set_of what s.callbacks } ≡ f = cc in
+    let here : record { number = k; what = what; left = set_of what s.world.callbacks } ≡ f = cc in
     let same : k ≡ f.number = ap (λ (x : Frame). x.number) here in let low = has.below in omega arith
 told-none n k (suc i) s what f has number at of = has.none i f at of
 
 fired-none : (n c i : ℕ) (s : State) (g : Frame) (rest : List Frame) (f : Frame) → HasNone n (view_of s)
-    → frames_of s.control ≡ g ∷ rest → slice_get (taken_from c g ∷ rest) i ≡ Some f → f.number ≡ n → ⊥
+    → frames_of s ≡ g ∷ rest → slice_get (taken_from c g ∷ rest) i ≡ Some f → f.number ≡ n → ⊥
 fired-none n c zero s g rest f has on at of =
     let here : taken_from c g ≡ f = cc in
     has.none 0 g (ap (λ (fs : List Frame). slice_get fs 0) on) (ap (λ (x : Frame). x.number) here ∙ of)
@@ -637,7 +640,7 @@ frames-none n s l w (orders_one who o a is (opens_one h x gives fresh finds afte
 frames-none n s l w (orders_one who o a is (registers_one h r b gives fresh room asks after)) has i f at of =
     same-none n s w (ap (λ (y : View). y.frames) after) has i f at of
 frames-none n s l w (orders_one who o a is (removes_one c h by one names after)) has i f at of =
-    let from = map-at c i (frames_of s.control) f (sym (ap (λ (x : View). slice_get x.frames i) after) ∙ at) in
+    let from = map-at c i (frames_of s) f (sym (ap (λ (x : View). slice_get x.frames i) after) ∙ at) in
     has.none i from.0 from.1 (ap (λ (x : Frame). x.number) from.2 ∙ of)
 frames-none n s l w (tells_one k what is number after) has i f at of =
     told-none n k i s what f has number (sym (ap (λ (x : View). slice_get x.frames i) after) ∙ at) of
@@ -666,8 +669,8 @@ done-on n s (m ∷ moves) path has =
       none = frames-none n s m.0 (view_of m.1) works has;
     }))
 
-rest-none : (s : State) (f : Frame) (rest : List Frame) (n : ℕ) → frames_of s.control ≡ f ∷ rest → n ≡ f.number
-    → Falls s.occurrence (frames_of s.control) → (i : ℕ) (g : Frame) → slice_get rest i ≡ Some g → g.number ≡ n → ⊥
+rest-none : (s : State) (f : Frame) (rest : List Frame) (n : ℕ) → frames_of s ≡ f ∷ rest → n ≡ f.number
+    → Falls s.occurrence (frames_of s) → (i : ℕ) (g : Frame) → slice_get rest i ≡ Some g → g.number ≡ n → ⊥
 rest-none s f rest n on number falls i g at of =
     let there : Falls s.occurrence (f ∷ rest) = subst (λ (fs : List Frame). Falls s.occurrence fs) on falls in
     let low : g.number < f.number = falls-below f.number i rest g there.1 at in omega arith
@@ -679,10 +682,10 @@ done-once s moves path keeps before behind n t is =
     let u : State = end_of s before in
     let there : Keeps before (view_of u) = keeps-on [] s before parts.0 keeps in
     let from : DoneFrom u n (view_of t) = done-from u n (view_of t) (made-works u m parts.1.0) in
-    let stands : Stands before u.callbacks from.frame.number from.frame.left =
+    let stands : Stands before u.world.callbacks from.frame.number from.frame.left =
     there.stands 0 from.frame (at-top u from.frame from.rest from.on) in
-    let here : Stands before u.callbacks n from.frame.left =
-    subst (λ (k : ℕ). Stands before u.callbacks k from.frame.left) (sym from.number) stands in
+    let here : Stands before u.world.callbacks n from.frame.left =
+    subst (λ (k : ℕ). Stands before u.world.callbacks k from.frame.left) (sym from.number) stands in
     let falls : Falls u.occurrence (from.frame ∷ from.rest) = subst (λ (fs : List Frame). Falls u.occurrence fs) from.on there.falls in (
       here.told,
       here.undone,
@@ -719,7 +722,7 @@ settled-same seen s m untold frames settled k told =
       | inr stands ↦ inr (frames k stands)
     ]
 
-same-frames : (s : State) (w : View) → w.frames ≡ frames_of s.control → (k : ℕ) → HasFrame k (view_of s) → HasFrame k w
+same-frames : (s : State) (w : View) → w.frames ≡ frames_of s → (k : ℕ) → HasFrame k (view_of s) → HasFrame k w
 same-frames s w same k (i, f, at, of) = (i, f, ap (λ (fs : List Frame). slice_get fs i) same ∙ at, of)
 
 get-map : (c i : ℕ) (fs : List Frame) (f : Frame) → slice_get fs i ≡ Some f → slice_get (map (taken_from c) fs) i ≡ Some (taken_from c f)
@@ -727,7 +730,7 @@ get-map c i [] f at = absurd (cc)
 get-map c zero (g ∷ fs) f at = let same : g ≡ f = cc in ap (λ (x : Frame). Some (taken_from c x)) same
 get-map c (suc i) (g ∷ fs) f at = get-map c i fs f at
 
-fired-frames : (c : ℕ) (s : State) (f : Frame) (rest : List Frame) → frames_of s.control ≡ f ∷ rest
+fired-frames : (c : ℕ) (s : State) (f : Frame) (rest : List Frame) → frames_of s ≡ f ∷ rest
     → (k i : ℕ) (g : Frame) → slice_get (f ∷ rest) i ≡ Some g → g.number ≡ k
     → (j : ℕ) × (h : Frame) × (slice_get (taken_from c f ∷ rest) j ≡ Some h) × (h.number ≡ k)
 fired-frames c s f rest on k zero g at of =
@@ -736,12 +739,12 @@ fired-frames c s f rest on k (suc i) g at of = (suc i, g, at, of)
 
 told-settled : (seen : List Move) (s : State) (m : Move) (n : ℕ) (what : Occurrence) → m.0 ≡ label.Occ n what.reason what.object
     → view_of m.1 ≡ record (view_of s) {
-      frames = record { number = n; what = what; left = set_of what s.callbacks } ∷ frames_of s.control;
+      frames = record { number = n; what = what; left = set_of what s.world.callbacks } ∷ frames_of s;
       occurrence = n + 1;
     } → Settled seen (view_of s) → (k : ℕ) → any (is_told k) (and_then seen m) ≡ true → (b : Bool) → nat_eq k n ≡ b
     → (any (is_done k) (and_then seen m) ≡ true) ⊎ HasFrame k (view_of m.1)
 told-settled seen s m n what is after settled k told true same =
-    inr (0, record { number = n; what = what; left = set_of what s.callbacks }, ap (λ (x : View). slice_get x.frames 0) after, sym (eqb-true k n same))
+    inr (0, record { number = n; what = what; left = set_of what s.world.callbacks }, ap (λ (x : View). slice_get x.frames 0) after, sym (eqb-true k n same))
 told-settled seen s m n what is after settled k told false apart =
     elim (settled k (last-of (is_told k) seen m told (ap (λ (x : Label). is_told k x) is ∙ apart))) [
       | inl done ↦ inl (any-kept (is_done k) seen m done)
@@ -749,7 +752,7 @@ told-settled seen s m n what is after settled k told false apart =
     ]
 
 closed-by : (seen : List Move) (m : Move) (n k : ℕ) (f : Frame) (rest : List Frame) → m.0 ≡ label.Done n → n ≡ f.number
-    → frames_of m.1.control ≡ rest → (i : ℕ) (g : Frame) → slice_get (f ∷ rest) i ≡ Some g → g.number ≡ k
+    → frames_of m.1 ≡ rest → (i : ℕ) (g : Frame) → slice_get (f ∷ rest) i ≡ Some g → g.number ≡ k
     → (any (is_done k) (and_then seen m) ≡ true) ⊎ HasFrame k (view_of m.1)
 closed-by seen m n k f rest is number left zero g at of =
     let same : f ≡ g = cc in
@@ -759,7 +762,7 @@ closed-by seen m n k f rest is number left (suc i) g at of =
     inr (i, g, ap (λ (fs : List Frame). slice_get fs i) left ∙ at, of)
 
 closed-settled : (seen : List Move) (s : State) (m : Move) (n : ℕ) (f : Frame) (rest : List Frame) → m.0 ≡ label.Done n
-    → frames_of s.control ≡ f ∷ rest → n ≡ f.number → frames_of m.1.control ≡ rest → (k : ℕ)
+    → frames_of s ≡ f ∷ rest → n ≡ f.number → frames_of m.1 ≡ rest → (k : ℕ)
     → (any (is_done k) seen ≡ true) ⊎ HasFrame k (view_of s) → (any (is_done k) (and_then seen m) ≡ true) ⊎ HasFrame k (view_of m.1)
 closed-settled seen s m n f rest is on number left k (inl done) = inl (any-kept (is_done k) seen m done)
 closed-settled seen s m n f rest is on number left k (inr (i, g, at, of)) =
@@ -785,7 +788,7 @@ nest-settled seen s m (orders_one who o a is (removes_one c h by one names after
       stands.0,
       taken_from c stands.1,
       ap (λ (y : View). slice_get y.frames stands.0) after
-          ∙ get-map c stands.0 (frames_of s.control) stands.1 stands.2,
+          ∙ get-map c stands.0 (frames_of s) stands.1 stands.2,
       stands.3,
     )) settled)
 nest-settled seen s m (tells_one n what is number after) settled =
@@ -810,7 +813,7 @@ nest-step n seen s m works (inr (low, settled)) =
     elim (nest-settled seen s m works settled) [
       | inl emptied ↦ inl (record {
         below = omega arith;
-        none = λ i f at of. (let none : slice_get (frames_of m.1.control) i ≡ None = ap (λ (x : View). slice_get x.frames i) emptied in absurd (cc));
+        none = λ i f at of. (let none : slice_get (frames_of m.1) i ≡ None = ap (λ (x : View). slice_get x.frames i) emptied in absurd (cc));
       })
       | inr still ↦ inr (omega arith, still)
     ]
@@ -835,14 +838,14 @@ told-least k s moves path told = elim (le-or-lt s.occurrence k) [
   | inr low ↦ absurd (not_both (any (is_told k) moves) told (told-on k s moves path low))
 ]
 
-falls-on : (s : State) (moves : List Move) → IsPath s moves → Falls s.occurrence (frames_of s.control)
-    → Falls (end_of s moves).occurrence (frames_of (end_of s moves).control)
+falls-on : (s : State) (moves : List Move) → IsPath s moves → Falls s.occurrence (frames_of s)
+    → Falls (end_of s moves).occurrence (frames_of (end_of s moves))
 falls-on s [] path falls = falls
 falls-on s (m ∷ moves) path falls =
     falls-on m.1 moves path.1 (works-falls s m.0 (view_of m.1) (made-works s m path.0) falls)
 
-top-is-highest : (s : State) (k n : ℕ) (f : Frame) (rest : List Frame) → HasFrame k (view_of s) → frames_of s.control ≡ f ∷ rest
-    → n ≡ f.number → Falls s.occurrence (frames_of s.control) → n < k → ⊥
+top-is-highest : (s : State) (k n : ℕ) (f : Frame) (rest : List Frame) → HasFrame k (view_of s) → frames_of s ≡ f ∷ rest
+    → n ≡ f.number → Falls s.occurrence (frames_of s) → n < k → ⊥
 top-is-highest s k n f rest (i, g, at, of) on number falls above =
     let there : Falls s.occurrence (f ∷ rest) = subst (λ (fs : List Frame). Falls s.occurrence fs) on falls in
     let low : g.number < f.number + 1 =
@@ -863,7 +866,7 @@ closes-in-order s moves path keeps front mid behind n k reason object u t is tol
     let done : DoneFrom w n (view_of t) = done-from w n (view_of t) (made-works w last halves.1.0) in
     let there : Keeps front (view_of v) = keeps-on [] s front parts.0 keeps in
     let works : Works v first.0 (view_of u) = made-works v first parts.1.0 in
-    let falls : Falls w.occurrence (frames_of w.control) =
+    let falls : Falls w.occurrence (frames_of w) =
     falls-on u mid halves.0 (works-falls v first.0 (view_of u) works there.falls) in
     let least : u.occurrence ≤ k = told-least k u mid halves.0 told in
     elim (nest-on n [] u mid halves.0 (inr (below, (λ j some. absurd (cc))))) [
@@ -879,8 +882,8 @@ lost-live : (c : ℕ) (a b : Callbacks Body) → is_live c a ≡ true → is_liv
 lost-live c a b alive gone same = not_both (is_live c a) alive (ap (λ (x : Callbacks Body). is_live c x) (sym same) ∙ gone)
 
 goes-by : (b : Bool) (c d h : ℕ) (s : State) (l : Label) (who : Who) (o : Order) (a : Answer) → nat_eq c d ≡ b → l ≡ label.Do who o a
-    → o ≡ order.Remove (Some h) → a ≡ answer.Number 1 → thing_at h s.handles ≡ Some (thing.Callback d)
-    → is_live c s.callbacks ≡ true → is_live c (removed d s.callbacks) ≡ false → IsRemoval c s l
+    → o ≡ order.Remove (Some h) → a ≡ answer.Number 1 → thing_at h s.world.handles ≡ Some (thing.Callback d)
+    → is_live c s.world.callbacks ≡ true → is_live c (removed d s.world.callbacks) ≡ false → IsRemoval c s l
 goes-by true c d h s l who o a is told by one names alive gone =
     let same : c ≡ d = eqb-true c d is in record {
       who = who;
@@ -889,30 +892,30 @@ goes-by true c d h s l who o a is told by one names alive gone =
       names = names ∙ ap (λ (x : ℕ). Some (thing.Callback x)) (sym same);
     }
 goes-by false c d h s l who o a is told by one names alive gone =
-    absurd (not_both (is_live c s.callbacks) alive (sym (live_removed d c s.callbacks is) ∙ gone))
+    absurd (not_both (is_live c s.world.callbacks) alive (sym (live_removed d c s.world.callbacks is) ∙ gone))
 
-works-go : (s : State) (l : Label) (w : View) (c : ℕ) → Works s l w → IsSound s.callbacks → is_live c s.callbacks ≡ true
+works-go : (s : State) (l : Label) (w : View) (c : ℕ) → Works s l w → IsSound s.world.callbacks → is_live c s.world.callbacks ≡ true
     → is_live c w.callbacks ≡ false → IsRemoval c s l
 works-go s l w c (works_none quiet is) sound alive gone =
-    absurd (lost-live c s.callbacks w.callbacks alive gone (ap (λ (x : View). x.callbacks) is))
+    absurd (lost-live c s.world.callbacks w.callbacks alive gone (ap (λ (x : View). x.callbacks) is))
 works-go s l w c (empties quiet is) sound alive gone =
-    absurd (lost-live c s.callbacks w.callbacks alive gone (ap (λ (x : View). x.callbacks) is))
+    absurd (lost-live c s.world.callbacks w.callbacks alive gone (ap (λ (x : View). x.callbacks) is))
 works-go s l w c (orders_one who o a is (changes_none plain after)) sound alive gone =
-    absurd (lost-live c s.callbacks w.callbacks alive gone (ap (λ (x : View). x.callbacks) after))
+    absurd (lost-live c s.world.callbacks w.callbacks alive gone (ap (λ (x : View). x.callbacks) after))
 works-go s l w c (orders_one who o a is (opens_one h x gives fresh finds after)) sound alive gone =
-    absurd (lost-live c s.callbacks w.callbacks alive gone (ap (λ (y : View). y.callbacks) after))
+    absurd (lost-live c s.world.callbacks w.callbacks alive gone (ap (λ (y : View). y.callbacks) after))
 works-go s l w c (orders_one who o a is (registers_one h r b gives fresh room asks after)) sound alive gone =
-    absurd (not_both (is_live c s.callbacks) alive
-    (sym (live_registered c r b s.callbacks (live_low c s.callbacks sound alive))
+    absurd (not_both (is_live c s.world.callbacks) alive
+    (sym (live_registered c r b s.world.callbacks (live_low c s.world.callbacks sound alive))
     ∙ ap (λ (y : View). is_live c y.callbacks) (sym after) ∙ gone))
 works-go s l w c (orders_one who o a is (removes_one d h by one names after)) sound alive gone =
     goes-by (nat_eq c d) c d h s l who o a refl is by one names alive (ap (λ (y : View). is_live c y.callbacks) (sym after) ∙ gone)
 works-go s l w c (tells_one n what is number after) sound alive gone =
-    absurd (lost-live c s.callbacks w.callbacks alive gone (ap (λ (x : View). x.callbacks) after))
+    absurd (lost-live c s.world.callbacks w.callbacks alive gone (ap (λ (x : View). x.callbacks) after))
 works-go s l w c (fires_one n d f rest is on number among after) sound alive gone =
-    absurd (lost-live c s.callbacks w.callbacks alive gone (ap (λ (x : View). x.callbacks) after))
+    absurd (lost-live c s.world.callbacks w.callbacks alive gone (ap (λ (x : View). x.callbacks) after))
 works-go s l w c (closes_one n f rest is on number none after) sound alive gone =
-    absurd (lost-live c s.callbacks w.callbacks alive gone (ap (λ (x : View). x.callbacks) after))
+    absurd (lost-live c s.world.callbacks w.callbacks alive gone (ap (λ (x : View). x.callbacks) after))
 
 goes-by-removal : (s : State) (moves : List Move) → IsPath s moves → Keeps [] (view_of s) → GoesByRemoval s moves
 goes-by-removal s moves path keeps before behind m c is alive gone =
@@ -924,9 +927,9 @@ goes-by-removal s moves path keeps before behind m c is alive gone =
 -- What a removal changes.
 pub record RemovedFrom (s : State) (h : ℕ) (w : View) : Type 0 where
   pub callback : ℕ
-  pub names : thing_at h s.handles ≡ Some (thing.Callback callback)
-  pub callbacks : w.callbacks ≡ removed callback s.callbacks
-  pub handles : w.handles ≡ freed h s.handles
+  pub names : thing_at h s.world.handles ≡ Some (thing.Callback callback)
+  pub callbacks : w.callbacks ≡ removed callback s.world.callbacks
+  pub handles : w.handles ≡ freed h s.world.handles
 
 changes-removed : (s : State) (h : ℕ) (o : Order) (a : Answer) (w : View) → o ≡ order.Remove (Some h) → a ≡ answer.Number 1
     → Changes s o a w → RemovedFrom s h w
@@ -939,9 +942,9 @@ changes-removed s h o a w by one (removes_one c k too counts names after) =
     let both : order.Remove (Some h) ≡ order.Remove (Some k) = sym by ∙ too in
     let same : k ≡ h = cc in record {
       callback = c;
-      names = ap (λ (x : ℕ). thing_at x s.handles) (sym same) ∙ names;
+      names = ap (λ (x : ℕ). thing_at x s.world.handles) (sym same) ∙ names;
       callbacks = ap (λ (x : View). x.callbacks) after;
-      handles = ap (λ (x : View). x.handles) after ∙ ap (λ (x : ℕ). freed x s.handles) same;
+      handles = ap (λ (x : View). x.handles) after ∙ ap (λ (x : ℕ). freed x s.world.handles) same;
     }
 
 pub removed-from : (s : State) (l : Label) (w : View) (who : Who) (h : ℕ) → l ≡ label.Do who (order.Remove (Some h)) (answer.Number 1)
@@ -964,28 +967,28 @@ removed-from s l w who h removes (closes_one n f rest is on number none after) =
 
 -- A callback that isn't live and was registered before fires no more.
 gone-label : (history : List Move) (s : State) (l : Label) (w : View) (c : ℕ) → Works s l w → Keeps history (view_of s)
-    → is_live c s.callbacks ≡ false → is_fire_of c l ≡ false
+    → is_live c s.world.callbacks ≡ false → is_fire_of c l ≡ false
 gone-label history s l w c (works_none quiet is) keeps gone = ap (λ (d : Deed). fires_any c d) quiet
 gone-label history s l w c (empties quiet is) keeps gone = ap (λ (d : Deed). fires_any c d) quiet
 gone-label history s l w c (orders_one who o a is changes) keeps gone = ap (λ (x : Label). is_fire_of c x) is
 gone-label history s l w c (tells_one n what is number after) keeps gone = ap (λ (x : Label). is_fire_of c x) is
 gone-label history s l w c (fires_one n d f rest is on number among after) keeps gone =
-    let stands : Stands history s.callbacks f.number f.left = keeps.stands 0 f (at-top s f rest on) in
-    let waits : Waits history s.callbacks f.number d = stands.waits d among in
+    let stands : Stands history s.world.callbacks f.number f.left = keeps.stands 0 f (at-top s f rest on) in
+    let waits : Waits history s.world.callbacks f.number d = stands.waits d among in
     ap (λ (x : Label). is_fire_of c x) is
-    ∙ ne_eqb c d (λ same. not_both (is_live c s.callbacks) (ap (λ (x : ℕ). is_live x s.callbacks) same ∙ waits.live) gone)
+    ∙ ne_eqb c d (λ same. not_both (is_live c s.world.callbacks) (ap (λ (x : ℕ). is_live x s.world.callbacks) same ∙ waits.live) gone)
 gone-label history s l w c (closes_one n f rest is on number none after) keeps gone = ap (λ (x : Label). is_fire_of c x) is
 
 gone-on : (c : ℕ) (history : List Move) (s : State) (moves : List Move) → IsPath s moves → Keeps history (view_of s)
-    → c < s.callbacks.next → is_live c s.callbacks ≡ false → any (is_fire_of c) moves ≡ false
+    → c < s.world.callbacks.next → is_live c s.world.callbacks ≡ false → any (is_fire_of c) moves ≡ false
 gone-on c history s [] path keeps below gone = refl
 gone-on c history s (m ∷ moves) path keeps below gone =
     let works : Works s m.0 (view_of m.1) = made-works s m path.0 in
-    let turns : ChangesByOne s.callbacks m.1.callbacks = works-turn s m.0 (view_of m.1) works in
-    let grows : s.callbacks.next ≤ m.1.callbacks.next = turns_next s.callbacks m.1.callbacks turns in
+    let turns : ChangesByOne s.world.callbacks m.1.world.callbacks = works-turn s m.0 (view_of m.1) works in
+    let grows : s.world.callbacks.next ≤ m.1.world.callbacks.next = turns_next s.world.callbacks m.1.world.callbacks turns in
     or_false (is_fire_of c m.0) (any (is_fire_of c) moves) (gone-label history s m.0 (view_of m.1) c works keeps gone)
     (gone-on c (and_then history m) m.1 moves path.1 (works-keeps history s m works keeps) (omega arith)
-    (stays_gone c s.callbacks m.1.callbacks turns keeps.sound below gone))
+    (stays_gone c s.world.callbacks m.1.world.callbacks turns keeps.sound below gone))
 
 removes-for-good : (s : State) (moves : List Move) → IsPath s moves → Keeps [] (view_of s) → RemovesForGood s moves
 removes-for-good s moves path keeps before behind m c is removal =
@@ -996,12 +999,12 @@ removes-for-good s moves path keeps before behind m c is removal =
     let from : RemovedFrom u removal.handle (view_of m.1) = removed-from u m.0 (view_of m.1) removal.who removal.handle removal.is works in
     let both : Some (thing.Callback from.callback) ≡ Some (thing.Callback c) = sym from.names ∙ removal.names in
     let same : from.callback ≡ c = cc in
-    let dead : is_live c m.1.callbacks ≡ false =
+    let dead : is_live c m.1.world.callbacks ≡ false =
     ap (λ (x : Callbacks Body). is_live c x) from.callbacks
-    ∙ ap (λ (x : ℕ). is_live c (removed x u.callbacks)) same ∙ gone_removed c u.callbacks there.sound in
-    let low : c < u.callbacks.next = there.names removal.handle c removal.names in
-    let grows : u.callbacks.next ≤ m.1.callbacks.next =
-    turns_next u.callbacks m.1.callbacks (works-turn u m.0 (view_of m.1) works) in
+    ∙ ap (λ (x : ℕ). is_live c (removed x u.world.callbacks)) same ∙ gone_removed c u.world.callbacks there.sound in
+    let low : c < u.world.callbacks.next = there.names removal.handle c removal.names in
+    let grows : u.world.callbacks.next ≤ m.1.world.callbacks.next =
+    turns_next u.world.callbacks m.1.world.callbacks (works-turn u m.0 (view_of m.1) works) in
     record {
       dead = dead;
       silent = gone-on c (and_then before m) m.1 behind parts.1.1 (works-keeps before u m works there) (omega arith) dead;

@@ -19,63 +19,66 @@ use Rattle.vh_base.specs.Checks.{with_ok}
 use Rattle.vh_base.proofs.ChecksLemmas.{unless-holds, with_some-holds, with_ok-holds}
 use Rattle.vh_app.specs.Script.{ScriptData}
 use Rattle.vh_callbacks.specs.Callbacks.{info_of, body_of, is_full as no_callback_more}
-use Rattle.vh_callbacks.proofs.Telling.{tells_registered}
+use Rattle.vh_callbacks.proofs.LawsLemmas.{tells_registered}
 use Rattle.vh_kernel.specs.declared.activation.Activation.{Activation}
-use Rattle.vh_kernel.specs.declared.activation.Body.{Body}
-use Rattle.vh_kernel.specs.declared.activation.Who.{Who}
-use Rattle.vh_kernel.specs.declared.handles.Thing.{Thing}
-use Rattle.vh_kernel.specs.declared.handles.Thing.TheVariants as thing
+use Rattle.vh_orders.specs.declared.who.Body.{Body}
+use Rattle.vh_orders.specs.declared.who.Who.{Who}
+use Rattle.vh_handles.specs.declared.handles.Thing.{Thing}
+use Rattle.vh_handles.specs.declared.handles.Thing.TheVariants as thing
 use Rattle.vh_kernel.specs.declared.label.Label.{Label}
 use Rattle.vh_kernel.specs.declared.label.Label.TheVariants as label
-use Rattle.vh_kernel.specs.Handles.{Handles, thing_at, opened, freed, no_handle_more}
-use Rattle.vh_kernel.specs.Names.{object_named, is_scope}
-use Rattle.vh_kernel.specs.Orders.{Given, Effect, answered, effect_of, is_startup, object_in, callback_in, name_meant, new_handle, needs_object, needs_entry, object_watched, body_named, start_in, registration_of, handle_or_null, handle_if, handles_read, is_named, all_named, not_yet}
+use Rattle.vh_handles.specs.Handles.{Handles, thing_at, opened, freed, no_handle_more}
+use Rattle.vh_orders.specs.Names.{object_named, is_scope}
+use Rattle.vh_orders.specs.Orders.{Given, Effect, answered, effect_of, is_startup, object_in, callback_in, name_meant, new_handle, needs_object, needs_entry, object_watched, body_named, start_in, registration_of, handle_or_null, handle_if, handles_read, is_named, all_named, not_yet}
 use Rattle.vh_kernel.specs.Outcome.{Move}
-use Rattle.vh_kernel.specs.State.{State, without_top}
+use Rattle.vh_kernel.specs.State.{State, without_top, with_variables}
+use Rattle.vh_orders.specs.World.{World}
 use Rattle.vh_kernel.specs.Table.{Acts, Step}
-use Rattle.vh_kernel.proofs.OrdersLemmas.{IsForm, refuses, answers_only, opens_object, registers, removes, effect-form}
-use Rattle.vh_kernel.proofs.StepLemmas.{IsActing, returns, orders, acts, with_variables}
+use Rattle.vh_orders.proofs.OrdersLemmas.{IsForm, refuses, answers_only, opens_object, registers, removes, effect-form}
+use Rattle.vh_kernel.proofs.StepLemmas.{IsActing, returns, orders, acts}
 use Rattle.vh_kernel.proofs.TableLemmas.{steps-by-table}
 use Rattle.vh_laws.specs.HandleLaw.{is_handle, gives, is_giving, reads, GivesOnce, GivesRight, GivesLive, NamesOne, FindsLive, FreedByRemoval, RemovalFrees, StaysFreed}
 use Rattle.vh_laws.specs.Laws.{KeepsHandleLaw}
 use Rattle.vh_laws.specs.Paths.{tells, fires, closes, answers, other, deed_of, any, IsMade, IsPath, end_of}
 use Rattle.vh_laws.proofs.FiringLemmas.{Keeps, keeps-on, RemovedFrom, removed-from}
-use Rattle.vh_laws.proofs.HandlesLemmas.{NumbersRise, Hands, works-hand, stays-given, gives-new, stays-climbing, names-still, freed-none, other_more, same_more, other_less}
+use Rattle.vh_handles.specs.Laws.{NumbersRise}
+use Rattle.vh_handles.proofs.EntriesLemmas.{other_more, same_more, other_less}
+use Rattle.vh_laws.proofs.HandlesLemmas.{Hands, works-hand, stays-given, gives-new, stays-climbing, names-still, freed-none}
 use Rattle.vh_laws.proofs.Splits.{either, not_both, or_false, path_split, path_at}
 use Rattle.vh_laws.proofs.Works.{View, view_of, Changes, changes_none, opens_one, registers_one, removes_one, Works, works_none, empties, orders_one, tells_one, fires_one, closes_one}
 use Rattle.vh_laws.proofs.WorksLemmas.{made-works}
 
-hands : (s : State) (m : Move) → IsMade s m → Hands s.handles m.0 m.1.handles
+hands : (s : State) (m : Move) → IsMade s m → Hands s.world.handles m.0 m.1.world.handles
 hands s m made = works-hand s m.0 (view_of m.1) (made-works s m made)
 
 -- A number that was given is given no more.
-given-on : (h : ℕ) (s : State) (moves : List Move) → IsPath s moves → s.handles.is_given h ≡ true → any (is_giving h) moves ≡ false
+given-on : (h : ℕ) (s : State) (moves : List Move) → IsPath s moves → s.world.handles.is_given h ≡ true → any (is_giving h) moves ≡ false
 given-on h s [] path given = refl
 given-on h s (m ∷ moves) path given =
-    let step : Hands s.handles m.0 m.1.handles = hands s m path.0 in
+    let step : Hands s.world.handles m.0 m.1.world.handles = hands s m path.0 in
     or_false (is_giving h m.0) (any (is_giving h) moves)
     (elim (either (is_giving h m.0)) [
-      | inl giving ↦ absurd (not_both (s.handles.is_given h) given (gives-new h s.handles m.1.handles m.0 step giving).0)
+      | inl giving ↦ absurd (not_both (s.world.handles.is_given h) given (gives-new h s.world.handles m.1.world.handles m.0 step giving).0)
       | inr none ↦ none
     ])
-    (given-on h m.1 moves path.1 (stays-given h s.handles m.1.handles m.0 step given))
+    (given-on h m.1 moves path.1 (stays-given h s.world.handles m.1.world.handles m.0 step given))
 
-stays-on : (h : ℕ) (s : State) (moves : List Move) → IsPath s moves → s.handles.is_given h ≡ true
-    → (end_of s moves).handles.is_given h ≡ true
+stays-on : (h : ℕ) (s : State) (moves : List Move) → IsPath s moves → s.world.handles.is_given h ≡ true
+    → (end_of s moves).world.handles.is_given h ≡ true
 stays-on h s [] path given = given
 stays-on h s (m ∷ moves) path given =
-    stays-on h m.1 moves path.1 (stays-given h s.handles m.1.handles m.0 (hands s m path.0) given)
+    stays-on h m.1 moves path.1 (stays-given h s.world.handles m.1.world.handles m.0 (hands s m path.0) given)
 
 -- A number that isn't given wasn't given before.
-ungiven-on : (h : ℕ) (s : State) (moves : List Move) → IsPath s moves → (end_of s moves).handles.is_given h ≡ false
+ungiven-on : (h : ℕ) (s : State) (moves : List Move) → IsPath s moves → (end_of s moves).world.handles.is_given h ≡ false
     → any (is_giving h) moves ≡ false
 ungiven-on h s [] path fresh = refl
 ungiven-on h s (m ∷ moves) path fresh =
-    let step : Hands s.handles m.0 m.1.handles = hands s m path.0 in
+    let step : Hands s.world.handles m.0 m.1.world.handles = hands s m path.0 in
     or_false (is_giving h m.0) (any (is_giving h) moves)
     (elim (either (is_giving h m.0)) [
-      | inl giving ↦ absurd (not_both ((end_of m.1 moves).handles.is_given h)
-          (stays-on h m.1 moves path.1 (gives-new h s.handles m.1.handles m.0 step giving).1) fresh)
+      | inl giving ↦ absurd (not_both ((end_of m.1 moves).world.handles.is_given h)
+          (stays-on h m.1 moves path.1 (gives-new h s.world.handles m.1.world.handles m.0 step giving).1) fresh)
       | inr none ↦ none
     ])
     (ungiven-on h m.1 moves path.1 fresh)
@@ -85,7 +88,7 @@ gives-once s moves path before behind who o h t is =
     let m : Move = (label.Do who o (answer.Handle h), t) in
     let parts = path_at s moves before (m ∷ behind) path is in
     let u : State = end_of s before in
-    let new = gives-new h u.handles t.handles m.0 (hands u m parts.1.0) (eq-eqb h h refl) in
+    let new = gives-new h u.world.handles t.world.handles m.0 (hands u m parts.1.0) (eq-eqb h h refl) in
     (ungiven-on h s before parts.0 new.0, given-on h t behind parts.1.1 new.1)
 
 -- A handle is given for what the order was about.
@@ -110,17 +113,17 @@ gives-right history s o h t keeps (changes_none plain after) = absurd plain
 gives-right history s o h t keeps (opens_one k x gives fresh finds after) =
     let same : k ≡ h = cc in record {
       thing = x;
-      names = ap (λ (y : View). thing_at h y.handles) after ∙ ap (λ (n : ℕ). thing_at h (opened n x s.handles)) same
-          ∙ same_more h x s.handles.live;
+      names = ap (λ (y : View). thing_at h y.handles) after ∙ ap (λ (n : ℕ). thing_at h (opened n x s.world.handles)) same
+          ∙ same_more h x s.world.handles.live;
       about = inl finds;
     }
 gives-right history s o h t keeps (registers_one k r b gives fresh room asks after) =
     let same : k ≡ h = cc in
-    let new : Thing = thing.Callback s.callbacks.next in
-    let told = tells_registered s.callbacks r b keeps.sound in record {
+    let new : Thing = thing.Callback s.world.callbacks.next in
+    let told = tells_registered s.world.callbacks r b keeps.sound in record {
       thing = new;
-      names = ap (λ (y : View). thing_at h y.handles) after ∙ ap (λ (n : ℕ). thing_at h (opened n new s.handles)) same
-          ∙ same_more h new s.handles.live;
+      names = ap (λ (y : View). thing_at h y.handles) after ∙ ap (λ (n : ℕ). thing_at h (opened n new s.world.handles)) same
+          ∙ same_more h new s.world.handles.live;
       about = inr (record {
         reason = asks.reason;
         watched = asks.watched;
@@ -133,9 +136,9 @@ gives-right history s o h t keeps (registers_one k r b gives fresh room asks aft
         watches = asks.watches;
         found = asks.found;
         names = refl;
-        info = ap (λ (y : View). info_of s.callbacks.next y.callbacks) after ∙ told.0 ∙ ap (λ (x : _). Some x) asks.is
+        info = ap (λ (y : View). info_of s.world.callbacks.next y.callbacks) after ∙ told.0 ∙ ap (λ (x : _). Some x) asks.is
             ∙ ap (λ (n : ℕ). Some (registration_of asks.reason asks.object asks.watched asks.time asks.number n)) same;
-        is_called = ap (λ (y : View). body_of s.callbacks.next y.callbacks) after ∙ told.1;
+        is_called = ap (λ (y : View). body_of s.world.callbacks.next y.callbacks) after ∙ told.1;
       });
     }
 gives-right history s o h t keeps (removes_one c k by one names after) = absurd (cc)
@@ -149,16 +152,16 @@ gives-live s moves path keeps before behind who o h t is =
     gives-right before u o h t there (answered-by u who o (answer.Handle h) (view_of t) (made-works u m parts.1.0)).changes
 
 -- A live handle names the same thing.
-still-by : (h : ℕ) (s t : State) (moves : List Move) → IsPath s moves → NumbersRise 0 s.handles.live → s.handles.is_given h ≡ true
-    → is_some (thing_at h (end_of s moves).handles) ≡ true → thing_at h (end_of s moves).handles ≡ thing_at h s.handles
+still-by : (h : ℕ) (s t : State) (moves : List Move) → IsPath s moves → NumbersRise 0 s.world.handles.live → s.world.handles.is_given h ≡ true
+    → is_some (thing_at h (end_of s moves).world.handles) ≡ true → thing_at h (end_of s moves).world.handles ≡ thing_at h s.world.handles
 still-by h s t [] path climb given alive = refl
 still-by h s t (m ∷ moves) path climb given alive =
-    let step : Hands s.handles m.0 m.1.handles = hands s m path.0 in
-    let more : m.1.handles.is_given h ≡ true = stays-given h s.handles m.1.handles m.0 step given in
-    let rise : NumbersRise 0 m.1.handles.live = stays-climbing s.handles m.1.handles m.0 step climb in
+    let step : Hands s.world.handles m.0 m.1.world.handles = hands s m path.0 in
+    let more : m.1.world.handles.is_given h ≡ true = stays-given h s.world.handles m.1.world.handles m.0 step given in
+    let rise : NumbersRise 0 m.1.world.handles.live = stays-climbing s.world.handles m.1.world.handles m.0 step climb in
     let rest = still-by h m.1 t moves path.1 rise more alive in
-    elim (names-still h s.handles m.1.handles m.0 step climb given) [
-      | inl gone ↦ absurd (not_both (is_some (thing_at h (end_of m.1 moves).handles)) alive
+    elim (names-still h s.world.handles m.1.world.handles m.0 step climb given) [
+      | inl gone ↦ absurd (not_both (is_some (thing_at h (end_of m.1 moves).world.handles)) alive
           (ap (λ (o : Option Thing). is_some o) (rest ∙ gone)))
       | inr same ↦ rest ∙ same
     ]
@@ -169,10 +172,10 @@ names-one s moves path keeps before mid behind who o h t is alive =
     let parts = path_at s moves before ((m ∷ mid) ++ behind) path (is ∙ append_assoc before (m ∷ mid) behind) in
     let u : State = end_of s before in
     let there : Keeps before (view_of u) = keeps-on [] s before parts.0 keeps in
-    let step : Hands u.handles m.0 t.handles = hands u m parts.1.0 in
+    let step : Hands u.world.handles m.0 t.world.handles = hands u m parts.1.0 in
     let halves = path_split t mid behind parts.1.1 in
-    still-by h t t mid halves.0 (stays-climbing u.handles t.handles m.0 step there.climbs)
-    (gives-new h u.handles t.handles m.0 step (eq-eqb h h refl)).1 alive
+    still-by h t t mid halves.0 (stays-climbing u.world.handles t.world.handles m.0 step there.climbs)
+    (gives-new h u.world.handles t.world.handles m.0 step (eq-eqb h h refl)).1 alive
 
 -- A handle is freed by a removal.
 lost-thing : (h : ℕ) (a b : Handles) → is_some (thing_at h a) ≡ true → thing_at h b ≡ None → b ≡ a → ⊥
@@ -193,31 +196,31 @@ freed-same true h k a is alive gone = eqb-true h k is
 freed-same false h k a is alive gone =
     absurd (not_both (is_some (thing_at h a)) alive (ap (λ (o : Option Thing). is_some o) (sym (other_less h k a.live is) ∙ gone)))
 
-works-free : (s : State) (l : Label) (w : View) (h : ℕ) → Works s l w → is_some (thing_at h s.handles) ≡ true → thing_at h w.handles ≡ None
+works-free : (s : State) (l : Label) (w : View) (h : ℕ) → Works s l w → is_some (thing_at h s.world.handles) ≡ true → thing_at h w.handles ≡ None
     → (who : Who) × (l ≡ label.Do who (order.Remove (Some h)) (answer.Number 1))
 works-free s l w h (works_none quiet is) alive gone =
-    absurd (lost-thing h s.handles w.handles alive gone (ap (λ (x : View). x.handles) is))
+    absurd (lost-thing h s.world.handles w.handles alive gone (ap (λ (x : View). x.handles) is))
 works-free s l w h (empties quiet is) alive gone =
-    absurd (lost-thing h s.handles w.handles alive gone (ap (λ (x : View). x.handles) is))
+    absurd (lost-thing h s.world.handles w.handles alive gone (ap (λ (x : View). x.handles) is))
 works-free s l w h (orders_one who o a is (changes_none plain after)) alive gone =
-    absurd (lost-thing h s.handles w.handles alive gone (ap (λ (x : View). x.handles) after))
+    absurd (lost-thing h s.world.handles w.handles alive gone (ap (λ (x : View). x.handles) after))
 works-free s l w h (orders_one who o a is (opens_one k x gives fresh finds after)) alive gone =
-    absurd (opened-stays (nat_eq h k) h k x s.handles refl alive (ap (λ (y : View). thing_at h y.handles) (sym after) ∙ gone))
+    absurd (opened-stays (nat_eq h k) h k x s.world.handles refl alive (ap (λ (y : View). thing_at h y.handles) (sym after) ∙ gone))
 works-free s l w h (orders_one who o a is (registers_one k r b gives fresh room asks after)) alive gone =
-    absurd (opened-stays (nat_eq h k) h k (thing.Callback s.callbacks.next) s.handles refl alive
+    absurd (opened-stays (nat_eq h k) h k (thing.Callback s.world.callbacks.next) s.world.handles refl alive
     (ap (λ (y : View). thing_at h y.handles) (sym after) ∙ gone))
 works-free s l w h (orders_one who o a is (removes_one c k by one names after)) alive gone =
-    let same : h ≡ k = freed-same (nat_eq h k) h k s.handles refl alive (ap (λ (y : View). thing_at h y.handles) (sym after) ∙ gone) in (
+    let same : h ≡ k = freed-same (nat_eq h k) h k s.world.handles refl alive (ap (λ (y : View). thing_at h y.handles) (sym after) ∙ gone) in (
       who,
       is ∙ ap (λ (x : Order). label.Do who x a) by ∙ ap (λ (x : ℕ). label.Do who (order.Remove (Some x)) a) (sym same)
           ∙ ap (λ (x : Answer). label.Do who (order.Remove (Some h)) x) one,
     )
 works-free s l w h (tells_one n what is number after) alive gone =
-    absurd (lost-thing h s.handles w.handles alive gone (ap (λ (x : View). x.handles) after))
+    absurd (lost-thing h s.world.handles w.handles alive gone (ap (λ (x : View). x.handles) after))
 works-free s l w h (fires_one n c f rest is on number among after) alive gone =
-    absurd (lost-thing h s.handles w.handles alive gone (ap (λ (x : View). x.handles) after))
+    absurd (lost-thing h s.world.handles w.handles alive gone (ap (λ (x : View). x.handles) after))
 works-free s l w h (closes_one n f rest is on number none after) alive gone =
-    absurd (lost-thing h s.handles w.handles alive gone (ap (λ (x : View). x.handles) after))
+    absurd (lost-thing h s.world.handles w.handles alive gone (ap (λ (x : View). x.handles) after))
 
 freed-by-removal : (s : State) (moves : List Move) → IsPath s moves → FreedByRemoval s moves
 freed-by-removal s moves path before behind m h is alive gone =
@@ -232,22 +235,26 @@ removal-frees s moves path keeps before behind who h t is =
     let u : State = end_of s before in
     let there : Keeps before (view_of u) = keeps-on [] s before parts.0 keeps in
     let from : RemovedFrom u h (view_of t) = removed-from u m.0 (view_of t) who h refl (made-works u m parts.1.0) in
-    ap (λ (x : Handles). thing_at h x) from.handles ∙ freed-none h u.handles there.climbs
+    ap (λ (x : Handles). thing_at h x) from.handles ∙ freed-none h u.world.handles there.climbs
+
+-- The world in which an order of the activation on top is performed.
+abbrev performing : List (List Answer) → State → World
+performing vars s = (with_variables vars (without_top s)).world
 
 -- What an order is answered, by the handles that it reads.
 record OrderedFrom (s : State) (who : Who) (o : Order) (a : Answer) : Type 0 where
   given : Given
   vars : List (List Answer)
-  is : a ≡ (answered (effect_of o who (with_variables vars (without_top s))) (with_variables vars (without_top s)) given).0
+  is : a ≡ (answered (effect_of o who (performing vars s)) (performing vars s) given).0
 
 acting-answers : (s u : State) (act : Activation) (g : Given) (who : Who) (o : Order) (a : Answer)
     → IsActing act (without_top s) g (label.Do who o a, u) → OrderedFrom s who o a
 acting-answers s u act g who o a (returns vars is) = absurd (let d = ap (λ (m : Move). deed_of m.0) is in cc)
-acting-answers s u act g who o a (orders vars p further t silent kept is) =
+acting-answers s u act g who o a (orders vars p further is) =
     let told = ap (λ (m : Move). m.0) is in
     let same_who : act.who ≡ who = cc in
     let same_order : p ≡ o = cc in
-    let r : State = with_variables vars (without_top s) in
+    let r : World = performing vars s in
     let same_answer : a ≡ (answered (effect_of p act.who r) r g).0 = cc in record {
       given = g;
       vars = vars;
@@ -261,7 +268,7 @@ ordered-from s t who o a made =
     let row : Acts s (label.Do who o a) table.before = table.row in
     acting-answers s table.before row.who row.given who o a
     (subst (λ (m : Move). IsActing row.who (without_top s) row.given m) row.makes
-    (acts (slice_get s.scripts row.who.script) (slice_get s.variables row.who.script) row.who (without_top s) row.given))
+    (acts (slice_get s.world.scripts row.who.script) (slice_get s.world.variables row.who.script) row.who (without_top s) row.given))
 
 -- An effect that isn't refused with E1.
 abbrev NotE1 : Effect → Type 0
@@ -270,14 +277,18 @@ NotE1 e = e ≡ Err code.E1 → ⊥
 object-found : (t : Option Thing) (c : Code) → is_some t ≡ true → object_in t ≡ Err c → c ≡ code.E1 → ⊥
 object-found None c there is one = absurd (cc)
 object-found (Some (thing.Object o)) c there is one = absurd (cc)
+object-found (Some (thing.Iterator r from at count)) c there is one = absurd (cc)
 object-found (Some (thing.Callback d)) c there is one = absurd (cc)
+object-found (Some (thing.Event serial)) c there is one = absurd (cc)
 
 callback-found : (t : Option Thing) (c : Code) → is_some t ≡ true → callback_in t ≡ Err c → c ≡ code.E1 → ⊥
 callback-found None c there is one = absurd (cc)
 callback-found (Some (thing.Object o)) c there is one = absurd (cc)
+callback-found (Some (thing.Iterator r from at count)) c there is one = absurd (cc)
 callback-found (Some (thing.Callback d)) c there is one = absurd (cc)
+callback-found (Some (thing.Event serial)) c there is one = absurd (cc)
 
-meant-found : (scope : Option ℕ) (text : List ℕ) (s : State) (c : Code) → all_named s (handle_or_null true scope) ≡ true
+meant-found : (scope : Option ℕ) (text : List ℕ) (s : World) (c : Code) → all_named s (handle_or_null true scope) ≡ true
     → name_meant scope text s ≡ Err c → c ≡ code.E1 → ⊥
 meant-found None text s c named is one = absurd (cc)
 meant-found (Some h) text s c named is one =
@@ -287,7 +298,7 @@ meant-found (Some h) text s c named is one =
     (λ _ same. absurd (let two : code.E2 ≡ code.E1 = (let e_is : code.E2 ≡ c = cc in e_is ∙ one) in cc))
     (λ _ same. absurd (cc))) is
 
-watched-found : (needs : Bool) (h : Option ℕ) (s : State) (c : Code) → all_named s (handle_if needs h) ≡ true
+watched-found : (needs : Bool) (h : Option ℕ) (s : World) (c : Code) → all_named s (handle_if needs h) ≡ true
     → object_watched needs h s ≡ Err c → c ≡ code.E1 → ⊥
 watched-found false h s c named is one = absurd (cc)
 watched-found true None s c named is one = absurd (cc)
@@ -330,18 +341,18 @@ no-E10 is = absurd (cc)
 no-E11 : NotE1 (Err code.E11)
 no-E11 is = absurd (cc)
 
-not_yet-found : (o : Order) (w : Who) (s : State) → all_named s (handles_read o) ≡ true → NotE1 (not_yet o w s)
+not_yet-found : (o : Order) (w : Who) (s : World) → all_named s (handles_read o) ≡ true → NotE1 (not_yet o w s)
 not_yet-found o w s named =
     unless-holds NotE1 (is_startup w) code.E9 _ (λ _. no-E9)
     (λ _. unless-holds NotE1 (not (all_named s (handles_read o))) code.E1 _
     (λ unnamed. absurd (let wrong : not true ≡ true = ap (λ (b : Bool). not b) (sym named) ∙ unnamed in cc)) (λ _. no-E9))
 
-new_handle-found : (i : Option ℕ) (s : State) → NotE1 (new_handle i s)
+new_handle-found : (i : Option ℕ) (s : World) → NotE1 (new_handle i s)
 new_handle-found None s = λ is. absurd (cc)
 new_handle-found (Some id) s =
     unless-holds NotE1 (no_handle_more s.handles) code.E10 _ (λ _. no-E10) (λ _ is. absurd (cc))
 
-by_name-found : (text : List ℕ) (scope : Option ℕ) (w : Who) (s : State) → all_named s (handle_or_null true scope) ≡ true
+by_name-found : (text : List ℕ) (scope : Option ℕ) (w : Who) (s : World) → all_named s (handle_or_null true scope) ≡ true
     → NotE1 (effect_of (order.ByName text scope) w s)
 by_name-found text scope w s named =
     unless-holds NotE1 (is_startup w) code.E9 _ (λ _. no-E9)
@@ -349,7 +360,7 @@ by_name-found text scope w s named =
     (λ c is. E1-apart c (meant-found scope text s c named is))
     (λ name _. new_handle-found (object_named name s.names) s))
 
-register-found : (r : Reason) (h : Option ℕ) (time : ℕ) (body : BodyName) (n : ℕ) (w : Who) (s : State)
+register-found : (r : Reason) (h : Option ℕ) (time : ℕ) (body : BodyName) (n : ℕ) (w : Who) (s : World)
     → all_named s (handle_if (needs_object r) h) ≡ true → NotE1 (effect_of (order.Register r h time body n) w s)
 register-found r h time body n w s named =
     unless-holds NotE1 (is_startup w && needs_object r) code.E9 _ (λ _. no-E9)
@@ -361,14 +372,14 @@ register-found r h time body n w s named =
     (λ b _. unless-holds NotE1 (no_callback_more s.callbacks) code.E11 _ (λ _. no-E11)
     (λ _. unless-holds NotE1 (no_handle_more s.handles) code.E10 _ (λ _. no-E10) (λ _ is. absurd (cc)))))))
 
-remove-found : (h : Option ℕ) (w : Who) (s : State) → all_named s (h ∷ []) ≡ true → NotE1 (effect_of (order.Remove h) w s)
+remove-found : (h : Option ℕ) (w : Who) (s : World) → all_named s (h ∷ []) ≡ true → NotE1 (effect_of (order.Remove h) w s)
 remove-found None w s named = absurd (cc)
 remove-found (Some h) w s named =
     unless-holds NotE1 (is_startup w) code.E9 _ (λ _. no-E9)
     (λ _. with_ok-holds NotE1 (callback_in (thing_at h s.handles)) _
     (λ c is. E1-apart c (callback-found (thing_at h s.handles) c named is)) (λ c _ is. absurd (cc)))
 
-effect-found : (o : Order) (w : Who) (s : State) → all_named s (handles_read o) ≡ true → NotE1 (effect_of o w s)
+effect-found : (o : Order) (w : Who) (s : World) → all_named s (handles_read o) ≡ true → NotE1 (effect_of o w s)
 effect-found (order.ByName text scope) w s named = by_name-found text scope w s named
 effect-found (order.ByIndex h n) w s named = not_yet-found (order.ByIndex h n) w s named
 effect-found (order.Handle r h) w s named = not_yet-found (order.Handle r h) w s named
@@ -396,7 +407,7 @@ effect-found order.Pass w s named = not_yet-found order.Pass w s named
 effect-found order.Return w s named = not_yet-found order.Return w s named
 
 -- An answer E1 is a refusal.
-answered-E1 : (o : Order) (s : State) (g : Given) (e : Effect) → IsForm o s e → (answered e s g).0 ≡ answer.Refused code.E1
+answered-E1 : (o : Order) (s : World) (g : Given) (e : Effect) → IsForm o s e → (answered e s g).0 ≡ answer.Refused code.E1
     → e ≡ Err code.E1
 answered-E1 o s g e (refuses c is) one =
     let there : answer.Refused c ≡ answer.Refused code.E1 = ap (λ (x : Effect). (answered x s g).0) (sym is) ∙ one in
@@ -413,23 +424,23 @@ answered-E1 o s g e (removes c h by names is) one =
     absurd (let there : answer.Number 1 ≡ answer.Refused code.E1 = ap (λ (x : Effect). (answered x s g).0) (sym is) ∙ one in cc)
 
 -- Orders are performed with the handles of the state before.
-same-is_named : (vars : List (List Answer)) (s : State) (h : Option ℕ) → is_named (with_variables vars (without_top s)) h ≡ is_named s h
+same-is_named : (vars : List (List Answer)) (s : State) (h : Option ℕ) → is_named (performing vars s) h ≡ is_named s.world h
 same-is_named vars s None = refl
 same-is_named vars s (Some h) = refl
 
 same-named : (vars : List (List Answer)) (s : State) (hs : List (Option ℕ))
-    → all_named (with_variables vars (without_top s)) hs ≡ all_named s hs
+    → all_named (performing vars s) hs ≡ all_named s.world hs
 same-named vars s [] = refl
 same-named vars s (h ∷ hs) =
-    ap (λ (b : Bool). b && is_named (with_variables vars (without_top s)) h) (same-named vars s hs)
-    ∙ ap (λ (b : Bool). all_named s hs && b) (same-is_named vars s h)
+    ap (λ (b : Bool). b && is_named (performing vars s) h) (same-named vars s hs)
+    ∙ ap (λ (b : Bool). all_named s.world hs && b) (same-is_named vars s h)
 
 finds-live : (s : State) (moves : List Move) → IsPath s moves → FindsLive s moves
 finds-live s moves path before behind who o a t is named one =
     let parts = path_at s moves before ((label.Do who o a, t) ∷ behind) path is in
     let u : State = end_of s before in
     let from : OrderedFrom u who o a = ordered-from u t who o a parts.1.0 in
-    let r : State = with_variables from.vars (without_top u) in
+    let r : World = performing from.vars u in
     effect-found o who r (same-named from.vars u (handles_read o) ∙ named)
     (answered-E1 o r from.given (effect_of o who r) (effect-form o who r) (sym from.is ∙ one))
 
@@ -450,20 +461,20 @@ unnamed-by true b all here some first rest = dead-by here all (first refl)
 unnamed-by false b true here some first rest = absurd (let no = rest some in cc)
 unnamed-by false b false here some first rest = refl
 
-unnamed-one : (h : ℕ) (x : Option ℕ) (s : State) → is_handle h x ≡ true → thing_at h s.handles ≡ None → is_named s x ≡ false
+unnamed-one : (h : ℕ) (x : Option ℕ) (s : World) → is_handle h x ≡ true → thing_at h s.handles ≡ None → is_named s x ≡ false
 unnamed-one h None s is gone = refl
 unnamed-one h (Some k) s is gone =
     let same : h ≡ k = eqb-true h k is in
     ap (λ (n : ℕ). is_some (thing_at n s.handles)) (sym same) ∙ ap (λ (o : Option Thing). is_some o) gone
 
-unnamed : (h : ℕ) (hs : List (Option ℕ)) (s : State) → list_any (is_handle h) hs ≡ true → thing_at h s.handles ≡ None
+unnamed : (h : ℕ) (hs : List (Option ℕ)) (s : World) → list_any (is_handle h) hs ≡ true → thing_at h s.handles ≡ None
     → all_named s hs ≡ false
 unnamed h [] s is gone = absurd (cc)
 unnamed h (x ∷ hs) s is gone =
     unnamed-by (is_handle h x) (list_any (is_handle h) hs) (all_named s hs) (is_named s x) is
     (λ here. unnamed-one h x s here gone) (λ there. unnamed h hs s there gone)
 
-not_yet-refused : (o : Order) (w : Who) (s : State) (h : ℕ) → reads h o ≡ true → thing_at h s.handles ≡ None → RefusedBy w (not_yet o w s)
+not_yet-refused : (o : Order) (w : Who) (s : World) (h : ℕ) → reads h o ≡ true → thing_at h s.handles ≡ None → RefusedBy w (not_yet o w s)
 not_yet-refused o w s h is gone =
     unless-holds (RefusedBy w) (is_startup w) code.E9 _ (λ early. inr (early, refl))
     (λ _. unless-holds (RefusedBy w) (not (all_named s (handles_read o))) code.E1 _ (λ _. inl refl)
@@ -476,7 +487,7 @@ read-by false is = absurd (cc)
 read-one : (h k : ℕ) → (nat_eq h k || false) ≡ true → h ≡ k
 read-one h k is = eqb-true h k (read-by (nat_eq h k) is)
 
-by_name-refused : (text : List ℕ) (scope : Option ℕ) (w : Who) (s : State) (h : ℕ) → reads h (order.ByName text scope) ≡ true
+by_name-refused : (text : List ℕ) (scope : Option ℕ) (w : Who) (s : World) (h : ℕ) → reads h (order.ByName text scope) ≡ true
     → thing_at h s.handles ≡ None → RefusedBy w (effect_of (order.ByName text scope) w s)
 by_name-refused text None w s h is gone = absurd (cc)
 by_name-refused text (Some k) w s h is gone =
@@ -485,7 +496,7 @@ by_name-refused text (Some k) w s h is gone =
     (λ _. inl (with_ok-Err (name_meant (Some k) text s) code.E1 _
     (with_ok-Err (object_in (thing_at k s.handles)) code.E1 _ (ap object_in none))))
 
-remove-refused : (x : Option ℕ) (w : Who) (s : State) (h : ℕ) → reads h (order.Remove x) ≡ true → thing_at h s.handles ≡ None
+remove-refused : (x : Option ℕ) (w : Who) (s : World) (h : ℕ) → reads h (order.Remove x) ≡ true → thing_at h s.handles ≡ None
     → RefusedBy w (effect_of (order.Remove x) w s)
 remove-refused None w s h is gone = absurd (cc)
 remove-refused (Some k) w s h is gone =
@@ -507,7 +518,7 @@ no-entry reason.CbEndOfCompile needs = absurd (cc)
 no-entry reason.CbStartOfSimulation needs = absurd (cc)
 no-entry reason.CbEndOfSimulation needs = absurd (cc)
 
-watched-none : (needs : Bool) (x : Option ℕ) (s : State) (h : ℕ) → list_any (is_handle h) (handle_if needs x) ≡ true
+watched-none : (needs : Bool) (x : Option ℕ) (s : World) (h : ℕ) → list_any (is_handle h) (handle_if needs x) ≡ true
     → thing_at h s.handles ≡ None → (needs ≡ true) × (object_watched needs x s ≡ Err code.E1)
 watched-none false x s h is gone = absurd (cc)
 watched-none true None s h is gone = absurd (cc)
@@ -515,7 +526,7 @@ watched-none true (Some k) s h is gone =
     let none : thing_at k s.handles ≡ None = ap (λ (n : ℕ). thing_at n s.handles) (sym (read-one h k is)) ∙ gone in
     (refl, with_ok-Err (object_in (thing_at k s.handles)) code.E1 _ (ap object_in none))
 
-register-refused : (r : Reason) (x : Option ℕ) (time : ℕ) (body : BodyName) (n : ℕ) (w : Who) (s : State) (h : ℕ)
+register-refused : (r : Reason) (x : Option ℕ) (time : ℕ) (body : BodyName) (n : ℕ) (w : Who) (s : World) (h : ℕ)
     → reads h (order.Register r x time body n) ≡ true → thing_at h s.handles ≡ None
     → RefusedBy w (effect_of (order.Register r x time body n) w s)
 register-refused r x time body n w s h is gone =
@@ -526,7 +537,7 @@ register-refused r x time body n w s h is gone =
     (λ entry. absurd (not_both (needs_entry r) entry (no-entry r watched.0)))
     (λ _. inl (with_ok-Err (object_watched (needs_object r) x s) code.E1 _ watched.1)))
 
-effect-refused : (o : Order) (w : Who) (s : State) (h : ℕ) → reads h o ≡ true → thing_at h s.handles ≡ None → RefusedBy w (effect_of o w s)
+effect-refused : (o : Order) (w : Who) (s : World) (h : ℕ) → reads h o ≡ true → thing_at h s.handles ≡ None → RefusedBy w (effect_of o w s)
 effect-refused (order.ByName text scope) w s h is gone = by_name-refused text scope w s h is gone
 effect-refused (order.ByIndex x n) w s h is gone = not_yet-refused (order.ByIndex x n) w s h is gone
 effect-refused (order.Handle r x) w s h is gone = not_yet-refused (order.Handle r x) w s h is gone
@@ -553,14 +564,14 @@ effect-refused order.Pass w s h is gone = absurd (cc)
 effect-refused order.Return w s h is gone = absurd (cc)
 
 -- A handle that was freed stays so.
-gone-along : (h : ℕ) (s : State) (moves : List Move) → IsPath s moves → NumbersRise 0 s.handles.live → s.handles.is_given h ≡ true
-    → thing_at h s.handles ≡ None → thing_at h (end_of s moves).handles ≡ None
+gone-along : (h : ℕ) (s : State) (moves : List Move) → IsPath s moves → NumbersRise 0 s.world.handles.live → s.world.handles.is_given h ≡ true
+    → thing_at h s.world.handles ≡ None → thing_at h (end_of s moves).world.handles ≡ None
 gone-along h s [] path climb given gone = gone
 gone-along h s (m ∷ moves) path climb given gone =
-    let step : Hands s.handles m.0 m.1.handles = hands s m path.0 in
-    gone-along h m.1 moves path.1 (stays-climbing s.handles m.1.handles m.0 step climb)
-    (stays-given h s.handles m.1.handles m.0 step given)
-    (elim (names-still h s.handles m.1.handles m.0 step climb given) [ inl none ↦ none | inr same ↦ same ∙ gone ])
+    let step : Hands s.world.handles m.0 m.1.world.handles = hands s m path.0 in
+    gone-along h m.1 moves path.1 (stays-climbing s.world.handles m.1.world.handles m.0 step climb)
+    (stays-given h s.world.handles m.1.world.handles m.0 step given)
+    (elim (names-still h s.world.handles m.1.world.handles m.0 step climb given) [ inl none ↦ none | inr same ↦ same ∙ gone ])
 
 stays-freed : (s : State) (moves : List Move) → IsPath s moves → Keeps [] (view_of s) → StaysFreed s moves
 stays-freed s moves path keeps before mid behind who o a t h is given gone read =
@@ -570,9 +581,9 @@ stays-freed s moves path keeps before mid behind who o a t h is given gone read 
     let there : Keeps before (view_of u) = keeps-on [] s before parts.0 keeps in
     let halves = path_split u mid (m ∷ behind) parts.1 in
     let v : State = end_of u mid in
-    let dead : thing_at h v.handles ≡ None = gone-along h u mid halves.0 there.climbs given gone in
+    let dead : thing_at h v.world.handles ≡ None = gone-along h u mid halves.0 there.climbs given gone in
     let from : OrderedFrom v who o a = ordered-from v t who o a halves.1.0 in
-    let r : State = with_variables from.vars (without_top v) in
+    let r : World = performing from.vars v in
     elim (effect-refused o who r h read dead) [
       | inl one ↦ inl (from.is ∙ ap (λ (x : Effect). (answered x r from.given).0) one)
       | inr early ↦ inr (early.0, from.is ∙ ap (λ (x : Effect). (answered x r from.given).0) early.1)

@@ -14,13 +14,14 @@ use Rattle.vh_app.specs.declared.command.Form.TheVariants as form
 use Rattle.vh_app.specs.declared.command.Source.TheVariants as source
 use Rattle.vh_app.specs.Script.{ScriptData}
 use Rattle.vh_callbacks.specs.Callbacks.{is_live}
-use Rattle.vh_kernel.specs.declared.activation.Who.TheVariants as who_is
-use Rattle.vh_kernel.specs.declared.handles.Thing.TheVariants as thing
+use Rattle.vh_orders.specs.declared.who.Who.TheVariants as who_is
+use Rattle.vh_handles.specs.declared.handles.Thing.TheVariants as thing
 use Rattle.vh_kernel.specs.declared.label.Label.{Label}
 use Rattle.vh_kernel.specs.declared.label.Label.TheVariants as label
-use Rattle.vh_kernel.specs.declared.occurrence.Frame.{Frame}
-use Rattle.vh_kernel.specs.Handles.{thing_at, opened}
-use Rattle.vh_kernel.specs.Names.{whole}
+use Rattle.vh_callbacks.specs.Marks.{is_among}
+use Rattle.vh_laws.specs.Firing.{Frame}
+use Rattle.vh_handles.specs.Handles.{Handles, thing_at, opened}
+use Rattle.vh_orders.specs.Names.{whole}
 use Rattle.vh_kernel.specs.Occurrences.{Occurrence, set_of}
 use Rattle.vh_kernel.specs.Outcome.{Move}
 use Rattle.vh_kernel.specs.Run.{fifo, moves_of}
@@ -28,7 +29,7 @@ use Rattle.vh_kernel.specs.Settle.{opening}
 use Rattle.vh_kernel.specs.State.{State}
 use Rattle.vh_laws.specs.Firing.{frames_of, IsTelling, TellsOnce, WasTold, FiresOnce, LeavesNone, DoneOnce, IsRemoval, RemovesForGood}
 use Rattle.vh_laws.specs.HandleLaw.{GivesOnce, GivesLive, GivesRight, FindsLive, RemovalFrees, StaysFreed}
-use Rattle.vh_laws.specs.Paths.{is_among, is_told, is_fire, is_fire_of, is_done, any, was_removed, end_of}
+use Rattle.vh_laws.specs.Paths.{is_told, is_fire, is_fire_of, is_done, any, was_removed, end_of}
 use Rattle.vh_laws.proofs.Splits.{not_both, or_left, or_right}
 
 -- module top; reg r; initial begin #1 r = 0; #1 r = 1; end endmodule
@@ -132,9 +133,9 @@ fires_what_came_later t once law =
     let same : told.move ≡ here =
     tells-apart (is_told 2) told.front (up_to 16) told.move here (told.rest ++ (label.Fire 2 5, t) ∷ from 22)
     (drop 17 (up_to 22) ++ (label.Fire 2 5, t) ∷ from 22) (sym whole_list) is refl later refl in
-    let frame : slice_get (frames_of here.1.control) 0 ≡ Some (record { number = 2; what = told.what; left = set_of told.what told.move.1.callbacks }) =
-    ap (λ (m : Move). slice_get (frames_of m.1.control) 0) (sym same) ∙ told.tells.frame in
-    let left : Some (set_of told.what told.move.1.callbacks) ≡ Some (2 ∷ 3 ∷ 4 ∷ []) =
+    let frame : slice_get (frames_of here.1) 0 ≡ Some (record { number = 2; what = told.what; left = set_of told.what told.move.1.world.callbacks }) =
+    ap (λ (m : Move). slice_get (frames_of m.1) 0) (sym same) ∙ told.tells.frame in
+    let left : Some (set_of told.what told.move.1.world.callbacks) ≡ Some (2 ∷ 3 ∷ 4 ∷ []) =
     ap (λ (o : Option Frame). option_map (λ f. f.left) o) (sym frame) in
     let among : is_among 5 (2 ∷ 3 ∷ 4 ∷ []) ≡ true =
     ap (λ (o : Option (List ℕ)). is_among 5 (unwrap_or o [])) (sym left) ∙ told.among in
@@ -147,10 +148,10 @@ change = record { reason = reason.CbValueChange; object = Some (whole 1); value 
 abbrev told_state : State
 told_state = unwrap_or (option_map (λ m. m.1) (slice_get (moves_of fifo 17 start) 16)) start
 
-tells_two : slice_get (frames_of told_state.control) 0 ≡ Some (record { number = 2; what = change; left = 2 ∷ 3 ∷ 4 ∷ [] })
+tells_two : slice_get (frames_of told_state) 0 ≡ Some (record { number = 2; what = change; left = 2 ∷ 3 ∷ 4 ∷ [] })
 tells_two = refl
 
-set_is : set_of change told_state.callbacks ≡ 2 ∷ 3 ∷ 4 ∷ []
+set_is : set_of change told_state.world.callbacks ≡ 2 ∷ 3 ∷ 4 ∷ []
 set_is = refl
 
 -- Callback 4 doesn't fire.
@@ -188,22 +189,26 @@ fires_removed t law =
 -- An answered removal that removes nothing.
 removes_nothing : RemovesForGood start (up_to 18 ++ removal (state_at 17) ∷ []) → ⊥
 removes_nothing law =
-    not_both (is_live 3 (state_at 17).callbacks) refl
+    not_both (is_live 3 (state_at 17).world.callbacks) refl
     (law (up_to 18) [] (removal (state_at 17)) 3 refl (removes_three (state_at 17))).dead
+
+-- The state with other handles.
+abbrev with_handles : Handles → State → State
+with_handles handles s = record s { world = record s.world { handles = handles } }
 
 -- One that frees the handle alone.
 frees_the_handle_alone :
-    RemovesForGood start (up_to 18 ++ removal (record (state_at 17) { handles = (state_at 18).handles }) ∷ []) → ⊥
+    RemovesForGood start (up_to 18 ++ removal (with_handles (state_at 18).world.handles (state_at 17)) ∷ []) → ⊥
 frees_the_handle_alone law =
-    not_both (is_live 3 (state_at 17).callbacks) refl
-    (law (up_to 18) [] (removal (record (state_at 17) { handles = (state_at 18).handles })) 3 refl
-    (removes_three (record (state_at 17) { handles = (state_at 18).handles }))).dead
+    not_both (is_live 3 (state_at 17).world.callbacks) refl
+    (law (up_to 18) [] (removal (with_handles (state_at 18).world.handles (state_at 17))) 3 refl
+    (removes_three (with_handles (state_at 18).world.handles (state_at 17)))).dead
 
 -- One that leaves the handle.
-leaves_the_handle : RemovalFrees (up_to 18 ++ removal (record (state_at 18) { handles = (state_at 17).handles }) ∷ []) → ⊥
+leaves_the_handle : RemovalFrees (up_to 18 ++ removal (with_handles (state_at 17).world.handles (state_at 18)) ∷ []) → ⊥
 leaves_the_handle law =
-    let gone : thing_at 3 (state_at 17).handles ≡ None =
-    law (up_to 18) [] (who_is.Callback 2) 3 (record (state_at 18) { handles = (state_at 17).handles }) refl in
+    let gone : thing_at 3 (state_at 17).world.handles ≡ None =
+    law (up_to 18) [] (who_is.Callback 2) 3 (with_handles (state_at 17).world.handles (state_at 18)) refl in
     absurd (cc)
 
 -- A handle that was freed is answered 1 again.
@@ -232,7 +237,7 @@ dead_when_given law =
 
 -- Its handle names callback 1.
 abbrev with_another : State
-with_another = record (state_at 6) { handles = opened 2 (thing.Callback 1) (state_at 5).handles }
+with_another = with_handles (opened 2 (thing.Callback 1) (state_at 5).world.handles) (state_at 6)
 
 names_another : GivesLive start (up_to 6 ++ registers_two with_another ∷ []) → ⊥
 names_another law =

@@ -1,19 +1,19 @@
 -- Every path from a fresh state keeps the laws, and so does every run.
 use Rattle.std.proofs.Common.{◌≡◌, ℕ, ◌<◌, List, [], ◌∷◌, None, slice_get, refl, sym, ap, subst, inl, inr}
-use Rattle.vh_callbacks.proofs.Rising.{sound_opening}
-use Rattle.vh_kernel.specs.declared.activation.Body.{Body}
-use Rattle.vh_kernel.specs.Handles.{Handles, thing_at}
+use Rattle.vh_callbacks.proofs.LawsLemmas.{sound_opening}
+use Rattle.vh_orders.specs.declared.who.Body.{Body}
+use Rattle.vh_handles.specs.Handles.{Handles, thing_at}
 use Rattle.vh_kernel.specs.Outcome.{Move}
 use Rattle.vh_kernel.specs.Run.{Chooser, fifo, chosen, chooser_after, IsRun}
 use Rattle.vh_kernel.specs.State.{State}
 use Rattle.vh_kernel.specs.Step.{choices_of, is_end}
 use Rattle.vh_kernel.proofs.StepLemmas.{some-choice, step-goes}
-use Rattle.vh_laws.specs.Firing.{frames_of}
+use Rattle.vh_laws.specs.Firing.{frames_in, frames_of}
 use Rattle.vh_laws.specs.Laws.{IsFresh, PathsKeepLaws, RunsKeepLaws, OpensFresh}
 use Rattle.vh_laws.specs.Paths.{IsPath}
 use Rattle.vh_laws.proofs.FiringLemmas.{Keeps, firing-law}
 use Rattle.vh_laws.proofs.HandleLawLemmas.{handle-law}
-use Rattle.vh_laws.proofs.HandlesLemmas.{NumbersRise}
+use Rattle.vh_handles.specs.Laws.{NumbersRise}
 use Rattle.vh_laws.proofs.SetsLemmas.{Falls}
 use Rattle.vh_laws.proofs.Splits.{either}
 use Rattle.vh_laws.proofs.Works.{view_of}
@@ -23,9 +23,9 @@ fresh-keeps : (s : State) → IsFresh s → Keeps [] (view_of s)
 fresh-keeps s fresh = record {
   sound = fresh.sound;
   climbs = subst (λ (h : Handles). NumbersRise 0 h.live) (sym fresh.none_given) tt;
-  names = λ h c at. absurd (let none : thing_at h s.handles ≡ None = ap (λ (x : Handles). thing_at h x) fresh.none_given in cc);
-  falls = subst (λ (xs : List _). Falls s.occurrence (frames_of xs)) (sym fresh.alone) tt;
-  stands = λ i f at. absurd (let none : slice_get (frames_of s.control) i ≡ None = ap (λ (xs : List _). slice_get (frames_of xs) i) fresh.alone in cc);
+  names = λ h c at. absurd (let none : thing_at h s.world.handles ≡ None = ap (λ (x : Handles). thing_at h x) fresh.none_given in cc);
+  falls = subst (λ (xs : List _). Falls s.occurrence (frames_in xs s.world.frames)) (sym fresh.alone) tt;
+  stands = λ i f at. absurd (let none : slice_get (frames_of s) i ≡ None = ap (λ (xs : List _). slice_get (frames_in xs s.world.frames) i) fresh.alone in cc);
   ahead = λ n above. record { undone = refl; unfired = λ c. refl };
 }
 

@@ -5,17 +5,17 @@ use Rattle.std.proofs.lemmas.Bool.{eqb-true, eq-eqb, and_parts}
 use Rattle.vh_base.specs.declared.orders.Answer.{Answer}
 use Rattle.vh_base.specs.declared.orders.Order.{Order}
 use Rattle.vh_callbacks.specs.Callbacks.{Callbacks, is_live, removed, IsSound}
-use Rattle.vh_kernel.specs.declared.activation.Body.{Body}
-use Rattle.vh_kernel.specs.declared.activation.Who.{Who}
+use Rattle.vh_orders.specs.declared.who.Body.{Body}
+use Rattle.vh_orders.specs.declared.who.Who.{Who}
 use Rattle.vh_kernel.specs.declared.label.Label.{Label}
 use Rattle.vh_kernel.specs.declared.label.Label.TheVariants as label
-use Rattle.vh_kernel.specs.declared.occurrence.Frame.{Frame}
-use Rattle.vh_kernel.specs.Numbers.{without_number}
+use Rattle.vh_laws.specs.Firing.{Frame}
+use Rattle.vh_callbacks.specs.Marks.{is_among, without_number}
 use Rattle.vh_kernel.specs.Occurrences.{Occurrence, set_of}
 use Rattle.vh_kernel.specs.Outcome.{Move}
 use Rattle.vh_kernel.specs.State.{State}
 use Rattle.vh_laws.specs.Firing.{frames_of, left_of}
-use Rattle.vh_laws.specs.Paths.{Deed, other, deed_of, fires_for, is_among, is_fire, any, was_removed, IsPath, end_of}
+use Rattle.vh_laws.specs.Paths.{Deed, other, deed_of, fires_for, is_fire, any, was_removed, IsPath, end_of}
 use Rattle.vh_laws.proofs.CallbacksLemmas.{works-turn, turns_sound, live_low, live_registered, live_removed, gone_removed}
 use Rattle.vh_laws.proofs.Splits.{not_both, or_right, or_left}
 use Rattle.vh_laws.proofs.Works.{View, view_of, taken_from, changes_none, opens_one, registers_one, removes_one, Works, works_none, empties, orders_one, tells_one, fires_one, closes_one}
@@ -93,11 +93,11 @@ four false false false gone = refl
 
 -- What is left after one label and more.
 pub left-more : (n : ℕ) (m : Move) (moves : List Move) (set : List ℕ)
-    → left_of n moves (left_by n m.0 m.1.callbacks set) ≡ left_of n (m ∷ moves) set
+    → left_of n moves (left_by n m.0 m.1.world.callbacks set) ≡ left_of n (m ∷ moves) set
 left-more n m moves set =
-    filter-both (λ c. not (any (is_fire n c) moves) && not (was_removed c moves)) (λ c. not (is_fire n c m.0) && is_live c m.1.callbacks) set
+    filter-both (λ c. not (any (is_fire n c) moves) && not (was_removed c moves)) (λ c. not (is_fire n c m.0) && is_live c m.1.world.callbacks) set
     ∙ ap (λ (p : ℕ → Bool). filter p set)
-    (fun_ext (λ c. sym (four (is_fire n c m.0) (any (is_fire n c) moves) (is_live c m.1.callbacks) (was_removed c moves))))
+    (fun_ext (λ c. sym (four (is_fire n c m.0) (any (is_fire n c) moves) (is_live c m.1.world.callbacks) (was_removed c moves))))
 
 -- The numbers of the frames fall from the top on, and are below this one.
 abbrev pub Falls : ℕ → List Frame → Type 0
@@ -119,7 +119,7 @@ falls-map : (c high : ℕ) (fs : List Frame) → Falls high fs → Falls high (m
 falls-map c high [] falls = tt
 falls-map c high (f ∷ fs) falls = (falls.0, falls-map c f.number fs falls.1)
 
-pub works-falls : (s : State) (l : Label) (w : View) → Works s l w → Falls s.occurrence (frames_of s.control) → Falls w.occurrence w.frames
+pub works-falls : (s : State) (l : Label) (w : View) → Works s l w → Falls s.occurrence (frames_of s) → Falls w.occurrence w.frames
 works-falls s l w (works_none quiet is) falls = subst (λ (x : View). Falls x.occurrence x.frames) (sym is) falls
 works-falls s l w (empties quiet is) falls = subst (λ (x : View). Falls x.occurrence x.frames) (sym is) tt
 works-falls s l w (orders_one who o a is (changes_none plain after)) falls = subst (λ (x : View). Falls x.occurrence x.frames) (sym after) falls
@@ -128,10 +128,10 @@ works-falls s l w (orders_one who o a is (opens_one h x gives fresh finds after)
 works-falls s l w (orders_one who o a is (registers_one h r b gives fresh room asks after)) falls =
     subst (λ (x : View). Falls x.occurrence x.frames) (sym after) falls
 works-falls s l w (orders_one who o a is (removes_one c h by one names after)) falls =
-    subst (λ (x : View). Falls x.occurrence x.frames) (sym after) (falls-map c s.occurrence (frames_of s.control) falls)
+    subst (λ (x : View). Falls x.occurrence x.frames) (sym after) (falls-map c s.occurrence (frames_of s) falls)
 works-falls s l w (tells_one n what is number after) falls =
     subst (λ (x : View). Falls x.occurrence x.frames) (sym after)
-    (omega arith, subst (λ (k : ℕ). Falls k (frames_of s.control)) (sym number) falls)
+    (omega arith, subst (λ (k : ℕ). Falls k (frames_of s)) (sym number) falls)
 works-falls s l w (fires_one n c f rest is on number among after) falls =
     let there : Falls s.occurrence (f ∷ rest) = subst (λ (fs : List Frame). Falls s.occurrence fs) on falls in
     subst (λ (x : View). Falls x.occurrence x.frames) (sym after) (there.0, there.1)
@@ -201,11 +201,11 @@ live-left n l callbacks set c among =
 abbrev SetsAre : ℕ → List ℕ → List Frame → Type 0
 SetsAre n set fs = (i : ℕ) (f : Frame) → slice_get fs i ≡ Some f → f.number ≡ n → f.left ≡ set
 
-sets-same : (n : ℕ) (s : State) (l : Label) (w : View) (set : List ℕ) → w.frames ≡ frames_of s.control
-    → left_by n l w.callbacks set ≡ set → SetsAre n set (frames_of s.control) → SetsAre n (left_by n l w.callbacks set) w.frames
+sets-same : (n : ℕ) (s : State) (l : Label) (w : View) (set : List ℕ) → w.frames ≡ frames_of s
+    → left_by n l w.callbacks set ≡ set → SetsAre n set (frames_of s) → SetsAre n (left_by n l w.callbacks set) w.frames
 sets-same n s l w set same all sets =
     subst (λ (fs : List Frame). SetsAre n (left_by n l w.callbacks set) fs) (sym same)
-    (subst (λ (xs : List ℕ). SetsAre n xs (frames_of s.control)) (sym all) sets)
+    (subst (λ (xs : List ℕ). SetsAre n xs (frames_of s)) (sym all) sets)
 
 pub map-at : (c i : ℕ) (fs : List Frame) (f : Frame) → slice_get (map (taken_from c) fs) i ≡ Some f
     → (g : Frame) × (slice_get fs i ≡ Some g) × (taken_from c g ≡ f)
@@ -243,14 +243,14 @@ other-fire : (n k c d : ℕ) (l : Label) → l ≡ label.Fire k c → nat_eq n k
 other-fire n k c d l is apart = ap (λ (x : Label). is_fire n d x) is ∙ ap (λ (b : Bool). b && nat_eq d c) apart
 
 fires-sets : (b : Bool) (n k c : ℕ) (s : State) (l : Label) (f : Frame) (rest : List Frame) (set : List ℕ) → nat_eq n k ≡ b
-    → l ≡ label.Fire k c → frames_of s.control ≡ f ∷ rest → k ≡ f.number → HasSet n set (view_of s)
-    → SetsAre n (left_by n l s.callbacks set) (taken_from c f ∷ rest)
+    → l ≡ label.Fire k c → frames_of s ≡ f ∷ rest → k ≡ f.number → HasSet n set (view_of s)
+    → SetsAre n (left_by n l s.world.callbacks set) (taken_from c f ∷ rest)
 fires-sets true n k c s l f rest set is fires on number has zero g at of =
     let same : n ≡ k = eqb-true n k is in
     let here : taken_from c f ≡ g = cc in
     let there : f.left ≡ set = has.sets 0 f (ap (λ (fs : List Frame). slice_get fs 0) on) (sym number ∙ sym same) in
     sym (ap (λ (x : Frame). x.left) here) ∙ ap (λ (xs : List ℕ). without_number c xs) there
-    ∙ sym (left-fired n k c l s.callbacks set fires same has.live)
+    ∙ sym (left-fired n k c l s.world.callbacks set fires same has.live)
 fires-sets true n k c s l f rest set is fires on number has (suc i) g at of =
     let same : n ≡ k = eqb-true n k is in
     let falls : Falls s.occurrence (f ∷ rest) = subst (λ (fs : List Frame). Falls s.occurrence fs) on has.falls in
@@ -261,25 +261,25 @@ fires-sets false n k c s l f rest set is fires on number has zero g at of =
     absurd (not_both (nat_eq n k) (eq-eqb n k (sym of ∙ same ∙ sym number)) is)
 fires-sets false n k c s l f rest set is fires on number has (suc i) g at of =
     has.sets (suc i) g (ap (λ (fs : List Frame). slice_get fs (suc i)) on ∙ at) of
-    ∙ sym (left-all n l s.callbacks set (λ d. other-fire n k c d l fires is) has.live)
+    ∙ sym (left-all n l s.world.callbacks set (λ d. other-fire n k c d l fires is) has.live)
 
 removed-set : (n c i : ℕ) (s : State) (set : List ℕ) (f : Frame) → HasSet n set (view_of s)
-    → slice_get (map (taken_from c) (frames_of s.control)) i ≡ Some f → f.number ≡ n → f.left ≡ without_number c set
+    → slice_get (map (taken_from c) (frames_of s)) i ≡ Some f → f.number ≡ n → f.left ≡ without_number c set
 removed-set n c i s set f has at of =
-    let from = map-at c i (frames_of s.control) f at in
+    let from = map-at c i (frames_of s) f at in
     let number : from.0.number ≡ n = ap (λ (x : Frame). x.number) from.2 ∙ of in
     sym (ap (λ (x : Frame). x.left) from.2) ∙ ap (λ (xs : List ℕ). without_number c xs) (has.sets i from.0 from.1 number)
 
 told-set : (n k i : ℕ) (s : State) (what : Occurrence) (set : List ℕ) (f : Frame) → HasSet n set (view_of s) → k ≡ s.occurrence
-    → slice_get (record { number = k; what = what; left = set_of what s.callbacks } ∷ frames_of s.control) i ≡ Some f
+    → slice_get (record { number = k; what = what; left = set_of what s.world.callbacks } ∷ frames_of s) i ≡ Some f
     → f.number ≡ n → f.left ≡ set
 told-set n k zero s what set f has number at of =
-    let here : record { number = k; what = what; left = set_of what s.callbacks } ≡ f = cc in
+    let here : record { number = k; what = what; left = set_of what s.world.callbacks } ≡ f = cc in
     let same : k ≡ f.number = ap (λ (x : Frame). x.number) here in
     let low = has.below in absurd (omega arith)
 told-set n k (suc i) s what set f has number at of = has.sets i f at of
 
-works-sets : (n : ℕ) (set : List ℕ) (s : State) (l : Label) (w : View) → Works s l w → IsSound s.callbacks → HasSet n set (view_of s)
+works-sets : (n : ℕ) (set : List ℕ) (s : State) (l : Label) (w : View) → Works s l w → IsSound s.world.callbacks → HasSet n set (view_of s)
     → SetsAre n (left_by n l w.callbacks set) w.frames
 works-sets n set s l w (works_none quiet is) sound has =
     sets-same n s l w set (ap (λ (x : View). x.frames) is)
@@ -300,11 +300,11 @@ works-sets n set s l w (orders_one who o a is (registers_one h r b gives fresh r
     sets-same n s l w set (ap (λ (x : View). x.frames) after)
     (left-all n l w.callbacks set (order-fire l who o a is n)
     (λ c among. ap (λ (x : View). is_live c x.callbacks) after
-    ∙ live_registered c r b s.callbacks (live_low c s.callbacks sound (has.live c among)) ∙ has.live c among)) has.sets
+    ∙ live_registered c r b s.world.callbacks (live_low c s.world.callbacks sound (has.live c among)) ∙ has.live c among)) has.sets
 works-sets n set s l w (orders_one who o a is (removes_one c h by one names after)) sound has =
     let less : left_by n l w.callbacks set ≡ without_number c set =
     ap (λ (x : View). left_by n l x.callbacks set) after
-    ∙ left-without n c l s.callbacks set (order-fire l who o a is n) sound has.live in
+    ∙ left-without n c l s.world.callbacks set (order-fire l who o a is n) sound has.live in
     subst (λ (fs : List Frame). SetsAre n (left_by n l w.callbacks set) fs) (sym (ap (λ (x : View). x.frames) after))
     (λ i f at of. removed-set n c i s set f has at of ∙ sym less)
 works-sets n set s l w (tells_one k what is number after) sound has =
@@ -320,7 +320,7 @@ works-sets n set s l w (closes_one k f rest is on number none after) sound has =
     ∙ sym (left-all n l w.callbacks set (λ c. ap (λ (x : Label). is_fire n c x) is)
     (λ c among. ap (λ (x : View). is_live c x.callbacks) after ∙ has.live c among)))
 
-works-has : (n : ℕ) (set : List ℕ) (s : State) (l : Label) (w : View) → Works s l w → IsSound s.callbacks → HasSet n set (view_of s)
+works-has : (n : ℕ) (set : List ℕ) (s : State) (l : Label) (w : View) → Works s l w → IsSound s.world.callbacks → HasSet n set (view_of s)
     → HasSet n (left_by n l w.callbacks set) w
 works-has n set s l w works sound has = record {
   below = (let more = works-number s l w works in let low = has.below in omega arith);
@@ -330,13 +330,13 @@ works-has n set s l w works sound has = record {
 }
 
 -- Along a path.
-pub has-on : (n : ℕ) (set : List ℕ) (s : State) (moves : List Move) → IsPath s moves → IsSound s.callbacks → HasSet n set (view_of s)
+pub has-on : (n : ℕ) (set : List ℕ) (s : State) (moves : List Move) → IsPath s moves → IsSound s.world.callbacks → HasSet n set (view_of s)
     → HasSet n (left_of n moves set) (view_of (end_of s moves))
 has-on n set s [] path sound has =
     subst (λ (xs : List ℕ). HasSet n xs (view_of s)) (sym (filter-all (λ c. true) set (λ c among. refl))) has
 has-on n set s (m ∷ moves) path sound has =
     let works : Works s m.0 (view_of m.1) = made-works s m path.0 in
     subst (λ (xs : List ℕ). HasSet n xs (view_of (end_of m.1 moves))) (left-more n m moves set)
-    (has-on n (left_by n m.0 m.1.callbacks set) m.1 moves path.1
-    (turns_sound s.callbacks m.1.callbacks (works-turn s m.0 (view_of m.1) works) sound)
+    (has-on n (left_by n m.0 m.1.world.callbacks set) m.1 moves path.1
+    (turns_sound s.world.callbacks m.1.world.callbacks (works-turn s m.0 (view_of m.1) works) sound)
     (works-has n set s m.0 (view_of m.1) works sound has))

@@ -1,5 +1,5 @@
 -- Each step of the machine is one of the six kinds.
-use Rattle.std.proofs.Common.{◌≡◌, ℕ, zero, suc, ◌+◌, ◌-◌, List, [], ◌∷◌, ◌++◌, drop, map, Bool, true, false, cond, Option, Some, None, Ok, Err, slice_get, nat_eq, nat_lt, nat_le, bytes_eq, refl, sym, ap, subst, ◌∙◌, ◌⊎◌, inl, inr}
+use Rattle.std.proofs.Common.{◌≡◌, ℕ, zero, suc, ◌+◌, ◌-◌, List, [], ◌∷◌, ◌++◌, drop, map, length, Bool, true, false, cond, Option, Some, None, Ok, slice_get, nat_eq, nat_lt, nat_le, bytes_eq, refl, sym, ap, subst, ◌∙◌, ◌⊎◌, inl, inr}
 use Rattle.std.proofs.lemmas.Bool.{eq-eqb}
 use Rattle.vh_base.specs.declared.limits.TheConstants.{MOST_FRAMES, MOST_NUMBERS, MOST_TIME}
 use Rattle.vh_base.specs.declared.faults.Fault.TheVariants as fault
@@ -14,37 +14,38 @@ use Rattle.vh_app.specs.Script.{ScriptData}
 use Rattle.vh_callbacks.specs.declared.registration.Registration.{Registration}
 use Rattle.vh_callbacks.specs.Callbacks.{Callbacks, info_of, body_of, registered, removed}
 use Rattle.vh_kernel.specs.declared.activation.Activation.{Activation}
-use Rattle.vh_kernel.specs.declared.activation.Body.{Body}
+use Rattle.vh_orders.specs.declared.who.Body.{Body}
 use Rattle.vh_kernel.specs.declared.control.Control.{Control}
 use Rattle.vh_kernel.specs.declared.control.Control.TheVariants as top
-use Rattle.vh_kernel.specs.declared.events.Work.{Work}
-use Rattle.vh_kernel.specs.declared.events.Work.TheVariants as work
+use Rattle.vh_queue.specs.declared.queue.Work.{Work}
+use Rattle.vh_queue.specs.declared.queue.Work.TheVariants as work
 use Rattle.vh_base.specs.declared.orders.Object.{Object}
 use Rattle.vh_base.specs.declared.words.Reason.{Reason}
-use Rattle.vh_kernel.specs.declared.handles.Thing.{Thing}
-use Rattle.vh_kernel.specs.declared.handles.Thing.TheVariants as thing
+use Rattle.vh_handles.specs.declared.handles.Thing.{Thing}
+use Rattle.vh_handles.specs.declared.handles.Thing.TheVariants as thing
 use Rattle.vh_kernel.specs.declared.label.Ending.TheVariants as ending
 use Rattle.vh_kernel.specs.declared.label.Label.{Label}
 use Rattle.vh_kernel.specs.declared.label.Label.TheVariants as label
-use Rattle.vh_kernel.specs.declared.occurrence.Frame.{Frame}
-use Rattle.vh_kernel.specs.Control.{frames, without_all}
-use Rattle.vh_kernel.specs.Events.{is_full}
-use Rattle.vh_kernel.specs.Handles.{opened, freed}
-use Rattle.vh_kernel.specs.Numbers.{without_number}
+use Rattle.vh_kernel.specs.declared.occurrence.Told.{Told}
+use Rattle.vh_queue.specs.Events.{is_full}
+use Rattle.vh_handles.specs.Handles.{opened, freed}
+use Rattle.vh_callbacks.specs.Marks.{is_among, without_number}
 use Rattle.vh_kernel.specs.Occurrences.{Occurrence, bit_text, is_empty, set_of}
-use Rattle.vh_kernel.specs.Orders.{Given, Effect, answered, effect_of, without_callback, name_meant, object_watched, needs_object}
-use Rattle.vh_kernel.specs.Outcome.{Made, Outcome, Move, silently, after_made}
+use Rattle.vh_orders.specs.Orders.{Given, Effect, answered, effect_of, name_meant, object_watched, needs_object}
+use Rattle.vh_kernel.specs.Outcome.{Made, Outcome, Move, after_made}
 use Rattle.vh_kernel.specs.Settle.{settled, settled_control, is_void, without_front}
-use Rattle.vh_kernel.specs.State.{State, with_top, without_top, without_item}
+use Rattle.vh_kernel.specs.State.{State, with_top, without_top, without_item, with_frames, with_variables}
 use Rattle.vh_kernel.specs.Statements.{next_statement, going_on, value_outcome, statement_outcome}
 use Rattle.vh_kernel.specs.Step.{Fits, FitsAnswer, telling_outcome, called, started, work_outcome, is_end}
 use Rattle.vh_kernel.specs.Table.{HasTop, TellsNext, Row, Step}
-use Rattle.vh_kernel.proofs.OrdersLemmas.{IsForm, refuses, answers_only, opens_object, registers, removes, effect-form}
-use Rattle.vh_kernel.proofs.StepLemmas.{AllMade, either-made, IsActing, returns, orders, acts, with_variables}
+use Rattle.vh_orders.proofs.OrdersLemmas.{IsForm, refuses, answers_only, opens_object, registers, removes, effect-form}
+use Rattle.vh_kernel.proofs.StepLemmas.{AllMade, either-made, IsActing, returns, orders, acts}
 use Rattle.vh_kernel.proofs.TableLemmas.{steps-by-table, tells-number}
-use Rattle.vh_laws.specs.Firing.{with_frame, frames_of}
+use Rattle.vh_dispatch.specs.Frames.{top_set, without_in_top}
+use Rattle.vh_orders.specs.World.{World}
+use Rattle.vh_laws.specs.Firing.{Frame, standing, frames_in, frames_of}
 use Rattle.vh_laws.specs.HandleLaw.{FindsObject}
-use Rattle.vh_laws.specs.Paths.{is_among, IsMade}
+use Rattle.vh_laws.specs.Paths.{IsMade}
 use Rattle.vh_laws.proofs.Splits.{or_right}
 use Rattle.vh_laws.proofs.Works.{View, view_of, taken_from, IsPlain, RegistersAs, Changes, changes_none, opens_one, registers_one, removes_one, Works, works_none, empties, orders_one, tells_one, fires_one, closes_one}
 
@@ -53,8 +54,9 @@ pub first-of : {X : Type 0} (xs : List X) (x : X) → slice_get xs 0 ≡ Some x 
 first-of [] x is = absurd (cc)
 first-of (y ∷ ys) x is = let same : y ≡ x = cc in ap (λ (z : _). z ∷ ys) same
 
-frames-top : (s : State) (x : Control) → slice_get s.control 0 ≡ Some x → frames_of s.control ≡ frames_of (x ∷ drop 1 s.control)
-frames-top s x is = ap frames_of (first-of s.control x is)
+frames-top : (s : State) (x : Control) → slice_get s.control 0 ≡ Some x
+    → frames_of s ≡ frames_in (x ∷ drop 1 s.control) s.world.frames
+frames-top s x is = ap (λ (xs : List Control). frames_in xs s.world.frames) (first-of s.control x is)
 
 -- The same view with other frames.
 framed : (v : View) (fs gs : List Frame) → fs ≡ gs
@@ -63,39 +65,44 @@ framed v fs gs e = ap (λ (hs : List Frame). (let a : View = record v { frames =
 
 -- What isn't a frame is taken off without a change.
 popped-view : (s : State) (x : Control) → slice_get s.control 0 ≡ Some x
-    → with_frame x (frames_of (drop 1 s.control)) ≡ frames_of (drop 1 s.control) → view_of (without_top s) ≡ view_of s
+    → frames_in (x ∷ drop 1 s.control) s.world.frames ≡ frames_in (drop 1 s.control) s.world.frames
+    → view_of (without_top s) ≡ view_of s
 popped-view s x is plain =
-    framed (view_of s) (frames_of (drop 1 s.control)) (frames_of s.control) (sym (frames-top s x is ∙ plain))
+    framed (view_of s) (frames_in (drop 1 s.control) s.world.frames) (frames_of s) (sym (frames-top s x is ∙ plain))
 
 -- Settling.
-void-by : (b : Bool) (xs ys : List Control) → frames_of xs ≡ frames_of ys → frames_of (cond b xs ys) ≡ frames_of ys
-void-by true xs ys same = same
-void-by false xs ys same = refl
+void-by : (b : Bool) (xs ys : List Control) (sets : List (List ℕ)) → frames_in xs sets ≡ frames_in ys sets
+    → frames_in (cond b xs ys) sets ≡ frames_in ys sets
+void-by true xs ys sets same = same
+void-by false xs ys sets same = refl
 
-frames-settled : (c : Callbacks Body) (xs : List Control) → frames_of (without_front (is_void c) xs) ≡ frames_of xs
-frames-settled c [] = refl
-frames-settled c (top.Process p ∷ xs) = refl
-frames-settled c (top.Pending o ∷ xs) =
-    void-by (is_empty (set_of o c)) (without_front (is_void c) xs) (top.Pending o ∷ xs) (frames-settled c xs)
-frames-settled c (top.Frame f ∷ xs) = refl
-frames-settled c (top.Activation a ∷ xs) = refl
-frames-settled c (top.Leave cause ∷ xs) = refl
+frames-settled : (c : Callbacks Body) (xs : List Control) (sets : List (List ℕ))
+    → frames_in (without_front (is_void c) xs) sets ≡ frames_in xs sets
+frames-settled c [] sets = refl
+frames-settled c (top.Process p ∷ xs) sets = refl
+frames-settled c (top.Pending o ∷ xs) sets =
+    void-by (is_empty (set_of o c)) (without_front (is_void c) xs) (top.Pending o ∷ xs) sets (frames-settled c xs sets)
+frames-settled c (top.Frame f ∷ xs) sets = refl
+frames-settled c (top.Activation a ∷ xs) sets = refl
+frames-settled c (top.Leave cause ∷ xs) sets = refl
 
 settled-view : (s : State) → view_of (settled s) ≡ view_of s
-settled-view s = framed (view_of s) (frames_of (settled_control s)) (frames_of s.control) (frames-settled s.callbacks s.control)
+settled-view s = framed (view_of s) (frames_in (settled_control s) s.world.frames) (frames_of s)
+    (frames-settled s.world.callbacks s.control s.world.frames)
 
 settles-view : (b : Bool) (u : State) → view_of (cond b u (settled u)) ≡ view_of u
 settles-view true u = refl
 settles-view false u = settled-view u
 
 -- What was made pending is no frame.
-frames-pending : (os : List Occurrence) (xs : List Control) → frames_of (map top.Pending os ++ xs) ≡ frames_of xs
-frames-pending [] xs = refl
-frames-pending (o ∷ os) xs = frames-pending os xs
+frames-pending : (os : List Occurrence) (xs : List Control) (sets : List (List ℕ))
+    → frames_in (map top.Pending os ++ xs) sets ≡ frames_in xs sets
+frames-pending [] xs sets = refl
+frames-pending (o ∷ os) xs sets = frames-pending os xs sets
 
 made-view : (m : Made) → view_of (after_made m) ≡ view_of m.state
-made-view m = framed (view_of m.state) (frames_of (map top.Pending m.occurrences ++ m.state.control)) (frames_of m.state.control)
-    (frames-pending m.occurrences m.state.control)
+made-view m = framed (view_of m.state) (frames_in (map top.Pending m.occurrences ++ m.state.control) m.state.world.frames)
+    (frames_of m.state) (frames-pending m.occurrences m.state.control m.state.world.frames)
 
 -- A statement and a piece of work leave the view.
 abbrev HasView : View → Made → Type 0
@@ -142,7 +149,7 @@ Tells o r m = view_of m.state ≡ with_telling r.occurrence o (view_of r)
 
 telling-view : (o : Occurrence) (r : State) → AllMade (Tells o r) (telling_outcome o r)
 telling-view o r =
-    unless-holds (AllMade (Tells o r)) (nat_le MOST_FRAMES (frames r.control)) fault.F1 _ (λ _. tt)
+    unless-holds (AllMade (Tells o r)) (nat_le MOST_FRAMES (length r.world.frames)) fault.F1 _ (λ _. tt)
     (λ _. unless-holds (AllMade (Tells o r)) (nat_lt MOST_NUMBERS r.occurrence) fault.F3 _ (λ _. tt) (λ _. refl))
 
 -- The begin of a body and of a startup.
@@ -155,45 +162,51 @@ started-view : (script : Option ScriptData) (k : ℕ) (s : State) → view_of (s
 started-view None k s = refl
 started-view (Some script) k s = refl
 
--- A removal, frame by frame.
-frames-without : (c : ℕ) (xs : List Control) → frames_of (without_all c xs) ≡ map (taken_from c) (frames_of xs)
-frames-without c [] = refl
-frames-without c (top.Process p ∷ xs) = frames-without c xs
-frames-without c (top.Pending o ∷ xs) = frames-without c xs
-frames-without c (top.Frame f ∷ xs) = ap (λ (fs : List Frame). taken_from c f ∷ fs) (frames-without c xs)
-frames-without c (top.Activation a ∷ xs) = frames-without c xs
-frames-without c (top.Leave cause ∷ xs) = frames-without c xs
+-- A removal, frame by frame,
+frames-without : (c : ℕ) (xs : List Control) (sets : List (List ℕ))
+    → frames_in xs (map (without_number c) sets) ≡ map (taken_from c) (frames_in xs sets)
+frames-without c [] sets = refl
+frames-without c (top.Process p ∷ xs) sets = frames-without c xs sets
+frames-without c (top.Pending o ∷ xs) sets = frames-without c xs sets
+frames-without c (top.Frame f ∷ xs) [] = ap (λ (fs : List Frame). standing f [] ∷ fs) (frames-without c xs [])
+frames-without c (top.Frame f ∷ xs) (set ∷ sets) =
+    ap (λ (fs : List Frame). taken_from c (standing f (set ∷ sets)) ∷ fs) (frames-without c xs sets)
+frames-without c (top.Activation a ∷ xs) sets = frames-without c xs sets
+frames-without c (top.Leave cause ∷ xs) sets = frames-without c xs sets
+
+-- and a fire, of the top frame.
+frames-fired : (c : ℕ) (f : Told) (xs : List Control) (sets : List (List ℕ))
+    → frames_in (top.Frame f ∷ xs) (without_in_top c sets) ≡ taken_from c (standing f sets) ∷ frames_in xs (drop 1 sets)
+frames-fired c f xs [] = refl
+frames-fired c f xs (set ∷ sets) = refl
+
+-- The state in another world.
+abbrev in_world : World → State → State
+in_world w s = record s { world = w }
 
 -- What an order changes, by the form of its effect.
-abbrev ChangesBy : State → Order → Answer × Outcome → Type 0
-ChangesBy s o p = (t : State) → p.1 ≡ silently t → Changes s o p.0 (view_of t)
-
-abbrev state-in : State → Outcome → State
-state-in s (Ok m) = m.state
-state-in s (Err f) = s
-
-silent-one : (s t : State) → silently s ≡ silently t → t ≡ s
-silent-one s t is = sym (ap (state-in s) is)
+abbrev ChangesBy : State → Order → Answer × World → Type 0
+ChangesBy s o p = Changes s o p.0 (view_of (in_world p.1 s))
 
 plain-by : (a : Answer) → (a ≡ answer.Done) ⊎ (a ≡ answer.Null) → IsPlain a
 plain-by a (inl is) = subst (λ (x : Answer). IsPlain x) (sym is) tt
 plain-by a (inr is) = subst (λ (x : Answer). IsPlain x) (sym is) tt
 
-form-changes : (o : Order) (s : State) (g : Given) (e : Effect) → IsForm o s e → FitsAnswer s (answered e s g).0
-    → ChangesBy s o (answered e s g)
-form-changes o s g e (refuses c is) = subst (λ (x : Effect). FitsAnswer s (answered x s g).0 → ChangesBy s o (answered x s g)) (sym is)
-    (λ fits t silent. changes_none tt (ap view_of (silent-one s t silent)))
+abbrev FormChanges : State → Order → Given → Effect → Type 0
+FormChanges s o g e = FitsAnswer s (answered e s.world g).0 → ChangesBy s o (answered e s.world g)
+
+form-changes : (o : Order) (s : State) (g : Given) (e : Effect) → IsForm o s.world e → FormChanges s o g e
+form-changes o s g e (refuses c is) =
+    subst (λ (x : Effect). FormChanges s o g x) (sym is) (λ fits. changes_none tt refl)
 form-changes o s g e (answers_only a plain is) =
-    subst (λ (x : Effect). FitsAnswer s (answered x s g).0 → ChangesBy s o (answered x s g)) (sym is)
-    (λ fits t silent. changes_none (plain-by a plain) (ap view_of (silent-one s t silent)))
+    subst (λ (x : Effect). FormChanges s o g x) (sym is) (λ fits. changes_none (plain-by a plain) refl)
 form-changes o s g e (opens_object text name scope id by means at room is) =
-    subst (λ (x : Effect). FitsAnswer s (answered x s g).0 → ChangesBy s o (answered x s g)) (sym is)
-    (λ fits t silent. opens_one g.handle _ refl fits
-    (record { text = text; scope = scope; name = name; object = id; asks = by; means = means; found = at; names = refl })
-    (ap view_of (silent-one _ t silent)))
+    subst (λ (x : Effect). FormChanges s o g x) (sym is)
+    (λ fits. opens_one g.handle _ refl fits
+    (record { text = text; scope = scope; name = name; object = id; asks = by; means = means; found = at; names = refl }) refl)
 form-changes o s g e (registers r h time n body object b by watches calls room free is) =
-    subst (λ (x : Effect). FitsAnswer s (answered x s g).0 → ChangesBy s o (answered x s g)) (sym is)
-    (λ fits t silent. registers_one g.handle _ b refl fits room (record {
+    subst (λ (x : Effect). FormChanges s o g x) (sym is)
+    (λ fits. registers_one g.handle _ b refl fits room (record {
       reason = r;
       watched = h;
       time = time;
@@ -204,25 +217,25 @@ form-changes o s g e (registers r h time n body object b by watches calls room f
       watches = watches;
       found = calls;
       is = refl;
-    }) (ap view_of (silent-one _ t silent)))
+    }) refl)
 form-changes o s g e (removes c h by names is) =
-    subst (λ (x : Effect). FitsAnswer s (answered x s g).0 → ChangesBy s o (answered x s g)) (sym is)
-    (λ fits t silent. removes_one c h by refl names
-    (ap view_of (silent-one (without_callback c h s) t silent)
-    ∙ framed (record (view_of s) { callbacks = removed c s.callbacks; handles = freed h s.handles })
-    (frames_of (without_all c s.control)) (map (taken_from c) (frames_of s.control)) (frames-without c s.control)))
+    subst (λ (x : Effect). FormChanges s o g x) (sym is)
+    (λ fits. removes_one c h by refl names
+    (framed (record (view_of s) { callbacks = removed c s.world.callbacks; handles = freed h s.world.handles })
+    (frames_in s.control (map (without_number c) s.world.frames)) (map (taken_from c) (frames_of s))
+    (frames-without c s.control s.world.frames)))
 
 -- The same change, seen from the state with the activation on top.
 abbrev performing : List (List Answer) → State → State
 performing vars s = with_variables vars (without_top s)
 
 same-meant : (vars : List (List Answer)) (s : State) (scope : Option ℕ) (text : List ℕ)
-    → name_meant scope text (performing vars s) ≡ name_meant scope text s
+    → name_meant scope text (performing vars s).world ≡ name_meant scope text s.world
 same-meant vars s None text = refl
 same-meant vars s (Some h) text = refl
 
 same-watched : (vars : List (List Answer)) (s : State) (needs : Bool) (h : Option ℕ)
-    → object_watched needs h (performing vars s) ≡ object_watched needs h s
+    → object_watched needs h (performing vars s).world ≡ object_watched needs h s.world
 same-watched vars s false h = refl
 same-watched vars s true None = refl
 same-watched vars s true (Some h) = refl
@@ -254,23 +267,27 @@ same-registers vars s o h r b f = record {
   is = f.is;
 }
 
+-- The frames below the top.
+abbrev below_top : State → List Frame
+below_top s = frames_in (drop 1 s.control) s.world.frames
+
 changes-from : (vars : List (List Answer)) (s : State) (o : Order) (a : Answer) (w : View)
-    → frames_of (drop 1 s.control) ≡ frames_of s.control → Changes (performing vars s) o a w → Changes s o a w
+    → below_top s ≡ frames_of s → Changes (performing vars s) o a w → Changes s o a w
 changes-from vars s o a w same (changes_none plain is) =
-    changes_none plain (is ∙ framed (view_of s) (frames_of (drop 1 s.control)) (frames_of s.control) same)
+    changes_none plain (is ∙ framed (view_of s) (below_top s) (frames_of s) same)
 changes-from vars s o a w same (opens_one h x gives fresh finds is) =
     opens_one h x gives fresh (same-finds vars s o x finds)
-    (is ∙ framed (record (view_of s) { handles = opened h x s.handles }) (frames_of (drop 1 s.control)) (frames_of s.control) same)
+    (is ∙ framed (record (view_of s) { handles = opened h x s.world.handles }) (below_top s) (frames_of s) same)
 changes-from vars s o a w same (registers_one h r b gives fresh room asks is) =
     registers_one h r b gives fresh room (same-registers vars s o h r b asks)
     (is ∙ framed (record (view_of s) {
-      callbacks = registered r b s.callbacks;
-      handles = opened h (thing.Callback s.callbacks.next) s.handles;
-    }) (frames_of (drop 1 s.control)) (frames_of s.control) same)
+      callbacks = registered r b s.world.callbacks;
+      handles = opened h (thing.Callback s.world.callbacks.next) s.world.handles;
+    }) (below_top s) (frames_of s) same)
 changes-from vars s o a w same (removes_one c h by one names is) =
     removes_one c h by one names
-    (is ∙ framed (record (view_of s) { callbacks = removed c s.callbacks; handles = freed h s.handles })
-    (map (taken_from c) (frames_of (drop 1 s.control))) (map (taken_from c) (frames_of s.control))
+    (is ∙ framed (record (view_of s) { callbacks = removed c s.world.callbacks; handles = freed h s.world.handles })
+    (map (taken_from c) (below_top s)) (map (taken_from c) (frames_of s))
     (ap (λ (fs : List Frame). map (taken_from c) fs) same))
 
 fits-from : (vars : List (List Answer)) (s : State) (a : Answer) → FitsAnswer s a → FitsAnswer (performing vars s) a
@@ -287,13 +304,15 @@ acting-works : (a : Activation) (s u : State) (g : Given) (l : Label) → HasTop
 acting-works a s u g l on fits (returns vars is) =
     subst (λ (m : Move). Works s m.0 (view_of m.1)) (sym is)
     (works_none refl (popped-view s (top.Activation a) on.on refl))
-acting-works a s u g l on fits (orders vars o further t silent kept is) =
-    let given : Answer × Outcome = answered (effect_of o a.who (performing vars s)) (performing vars s) g in
+acting-works a s u g l on fits (orders vars o further is) =
+    let w : World = (performing vars s).world in
+    let given : Answer × World = answered (effect_of o a.who w) w g in
     let there : Fits s (label.Do a.who o given.0) = subst (λ (x : Label). Fits s x) (ap (λ (m : Move). m.0) is) fits in
-    let changes : Changes (performing vars s) o given.0 (view_of t) =
-    form-changes o (performing vars s) g _ (effect-form o a.who (performing vars s)) (fits-from vars s given.0 there) t silent in
+    let changes : Changes (performing vars s) o given.0 (view_of (in_world given.1 (performing vars s))) =
+    form-changes o (performing vars s) g _ (effect-form o a.who w) (fits-from vars s given.0 there) in
     subst (λ (m : Move). Works s m.0 (view_of m.1)) (sym is)
-    (orders_one a.who o given.0 refl (changes-from vars s o given.0 (view_of t) (sym (frames-top s (top.Activation a) on.on)) changes))
+    (orders_one a.who o given.0 refl
+    (changes-from vars s o given.0 _ (sym (frames-top s (top.Activation a) on.on)) changes))
 
 -- The k-th of some numbers is among them.
 among-get : (xs : List ℕ) (k c : ℕ) → slice_get xs k ≡ Some c → is_among c xs ≡ true
@@ -303,15 +322,15 @@ among-get (x ∷ xs) (suc k) c is = or_right (nat_eq c x) (is_among c xs) (among
 
 row-works : (s u : State) (l : Label) → Row s l u → Works s l (view_of u)
 row-works s u (label.Startup k) row =
-    works_none refl (ap view_of row.1 ∙ started-view (slice_get s.scripts (k - 1)) k (without_item s))
+    works_none refl (ap view_of row.1 ∙ started-view (slice_get s.world.scripts (k - 1)) k (without_item s))
 row-works s u (label.Do who order answer) row =
     acting-works row.who s u row.given (label.Do who order answer) row.on row.fits
     (subst (λ (m : Move). IsActing row.who (without_top s) row.given m) row.makes
-    (acts (slice_get s.scripts row.who.script) (slice_get s.variables row.who.script) row.who (without_top s) row.given))
+    (acts (slice_get s.world.scripts row.who.script) (slice_get s.world.variables row.who.script) row.who (without_top s) row.given))
 row-works s u (label.Ret who) row =
     acting-works row.who s u row.given (label.Ret who) row.on row.fits
     (subst (λ (m : Move). IsActing row.who (without_top s) row.given m) row.makes
-    (acts (slice_get s.scripts row.who.script) (slice_get s.variables row.who.script) row.who (without_top s) row.given))
+    (acts (slice_get s.world.scripts row.who.script) (slice_get s.world.variables row.who.script) row.who (without_top s) row.given))
 row-works s u (label.Occ n reason object) row =
     let made : view_of row.made.state ≡ with_telling row.rest.occurrence row.what (view_of row.rest) =
     subst (λ (out : Outcome). AllMade (Tells row.what row.rest) out) row.makes (telling-view row.what row.rest) in
@@ -322,12 +341,17 @@ row-works s u (label.Occ n reason object) row =
     ∙ ap (λ (k : ℕ). with_telling k row.what (view_of row.rest)) number
     ∙ ap (λ (v : View). with_telling n row.what v) (tells-view s row.what row.rest row.next))
 row-works s u (label.Fire n c) row =
-    let before : State = with_top (top.Frame (record row.frame { left = without_number c row.frame.left })) (without_top s) in
-    fires_one n c row.frame (frames_of (drop 1 s.control)) refl (frames-top s (top.Frame row.frame) row.on.on) row.number
-    (among-get row.frame.left row.choice c row.chosen)
-    (ap view_of row.leaves ∙ called-view (info_of c s.callbacks) (body_of c s.callbacks) c row.frame.what before)
+    let sets : List (List ℕ) = s.world.frames in
+    let before : State = with_top (top.Frame row.frame) (with_frames (without_in_top c sets) (without_top s)) in
+    let rest : List Frame = frames_in (drop 1 s.control) (drop 1 sets) in
+    fires_one n c (standing row.frame sets) rest refl (frames-top s (top.Frame row.frame) row.on.on) row.number
+    (among-get (top_set sets) row.choice c row.chosen)
+    (ap view_of row.leaves ∙ called-view (info_of c s.world.callbacks) (body_of c s.world.callbacks) c row.frame.what before
+    ∙ framed (view_of s) (frames_of before) (taken_from c (standing row.frame sets) ∷ rest)
+    (frames-fired c row.frame (drop 1 s.control) sets))
 row-works s u (label.Done n) row =
-    closes_one n row.frame (frames_of (drop 1 s.control)) refl (frames-top s (top.Frame row.frame) row.on.on) row.number row.none
+    closes_one n (standing row.frame s.world.frames) (frames_in (drop 1 s.control) (drop 1 s.world.frames)) refl
+    (frames-top s (top.Frame row.frame) row.on.on) row.number row.none
     (ap view_of row.leaves)
 row-works s u (label.Activate r) row = works_none refl (ap view_of row.1)
 row-works s u (label.Advance time) row = works_none refl (ap view_of row.2)

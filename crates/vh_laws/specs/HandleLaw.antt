@@ -11,15 +11,15 @@ use Rattle.vh_base.specs.declared.orders.Order.TheVariants as order
 use Rattle.vh_base.specs.declared.words.Code.TheVariants as code
 use Rattle.vh_base.specs.declared.words.Reason.{Reason}
 use Rattle.vh_callbacks.specs.Callbacks.{info_of, body_of}
-use Rattle.vh_kernel.specs.declared.activation.Body.{Body}
-use Rattle.vh_kernel.specs.declared.activation.Who.{Who}
-use Rattle.vh_kernel.specs.declared.handles.Thing.{Thing}
-use Rattle.vh_kernel.specs.declared.handles.Thing.TheVariants as thing
+use Rattle.vh_orders.specs.declared.who.Body.{Body}
+use Rattle.vh_orders.specs.declared.who.Who.{Who}
+use Rattle.vh_handles.specs.declared.handles.Thing.{Thing}
+use Rattle.vh_handles.specs.declared.handles.Thing.TheVariants as thing
 use Rattle.vh_kernel.specs.declared.label.Label.{Label}
 use Rattle.vh_kernel.specs.declared.label.Label.TheVariants as label
-use Rattle.vh_kernel.specs.Handles.{thing_at}
-use Rattle.vh_kernel.specs.Names.{object_named, whole}
-use Rattle.vh_kernel.specs.Orders.{is_startup, name_meant, needs_object, object_watched, body_named, registration_of, handles_read, all_named}
+use Rattle.vh_handles.specs.Handles.{thing_at}
+use Rattle.vh_orders.specs.Names.{object_named, whole}
+use Rattle.vh_orders.specs.Orders.{is_startup, name_meant, needs_object, object_watched, body_named, registration_of, handles_read, all_named}
 use Rattle.vh_kernel.specs.Outcome.{Move}
 use Rattle.vh_kernel.specs.State.{State}
 use Rattle.vh_laws.specs.Paths.{Deed, tells, fires, closes, answers, other, deed_of, any, end_of}
@@ -67,8 +67,8 @@ pub record FindsObject (s : State) (o : Order) (x : Thing) : Type 0 where
   pub name : List ℕ
   pub object : ℕ
   pub asks : o ≡ order.ByName text scope
-  pub means : name_meant scope text s ≡ Ok name
-  pub found : object_named name s.names ≡ Some object
+  pub means : name_meant scope text s.world ≡ Ok name
+  pub found : object_named name s.world.names ≡ Some object
   pub names : x ≡ thing.Object (whole object)
 
 -- or for the callback that was registered, which is live from then on with what was asked for.
@@ -81,16 +81,16 @@ pub record Registers (s : State) (o : Order) (h : ℕ) (x : Thing) (t : State) :
   pub object : Option Object
   pub body : Body
   pub asks : o ≡ order.Register reason watched time calls user_data
-  pub watches : object_watched (needs_object reason) watched s ≡ Ok object
-  pub found : body_named calls s.scripts ≡ Ok body
-  pub names : x ≡ thing.Callback s.callbacks.next
-  pub info : info_of s.callbacks.next t.callbacks ≡ Some (registration_of reason object watched time user_data h)
-  pub is_called : body_of s.callbacks.next t.callbacks ≡ Some body
+  pub watches : object_watched (needs_object reason) watched s.world ≡ Ok object
+  pub found : body_named calls s.world.scripts ≡ Ok body
+  pub names : x ≡ thing.Callback s.world.callbacks.next
+  pub info : info_of s.world.callbacks.next t.world.callbacks ≡ Some (registration_of reason object watched time user_data h)
+  pub is_called : body_of s.world.callbacks.next t.world.callbacks ≡ Some body
 
 -- A handle that is given is live, and names what the order was about.
 pub record GivesRight (s : State) (o : Order) (h : ℕ) (t : State) : Type 0 where
   pub thing : Thing
-  pub names : thing_at h t.handles ≡ Some thing
+  pub names : thing_at h t.world.handles ≡ Some thing
   pub about : FindsObject s o thing ⊎ Registers s o h thing t
 
 abbrev pub GivesLive : State → List Move → Type 0
@@ -103,21 +103,21 @@ abbrev pub NamesOne : List Move → Type 0
 NamesOne moves =
     (before mid behind : List Move) (who : Who) (o : Order) (h : ℕ) (t : State)
     → moves ≡ before ++ (label.Do who o (answer.Handle h), t) ∷ mid ++ behind
-    → is_some (thing_at h (end_of t mid).handles) ≡ true
-    → thing_at h (end_of t mid).handles ≡ thing_at h t.handles
+    → is_some (thing_at h (end_of t mid).world.handles) ≡ true
+    → thing_at h (end_of t mid).world.handles ≡ thing_at h t.world.handles
 
 -- An order that reads only handles that are live isn't answered E1.
 abbrev pub FindsLive : State → List Move → Type 0
 FindsLive s moves =
     (before behind : List Move) (who : Who) (o : Order) (a : Answer) (t : State)
     → moves ≡ before ++ (label.Do who o a, t) ∷ behind
-    → all_named (end_of s before) (handles_read o) ≡ true → a ≡ answer.Refused code.E1 → ⊥
+    → all_named (end_of s before).world (handles_read o) ≡ true → a ≡ answer.Refused code.E1 → ⊥
 
 -- A handle stops being live only where the callback that it names is removed by it,
 abbrev pub FreedByRemoval : State → List Move → Type 0
 FreedByRemoval s moves =
     (before behind : List Move) (m : Move) (h : ℕ) → moves ≡ before ++ m ∷ behind
-    → is_some (thing_at h (end_of s before).handles) ≡ true → thing_at h m.1.handles ≡ None
+    → is_some (thing_at h (end_of s before).world.handles) ≡ true → thing_at h m.1.world.handles ≡ None
     → (who : Who) × (m.0 ≡ label.Do who (order.Remove (Some h)) (answer.Number 1))
 
 -- and an answered removal frees the handle.
@@ -125,13 +125,13 @@ abbrev pub RemovalFrees : List Move → Type 0
 RemovalFrees moves =
     (before behind : List Move) (who : Who) (h : ℕ) (t : State)
     → moves ≡ before ++ (label.Do who (order.Remove (Some h)) (answer.Number 1), t) ∷ behind
-    → thing_at h t.handles ≡ None
+    → thing_at h t.world.handles ≡ None
 
 -- After it was freed, every order that reads it answers E1, or in a startup the E9 that comes before.
 abbrev pub StaysFreed : State → List Move → Type 0
 StaysFreed s moves =
     (before mid behind : List Move) (who : Who) (o : Order) (a : Answer) (t : State) (h : ℕ)
     → moves ≡ before ++ mid ++ (label.Do who o a, t) ∷ behind
-    → (end_of s before).handles.is_given h ≡ true → thing_at h (end_of s before).handles ≡ None
+    → (end_of s before).world.handles.is_given h ≡ true → thing_at h (end_of s before).world.handles ≡ None
     → reads h o ≡ true
     → (a ≡ answer.Refused code.E1) ⊎ ((is_startup who ≡ true) × (a ≡ answer.Refused code.E9))

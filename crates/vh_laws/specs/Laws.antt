@@ -3,7 +3,7 @@ use Rattle.std.specs.Prelude.{◌≡◌, List, [], false}
 use Rattle.vh_base.specs.declared.first.First.{First}
 use Rattle.vh_app.specs.Script.{ScriptData}
 use Rattle.vh_callbacks.specs.Callbacks.{IsSound}
-use Rattle.vh_kernel.specs.Handles.{no_handles}
+use Rattle.vh_handles.specs.Handles.{no_handles}
 use Rattle.vh_kernel.specs.Outcome.{Move}
 use Rattle.vh_kernel.specs.Run.{Chooser, IsRun}
 use Rattle.vh_kernel.specs.Settle.{opening}
@@ -42,8 +42,8 @@ pub record KeepsLaws (s : State) (moves : List Move) : Type 0 where
 pub record IsFresh (s : State) : Type 0 where
   pub going : is_over s.phase ≡ false
   pub alone : s.control ≡ []
-  pub none_given : s.handles ≡ no_handles
-  pub sound : IsSound s.callbacks
+  pub none_given : s.world.handles ≡ no_handles
+  pub sound : IsSound s.world.callbacks
 
 -- The theorem: every path from such a state keeps both laws, whole or cut anywhere,
 abbrev pub PathsKeepLaws : Type 0

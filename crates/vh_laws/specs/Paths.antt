@@ -25,10 +25,6 @@ abbrev pub end_of : State → List Move → State
 end_of s [] = s
 end_of s (m ∷ moves) = end_of m.1 moves
 
--- Is a number among these?
-abbrev pub is_among : ℕ → List ℕ → Bool
-is_among n numbers = list_any (λ d. n == d) numbers
-
 -- What a label tells of occurrences, callbacks and handles.
 pub data Deed : Type 0 where
   -- an occurrence is told
@@ -107,4 +103,4 @@ any is moves = list_any (λ m. is m.0) moves
 
 -- Was a callback removed by one of these labels, or before them?
 abbrev pub was_removed : ℕ → List Move → Bool
-was_removed c moves = list_any (λ m. not (is_live c m.1.callbacks)) moves
+was_removed c moves = list_any (λ m. not (is_live c m.1.world.callbacks)) moves

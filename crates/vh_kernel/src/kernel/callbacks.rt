@@ -1,18 +1,18 @@
-ghost use Rattle.std.specs.Prelude.{◌≡◌, ◌≤◌, ◌<◌, false, slice_get, OnOk};
+ghost use Rattle.std.specs.Prelude.{◌≡◌, ◌≤◌, ◌<◌, false, length, slice_get, OnOk};
 ghost use Rattle.vh_callbacks.specs.Callbacks.{info_of, body_of};
-ghost use Rattle.vh_kernel.specs.Control.{frames};
+ghost use Rattle.vh_dispatch.specs.Frames.{top_set};
 ghost use Rattle.vh_kernel.specs.Step.{first_seen, seen_after};
+ghost use Rattle.vh_orders.specs.Orders.{Given, is_return};
 
-use crate::activation::{Activation, Who};
+use crate::activation::Activation;
 use crate::control::Control;
 use crate::kernel::Kernel;
-use crate::kernel::orders::error_in;
 use crate::label::Label;
-use crate::numbers::Numbers;
-use crate::occurrence::{Frame, Occurrence};
+use crate::occurrence::{Occurrence, Told};
 use std::alloc::Global;
 use vh_base::{Answer, Boxed, CbNumber, Fault, MOST_FRAMES, MOST_NUMBERS, NoMemory, Order, Seen};
 use vh_callbacks::Registration;
+use vh_orders::{Who, is_return, perform};
 
 // What a callback's activation sees at first.
 fn first_seen(registration: &Registration, what: &Occurrence, time: u64) -> Seen
@@ -52,7 +52,7 @@ impl Kernel {
         ensures { Moves (item_move (Control.Pending what) (state_of self.old) 0 (given_by self.old))
             result self.new }
     {
-        if self.control.frames() >= MOST_FRAMES {
+        if self.frames() >= MOST_FRAMES {
             self.control.push(Control::Pending(what))?;
             return Ok(self.fail(Fault::F1));
         }
@@ -68,7 +68,7 @@ impl Kernel {
         ensures { Moves (occurrence_move what (state_of self.old) (without_item (state_of self.old)))
             result self.new }
     {
-        if self.control.frames() >= MOST_FRAMES {
+        if self.frames() >= MOST_FRAMES {
             return Ok(self.fail(Fault::F1));
         }
         if self.occurrence > MOST_NUMBERS {
@@ -80,41 +80,40 @@ impl Kernel {
 
     // It gets the next number and a frame.
     fn tell(&mut self, alloc: Global, what: Occurrence) -> Result<Label, NoMemory>
-        requires few { frames (state_of self.old).control < MOST_FRAMES }
+        requires few { length (state_of self.old).world.frames < MOST_FRAMES }
         requires few_told { (state_of self.old).occurrence ≤ MOST_NUMBERS }
         ensures { Moves (occurrence_move what (state_of self.old) (state_of self.old)) result self.new }
     {
         let number = self.occurrence;
-        let watching = what.watching(alloc, &self.callbacks)?;
+        self.open_frame(alloc, number, &what)?;
         let label = Label::Occ(number, what.reason(), what.object());
-        let left = Numbers::new(watching);
         self.occurrence = number + 1;
-        self.control
-            .push(Control::Frame(Frame { number, what, left }))?;
+        self.control.push(Control::Frame(Told { number, what }))?;
         Ok(label)
     }
 
     // A frame that was on top of control fires the callback that was chosen, or is done.
-    pub(crate) fn fire(&mut self, alloc: Global, frame: Frame, k: u32) -> Result<Label, NoMemory>
-        ensures { Moves (fire_move (slice_get frame.left k) frame (state_of self.old)) result self.new }
+    pub(crate) fn fire(&mut self, alloc: Global, told: Told, k: u32) -> Result<Label, NoMemory>
+        ensures { Moves (fire_move (slice_get (top_set (state_of self.old).world.frames) k) told (state_of self.old))
+            result self.new }
     {
-        let mut frame = frame;
-        let number = frame.number;
-        let what = frame.what.copy();
-        let Some(c) = frame.left.take(k as usize) else {
+        let number = told.number;
+        let Some(c) = self.take_left(k) else {
+            self.close_frame();
             return Ok(Label::Done(number));
         };
-        self.control.push(Control::Frame(frame))?;
+        let what = told.what.copy();
+        self.control.push(Control::Frame(told))?;
         self.call(alloc, c, &what)?;
         Ok(Label::Fire(number, c))
     }
 
     // What a callback calls begins.
     fn call(&mut self, alloc: Global, c: CbNumber, what: &Occurrence) -> Result<(), NoMemory>
-        ensures { OnOk result (state_of self.new ≡ called (info_of c (state_of self.old).callbacks)
-            (body_of c (state_of self.old).callbacks) c what.now (state_of self.old)) }
+        ensures { OnOk result (state_of self.new ≡ called (info_of c (state_of self.old).world.callbacks)
+            (body_of c (state_of self.old).world.callbacks) c what.now (state_of self.old)) }
     {
-        let Some(live) = self.callbacks.callback(c) else {
+        let Some(live) = self.world.registry.callback(c) else {
             return Ok(());
         };
         let activation = Activation {
@@ -129,21 +128,36 @@ impl Kernel {
 
     // An activation that was on top of control gives its next order, or returns.
     pub(crate) fn act(&mut self, alloc: Global, activation: Activation) -> Result<Label, NoMemory>
-        ensures { Moves (activation_move (slice_get (state_of self.old).scripts activation.script)
-            (slice_get (state_of self.old).variables activation.script) activation
+        ensures { Moves (activation_move (slice_get (state_of self.old).world.scripts activation.script)
+            (slice_get (state_of self.old).world.variables activation.script) activation
             (state_of self.old) (given_by self.old)) result self.new }
     {
-        let mut activation = activation;
         let i = activation.script;
-        if i >= self.scripts.len() || i >= self.vars.len() {
+        if i >= self.world.scripts.len() || i >= self.world.vars.len() {
             return Ok(Label::Ret(activation.who));
         }
-        let vars = &mut self.vars[i];
-        let order = self.scripts[i].next(&mut activation.at, vars, &activation.seen);
-        if matches!(order, Order::Return) {
+        let mut activation = activation;
+        let order = self.next_order(&mut activation);
+        if is_return(&order) {
             return Ok(Label::Ret(activation.who));
         }
         self.obey(alloc, activation, order)
+    }
+
+    // What the script of an activation orders next.
+    fn next_order(&mut self, activation: &mut Activation) -> Order
+        requires script { activation.old.script < length (state_of self.old).world.scripts }
+        requires vars { activation.old.script < length (state_of self.old).world.variables }
+        ensures moves { (g : Given) → activation_move
+            (slice_get (state_of self.old).world.scripts activation.old.script)
+            (slice_get (state_of self.old).world.variables activation.old.script) activation.old (state_of self.old) g
+            ≡ order_move (is_return result) result activation.new
+            (with_top (Control.Activation activation.old) (state_of self.old)) (state_of self.new) g }
+        ensures given { given_by self.new ≡ given_by self.old }
+    {
+        let i = activation.script;
+        let vars = &mut self.world.vars[i];
+        self.world.scripts[i].next(&mut activation.at, vars, &activation.seen)
     }
 
     // It goes on after an order.
@@ -153,12 +167,12 @@ impl Kernel {
         activation: Activation,
         order: Order,
     ) -> Result<Label, NoMemory>
+        requires { is_return order ≡ false }
         ensures { (before : State) → Moves (order_move false order activation before (state_of self.old)
             (given_by self.old)) result self.new }
     {
         let who = activation.who();
-        let answer = self.perform(alloc, &who, &order)?;
-        self.error = error_in(&answer);
+        let answer = perform(alloc, &mut self.world, who, &order)?;
         let further = noted(activation, &answer);
         self.control
             .push(Control::Activation(Boxed::new(alloc, further)?))?;

@@ -1,11 +1,12 @@
-ghost use Rattle.std.specs.Prelude.{◌≡◌, ◌<◌, ◌+◌, ℕ, List, [], ◌∷◌, ◌++◌, map, length, ◌^◌, ◌-◌, IfOk};
+ghost use Rattle.std.specs.Prelude.{◌≡◌, ◌<◌, ◌+◌, ℕ, List, [], ◌∷◌, ◌++◌, map, length, None, ◌^◌, ◌-◌, IfOk};
 ghost use Rattle.vh_app.specs.Next.{no_answers};
-ghost use Rattle.vh_kernel.specs.Names.{below};
+ghost use Rattle.vh_orders.specs.Names.{below};
+ghost use Rattle.vh_callbacks.specs.Callbacks.{opening as no_callbacks};
+ghost use Rattle.vh_handles.specs.Handles.{no_handles};
+ghost use Rattle.vh_orders.specs.Views.{world_of};
 ghost use Rattle.vh_kernel.specs.State.{startups, opening_agenda};
 
 use crate::control::Stack;
-use crate::events::Queue;
-use crate::handles::Handles;
 use crate::kernel::Kernel;
 use crate::occurrence::Agendum;
 use crate::phase::Phase;
@@ -15,6 +16,10 @@ use std::collections::VecDeque;
 use vh_app::{Script, Vars};
 use vh_base::{Bytes, First, FirstBit, FirstCode, NoMemory, Reason, Sequence};
 use vh_callbacks::Registry;
+use vh_dispatch::Dispatch;
+use vh_handles::Handles;
+use vh_orders::{World, joined};
+use vh_queue::Queue;
 
 // Every register opens as x.
 fn unknown_values(alloc: Global, regs: &[Bytes]) -> Result<Vec<FirstBit>, NoMemory>
@@ -47,18 +52,6 @@ fn all_vars(alloc: Global, scripts: &[Script]) -> Result<Vec<Vars>, NoMemory>
         vars.push(Vars::new(alloc, script)?)?;
     }
     Ok(vars)
-}
-
-// A path below a scope.
-pub(crate) fn joined(alloc: Global, scope: &[u8], path: &[u8]) -> Result<Bytes, NoMemory>
-    ensures { IfOk result (λ name. name ≡ below scope.now path.now) }
-{
-    let length = scope.len().saturating_add(path.len()).saturating_add(1);
-    let mut name = Vec::with_capacity(alloc, length)?;
-    name.extend_from_slice(scope)?;
-    name.push(b'.')?;
-    name.extend_from_slice(path)?;
-    Ok(Sequence::new(name))
 }
 
 // The full names of the module and its registers.
@@ -95,6 +88,38 @@ fn all_startups(alloc: Global, scripts: u32) -> Result<VecDeque<Agendum>, NoMemo
     Ok(agenda)
 }
 
+// The world before all.
+fn world_before(
+    alloc: Global,
+    name: &[u8],
+    regs: &[Bytes],
+    scripts: Vec<Script>,
+) -> Result<World, NoMemory>
+    ensures world { IfOk result (λ w. world_of w ≡ record {
+      names = name.now ∷ map (below name.now) regs.now;
+      scripts = scripts.items;
+      variables = map no_answers scripts.items;
+      callbacks = no_callbacks;
+      frames = [];
+      handles = no_handles;
+      error = None;
+    }) }
+    ensures few { IfOk result (λ w. w.scripts.items ≡ scripts.items) }
+{
+    let names = all_names(alloc, name, regs)?;
+    let vars = all_vars(alloc, scripts.as_slice())?;
+    let dispatch = Dispatch::new(alloc)?;
+    Ok(World {
+        names,
+        scripts,
+        vars,
+        handles: Handles::new(alloc),
+        registry: Registry::new(alloc),
+        dispatch,
+        last_error: None,
+    })
+}
+
 impl Kernel {
     ghost use Rattle.vh_kernel.specs.State.{before_all};
     ghost use Rattle.vh_kernel.specs.Views.{state_of};
@@ -108,26 +133,20 @@ impl Kernel {
         requires { length scripts.items < 2 ^ 32 }
         ensures { IfOk result (λ k. state_of k ≡ before_all first scripts.items) }
     {
-        let names = all_names(alloc, first.name.as_slice(), first.regs.as_slice())?;
+        let world = world_before(alloc, first.name.as_slice(), first.regs.as_slice(), scripts)?;
         let store = unknown_values(alloc, first.regs.as_slice())?;
         let blocks = first.blocks.into_vec();
         let queue = Queue::opening(alloc, blocks.len())?;
         let threads = all_threads(alloc, blocks)?;
-        let vars = all_vars(alloc, scripts.as_slice())?;
-        let agenda = opening_agenda(alloc, scripts.as_slice())?;
+        let agenda = opening_agenda(alloc, world.scripts.as_slice())?;
         Ok(Kernel {
-            names,
-            scripts,
+            world,
             store,
             queue,
             threads,
-            vars,
-            callbacks: Registry::new(alloc),
-            handles: Handles::new(alloc),
             control: Stack::new(alloc),
             agenda,
             occurrence: 1,
-            error: None,
             phase: Phase::Running,
         })
     }

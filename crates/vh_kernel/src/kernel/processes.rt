@@ -3,14 +3,14 @@ ghost use Rattle.vh_kernel.specs.Occurrences.{bit_text};
 ghost use Rattle.vh_kernel.specs.Statements.{value_change};
 
 use crate::control::Control;
-use crate::events::Work;
 use crate::kernel::Kernel;
-use crate::label::{Label, Region};
+use crate::label::Label;
 use crate::occurrence::Occurrence;
 use std::alloc::Global;
 use vh_base::{
     Bytes, Cause, Fault, FirstBit, FirstCode, MOST_TIME, NoMemory, ObjId, Object, ProcId, Sequence,
 };
+use vh_queue::{Region, Work};
 
 // A text with a newline behind it.
 fn with_newline(alloc: Global, text: &[u8]) -> Result<Bytes, NoMemory>

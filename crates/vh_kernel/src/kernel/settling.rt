@@ -1,16 +1,16 @@
 ghost use Rattle.std.specs.Prelude.{◌≡◌, ℕ, List, Bool, is_some, slice_get};
 ghost use Rattle.vh_kernel.specs.Settle.{is_void, is_void_item, first_is, without_front};
 
-use crate::activation::Body;
 use crate::control::{Control, Stack};
 use crate::kernel::Kernel;
 use crate::occurrence::{Agendum, Occurrence};
 use std::collections::VecDeque;
 use vh_callbacks::Registry;
+use vh_orders::Body;
 
 // Does no callback watch what is on control?
 fn is_void(callbacks: &Registry<Body>, item: &Control) -> bool
-    ensures { result ≡ is_void callbacks.now item.now }
+    ensures { result ≡ is_void callbacks.now.callbacks item.now }
 {
     match item {
         Control::Pending(what) => !what.is_watched(callbacks),
@@ -22,7 +22,7 @@ fn is_void(callbacks: &Registry<Body>, item: &Control) -> bool
 
 // Does no callback watch what the agenda has?
 fn is_void_item(callbacks: &Registry<Body>, item: Agendum) -> bool
-    ensures { result ≡ is_void_item callbacks.now item }
+    ensures { result ≡ is_void_item callbacks.now.callbacks item }
 {
     match item {
         Agendum::Startup(_) => false,
@@ -32,7 +32,7 @@ fn is_void_item(callbacks: &Registry<Body>, item: Agendum) -> bool
 
 // Drops void occurrences from the top of control.
 fn settle_control(callbacks: &Registry<Body>, control: &mut Stack)
-    ensures { control.new ≡ without_front (is_void callbacks.now) control.old }
+    ensures { control.new ≡ without_front (is_void callbacks.now.callbacks) control.old }
 {
     'voids: while top_is_void(callbacks, control) {
         let _ = control.pop();
@@ -41,7 +41,7 @@ fn settle_control(callbacks: &Registry<Body>, control: &mut Stack)
 
 // Is there a void occurrence on top?
 fn top_is_void(callbacks: &Registry<Body>, control: &Stack) -> bool
-    ensures { result ≡ first_is (is_void callbacks.now) control.now }
+    ensures { result ≡ first_is (is_void callbacks.now.callbacks) control.now }
 {
     match control.top() {
         Some(item) => is_void(callbacks, item),
@@ -51,7 +51,7 @@ fn top_is_void(callbacks: &Registry<Body>, control: &Stack) -> bool
 
 // Drops void occurrences from the front of the agenda.
 fn settle_agenda(callbacks: &Registry<Body>, agenda: &mut VecDeque<Agendum>)
-    ensures { agenda.new.items ≡ without_front (is_void_item callbacks.now) agenda.old.items }
+    ensures { agenda.new.items ≡ without_front (is_void_item callbacks.now.callbacks) agenda.old.items }
 {
     'voids: while front_is_void(callbacks, agenda) {
         let _ = agenda.pop_front();
@@ -60,7 +60,7 @@ fn settle_agenda(callbacks: &Registry<Body>, agenda: &mut VecDeque<Agendum>)
 
 // Is there a void occurrence at the front?
 fn front_is_void(callbacks: &Registry<Body>, agenda: &VecDeque<Agendum>) -> bool
-    ensures { result ≡ first_is (is_void_item callbacks.now) agenda.now.items }
+    ensures { result ≡ first_is (is_void_item callbacks.now.callbacks) agenda.now.items }
 {
     match agenda.front() {
         Some(item) => is_void_item(callbacks, *item),
@@ -76,10 +76,10 @@ impl Kernel {
     pub(crate) fn settle(&mut self)
         ensures { state_of self.new ≡ settled (state_of self.old) }
     {
-        settle_control(&self.callbacks, &mut self.control);
+        settle_control(&self.world.registry, &mut self.control);
         if self.control.top().is_some() {
             return;
         }
-        settle_agenda(&self.callbacks, &mut self.agenda);
+        settle_agenda(&self.world.registry, &mut self.agenda);
     }
 }

@@ -2,7 +2,7 @@ use Rattle.std.proofs.Common.{◌≡◌, ◌∙◌, ◌++◌, ◌∷◌, [], ℕ
 use Rattle.std.specs.Option.{option_copied_mut}
 use Rattle.vh_callbacks.specs.declared.index.Watch.{Watch}
 use Rattle.vh_callbacks.specs.Watching.{listed, list_under, numbers_under}
-use Rattle.vh_callbacks.proofs.Watching.{items_of, list_changed, list_same}
+use Rattle.vh_callbacks.proofs.WatchingLemmas.{items_of, list_changed, list_same}
 use Rattle.vh_callbacks.proofs.index.push_at.Goals as goal
 
 on_err : {A E : Type 0} (r : Result A E) (P : Type 0) → P → OnErr r P

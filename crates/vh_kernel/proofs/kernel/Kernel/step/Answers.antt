@@ -1,7 +1,7 @@
 use Rattle.std.proofs.Common.{◌≡◌, true, false, sym, ap}
 use Rattle.vh_kernel.specs.Step.{is_end}
 use Rattle.vh_kernel.specs.Views.{state_of, given_by}
-use Rattle.vh_kernel.proofs.HandlesLemmas.{next-new}
+use Rattle.vh_handles.proofs.NumberedLemmas.{next-new}
 use Rattle.vh_kernel.proofs.RunLemmas.{makes-move, makes-step}
 use Rattle.vh_kernel.proofs.StepLemmas.{label-goes}
 use Rattle.vh_kernel.proofs.kernel.Kernel.step.Goals as goal
@@ -11,11 +11,11 @@ pub returns-clause-step : goal.returns-clause-step
 returns-clause-step c = elim c.if-not-is_end.branch [
   | then-not-is_end w ↦
       makes-step (state_of c.args.self.now) (state_of c.make_label.new.self) (state_of c.if-not-is_end.self) c.args.k
-      (given_by c.args.self.now) c.in_ok-label.label false (next-new c.args.self.now.handles.next) c.in_ok-label.ensures
+      (given_by c.args.self.now) c.in_ok-label.label false (next-new c.args.self.now.world.handles.next) c.in_ok-label.ensures
       (sym w.if-not-is_end.ensures) (rw w.self-is w.settle.ensures)
   | else-not-is_end w ↦
       makes-step (state_of c.args.self.now) (state_of c.make_label.new.self) (state_of c.if-not-is_end.self) c.args.k
-      (given_by c.args.self.now) c.in_ok-label.label true (next-new c.args.self.now.handles.next) c.in_ok-label.ensures
+      (given_by c.args.self.now) c.in_ok-label.label true (next-new c.args.self.now.world.handles.next) c.in_ok-label.ensures
       (sym w.if-not-is_end.ensures) (ap state_of w.self-is)
 ]
 

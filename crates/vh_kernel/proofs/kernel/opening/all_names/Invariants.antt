@@ -1,5 +1,5 @@
 use Rattle.std.proofs.Common.{◌≡◌, ◌∷◌, take, map}
-use Rattle.vh_kernel.specs.Names.{below}
+use Rattle.vh_orders.specs.Names.{below}
 use Rattle.vh_kernel.proofs.kernel.opening.all_names.Given as goal
 
 abbrev pub invariant-loop-reg : goal.invariant-loop-reg

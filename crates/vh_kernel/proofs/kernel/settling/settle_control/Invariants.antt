@@ -4,7 +4,7 @@ use Rattle.vh_kernel.proofs.kernel.settling.settle_control.Given as goal
 
 -- what is left settles as the whole does
 abbrev pub invariant-voids : goal.invariant-voids
-invariant-voids l = without_front (is_void l.callbacks) l.control ≡ without_front (is_void l.callbacks) l.initial.control
+invariant-voids l = without_front (is_void l.callbacks.callbacks) l.control ≡ without_front (is_void l.callbacks.callbacks) l.initial.control
 
 abbrev pub decreases-voids : goal.decreases-voids
 decreases-voids l = length l.control

@@ -1,0 +1,2 @@
+-- What the effect of an order can be.
+pub mod OrdersLemmas

@@ -1,0 +1,8 @@
+-- The names of a design's objects.
+pub mod Names
+-- What orders read and change.
+pub mod World
+-- What each order is answered and what it changes, a row for each.
+pub mod Orders
+-- How contracts see a world, and what its functions do to it.
+pub mod Views

@@ -1,0 +1,330 @@
+-- What an order is answered and what it changes: a row for each order, its checks in the row's order.
+-- (IEEE 1364-2005, clause 27, in this project's profile; the codes of errors are own)
+use Rattle.std.specs.Prelude.{ℕ, List, [], ◌∷◌, map, Bool, true, false, if◌then◌else◌, not, ◌&&◌, Option, Some, None, is_some, Result, Ok, Err, bytes_eq, ok_or, option_map, position, slice_get}
+use Rattle.vh_base.specs.declared.orders.Answer.{Answer}
+use Rattle.vh_base.specs.declared.orders.Answer.TheVariants as answer
+use Rattle.vh_base.specs.declared.orders.BodyName.{BodyName}
+use Rattle.vh_base.specs.declared.orders.BodyName.TheVariants as body_name
+use Rattle.vh_base.specs.declared.orders.Object.{Object}
+use Rattle.vh_base.specs.declared.orders.Order.{Order}
+use Rattle.vh_base.specs.declared.orders.Order.TheVariants as order
+use Rattle.vh_base.specs.declared.words.Code.{Code}
+use Rattle.vh_base.specs.declared.words.Code.TheVariants as code
+use Rattle.vh_base.specs.declared.words.Reason.{Reason}
+use Rattle.vh_base.specs.declared.words.Reason.TheVariants as reason
+use Rattle.vh_base.specs.declared.words.Relation.{Relation}
+use Rattle.vh_base.specs.declared.words.Relation.TheVariants as relation
+use Rattle.vh_base.specs.Checks.{unless, with_some, with_ok}
+use Rattle.vh_app.specs.Next.{procedure_named}
+use Rattle.vh_app.specs.Script.{ScriptData}
+use Rattle.vh_callbacks.specs.declared.registration.Registration.{Registration}
+use Rattle.vh_callbacks.specs.Callbacks.{is_full as no_callback_more, registered, removed}
+use Rattle.vh_orders.specs.declared.who.Body.{Body}
+use Rattle.vh_orders.specs.declared.who.Who.{Who}
+use Rattle.vh_orders.specs.declared.who.Who.TheVariants as who_is
+use Rattle.vh_callbacks.specs.Marks.{without_number}
+use Rattle.vh_handles.specs.declared.handles.Thing.{Thing}
+use Rattle.vh_handles.specs.declared.handles.Thing.TheVariants as thing
+use Rattle.vh_handles.specs.Handles.{thing_at, opened, freed, no_handle_more}
+use Rattle.vh_orders.specs.Names.{object_named, name_of, below, whole, is_scope}
+use Rattle.vh_orders.specs.World.{World}
+
+-- An order is refused with an error, and nothing changes; or it is answered; or it gives a new handle,
+-- with the world for each number that this may get.
+pub data Done : Type 0 where
+  answers : Answer → World → Done
+  opens : (ℕ → World) → Done
+
+abbrev pub Effect : Type 0
+Effect = Result Done Code
+
+-- What a step may choose besides its number: the number of a new handle.
+pub record Given : Type 0 where
+  pub handle : ℕ
+
+-- The answer of an order, and the world after it.
+abbrev pub answered : Effect → World → Given → Answer × World
+answered (Err c) w g = (answer.Refused c, w)
+answered (Ok (answers a after)) w g = (a, after)
+answered (Ok (opens after)) w g = (answer.Handle g.handle, after g.handle)
+
+-- Startups come before the design is there.
+abbrev pub is_startup : Who → Bool
+is_startup (who_is.Callback c) = false
+is_startup (who_is.Startup k) = true
+
+-- The object, or the callback, that a handle names: E1 where it isn't live, E2 where it names another thing.
+abbrev pub object_in : Option Thing → Result Object Code
+object_in None = Err code.E1
+object_in (Some (thing.Object o)) = Ok o
+object_in (Some (thing.Iterator r from at count)) = Err code.E2
+object_in (Some (thing.Callback c)) = Err code.E2
+object_in (Some (thing.Event serial)) = Err code.E2
+
+abbrev pub callback_in : Option Thing → Result ℕ Code
+callback_in None = Err code.E1
+callback_in (Some (thing.Object o)) = Err code.E2
+callback_in (Some (thing.Iterator r from at count)) = Err code.E2
+callback_in (Some (thing.Callback c)) = Ok c
+callback_in (Some (thing.Event serial)) = Err code.E2
+
+-- The full name that a path below a scope means; below null it is the path.
+abbrev pub name_meant : Option ℕ → List ℕ → World → Result (List ℕ) Code
+name_meant None path w = Ok path
+name_meant (Some h) path w =
+    with_ok (object_in (thing_at h w.handles)) (λ o. unless (not (is_scope o)) code.E2 (Ok (below (name_of o.id w.names) path)))
+
+-- A new handle of an object, or null where there is none.
+abbrev pub new_handle : Option ℕ → World → Effect
+new_handle None w = Ok (answers answer.Null w)
+new_handle (Some id) w =
+    unless (no_handle_more w.handles) code.E10
+    (Ok (opens (λ h. record w { handles = opened h (thing.Object (whole id)) w.handles })))
+
+-- Which reasons watch an object. (27.33)
+abbrev pub needs_object : Reason → Bool
+needs_object reason.CbValueChange = true
+needs_object reason.CbForce = true
+needs_object reason.CbRelease = true
+needs_object reason.CbAtStartOfSimTime = false
+needs_object reason.CbAfterDelay = false
+needs_object reason.CbNextSimTime = false
+needs_object reason.CbReadWriteSynch = false
+needs_object reason.CbReadOnlySynch = false
+needs_object reason.CbEndOfCompile = false
+needs_object reason.CbStartOfSimulation = false
+needs_object reason.CbEndOfSimulation = false
+
+-- Which reasons stand for an entry of the event queue. (27.33) They come later, and until then no script
+-- names one; they are refused.
+abbrev pub needs_entry : Reason → Bool
+needs_entry reason.CbValueChange = false
+needs_entry reason.CbForce = false
+needs_entry reason.CbRelease = false
+needs_entry reason.CbAtStartOfSimTime = true
+needs_entry reason.CbAfterDelay = true
+needs_entry reason.CbNextSimTime = true
+needs_entry reason.CbReadWriteSynch = true
+needs_entry reason.CbReadOnlySynch = true
+needs_entry reason.CbEndOfCompile = false
+needs_entry reason.CbStartOfSimulation = false
+needs_entry reason.CbEndOfSimulation = false
+
+-- The object that a registration watches: a register.
+abbrev pub object_watched : Bool → Option ℕ → World → Result (Option Object) Code
+object_watched false h w = Ok None
+object_watched true h w =
+    with_some h code.E1 (λ n.
+    with_ok (object_in (thing_at n w.handles)) (λ o. unless (is_scope o) code.E2 (Ok (Some o))))
+
+-- The procedure of a script, by their names. A native is none, since no natives are handed in yet.
+abbrev pub start_in : ℕ → List ℕ → ScriptData → Option Body
+start_in i name script = option_map (λ at. record { script = i; start = at }) (procedure_named script name)
+
+abbrev pub body_named : BodyName → List ScriptData → Result Body Code
+body_named (body_name.Proc p) scripts =
+    with_some (position (λ s. bytes_eq s.name p.app) scripts) code.E13 (λ i.
+    with_some (slice_get scripts i) code.E13 (λ script. ok_or (start_in i p.name script) code.E13))
+body_named (body_name.Native name) scripts = Err code.E12
+
+-- A new callback, with its handle.
+abbrev pub new_callback : (ℕ → Registration) → Body → World → Effect
+new_callback r b w =
+    unless (no_callback_more w.callbacks) code.E11
+    (unless (no_handle_more w.handles) code.E10
+    (Ok (opens (λ me. record w {
+      callbacks = registered (r me) b w.callbacks;
+      handles = opened me (thing.Callback w.callbacks.next) w.handles;
+    }))))
+
+-- What is registered, under the handle that it gets.
+abbrev pub registration_of : Reason → Option Object → Option ℕ → ℕ → ℕ → ℕ → Registration
+registration_of r object named_handle time n me = record {
+  reason = r;
+  object = object;
+  object_handle = named_handle;
+  me = me;
+  time = time;
+  serial = None;
+  user_data = n;
+}
+
+-- A callback is gone, from every frame'w set too, and a handle is freed.
+abbrev pub without_callback : ℕ → ℕ → World → World
+without_callback c h w = record w {
+  callbacks = removed c w.callbacks;
+  handles = freed h w.handles;
+  frames = map (without_number c) w.frames;
+}
+
+-- The relation of the running call takes null, and so does that of the top modules.
+abbrev pub is_running_call : Relation → Bool
+is_running_call relation.VpiModule = false
+is_running_call relation.VpiScope = false
+is_running_call relation.VpiParent = false
+is_running_call relation.VpiSysTfCall = true
+is_running_call relation.VpiInternalScope = false
+is_running_call relation.VpiNet = false
+is_running_call relation.VpiPort = false
+is_running_call relation.VpiContAssign = false
+is_running_call relation.VpiProcess = false
+is_running_call relation.VpiReg = false
+is_running_call relation.VpiVariables = false
+is_running_call relation.VpiMemory = false
+is_running_call relation.VpiParameter = false
+is_running_call relation.VpiNamedEvent = false
+is_running_call relation.VpiMemoryWord = false
+is_running_call relation.VpiArgument = false
+
+abbrev pub is_module : Relation → Bool
+is_module relation.VpiModule = true
+is_module relation.VpiScope = false
+is_module relation.VpiParent = false
+is_module relation.VpiSysTfCall = false
+is_module relation.VpiInternalScope = false
+is_module relation.VpiNet = false
+is_module relation.VpiPort = false
+is_module relation.VpiContAssign = false
+is_module relation.VpiProcess = false
+is_module relation.VpiReg = false
+is_module relation.VpiVariables = false
+is_module relation.VpiMemory = false
+is_module relation.VpiParameter = false
+is_module relation.VpiNamedEvent = false
+is_module relation.VpiMemoryWord = false
+is_module relation.VpiArgument = false
+
+-- A handle that is needed; where null may stand for it, null is none.
+abbrev pub handle_or_null : Bool → Option ℕ → List (Option ℕ)
+handle_or_null free None = if free then [] else None ∷ []
+handle_or_null free (Some h) = Some h ∷ []
+
+-- A handle that is read on a condition.
+abbrev pub handle_if : Bool → Option ℕ → List (Option ℕ)
+handle_if true h = h ∷ []
+handle_if false h = []
+
+-- The handles that an order reads, a row for each; null among them is a handle that names nothing. A
+-- registration for a reason without an object reads none.
+abbrev pub handles_read : Order → List (Option ℕ)
+handles_read (order.ByName text scope) = handle_or_null true scope
+handles_read (order.ByIndex h n) = h ∷ []
+handles_read (order.Handle r h) = handle_or_null (is_running_call r) h
+handles_read (order.Iterate r h) = handle_or_null (is_module r) h
+handles_read (order.Scan h) = h ∷ []
+handles_read (order.Free h) = h ∷ []
+handles_read (order.Compare a b) = a ∷ b ∷ []
+handles_read (order.Get property h) = h ∷ []
+handles_read (order.GetStr property h) = h ∷ []
+handles_read (order.GetValue h format) = h ∷ []
+handles_read (order.PutValue h format text mode time event) = h ∷ []
+handles_read (order.Cancel h) = h ∷ []
+handles_read order.GetTime = []
+handles_read (order.Register r h time body n) = handle_if (needs_object r) h
+handles_read (order.Remove h) = h ∷ []
+handles_read (order.CbInfo h) = h ∷ []
+handles_read (order.RegisterSystf kind text n calltf compiletf) = []
+handles_read order.ChkError = []
+handles_read (order.Control stop) = []
+handles_read (order.Print text) = []
+handles_read (order.SetData n) = []
+handles_read order.Pass = []
+handles_read order.Return = []
+
+-- Does a handle name something?
+abbrev pub is_named : World → Option ℕ → Bool
+is_named w None = false
+is_named w (Some h) = is_some (thing_at h w.handles)
+
+abbrev pub all_named : World → List (Option ℕ) → Bool
+all_named w [] = true
+all_named w (h ∷ hs) = all_named w hs && is_named w h
+
+-- An order that no script gives yet is refused, after the checks that stand before all others.
+abbrev pub not_yet : Order → Who → World → Effect
+not_yet o who w =
+    unless (is_startup who) code.E9
+    (unless (not (all_named w (handles_read o))) code.E1
+    (Err code.E9))
+
+-- Each order.
+abbrev pub effect_of : Order → Who → World → Effect
+-- by_name
+effect_of (order.ByName text scope) who w =
+    unless (is_startup who) code.E9
+    (with_ok (name_meant scope text w) (λ name. new_handle (object_named name w.names) w))
+effect_of (order.ByIndex h n) who w = not_yet (order.ByIndex h n) who w
+effect_of (order.Handle r h) who w = not_yet (order.Handle r h) who w
+effect_of (order.Iterate r h) who w = not_yet (order.Iterate r h) who w
+effect_of (order.Scan h) who w = not_yet (order.Scan h) who w
+effect_of (order.Free h) who w = not_yet (order.Free h) who w
+effect_of (order.Compare a b) who w = not_yet (order.Compare a b) who w
+effect_of (order.Get property h) who w = not_yet (order.Get property h) who w
+effect_of (order.GetStr property h) who w = not_yet (order.GetStr property h) who w
+effect_of (order.GetValue h format) who w = not_yet (order.GetValue h format) who w
+effect_of (order.PutValue h format text mode time event) who w = not_yet (order.PutValue h format text mode time event) who w
+effect_of (order.Cancel h) who w = not_yet (order.Cancel h) who w
+effect_of order.GetTime who w = not_yet order.GetTime who w
+-- register (27.33)
+effect_of (order.Register r h time body n) who w =
+    unless (is_startup who && needs_object r) code.E9
+    (unless (needs_entry r) code.E9
+    (with_ok (object_watched (needs_object r) h w) (λ o.
+    with_ok (body_named body w.scripts) (λ b.
+    new_callback (registration_of r o h time n) b w))))
+-- remove
+effect_of (order.Remove h) who w =
+    unless (is_startup who) code.E9
+    (with_some h code.E1 (λ n.
+    with_ok (callback_in (thing_at n w.handles)) (λ c.
+    Ok (answers (answer.Number 1) (without_callback c n w)))))
+effect_of (order.CbInfo h) who w = not_yet (order.CbInfo h) who w
+effect_of (order.RegisterSystf kind text n calltf compiletf) who w = not_yet (order.RegisterSystf kind text n calltf compiletf) who w
+effect_of order.ChkError who w = not_yet order.ChkError who w
+effect_of (order.Control stop) who w = not_yet (order.Control stop) who w
+effect_of (order.Print text) who w = Ok (answers answer.Done w)
+effect_of (order.SetData n) who w = not_yet (order.SetData n) who w
+effect_of order.Pass who w = not_yet order.Pass who w
+effect_of order.Return who w = not_yet order.Return who w
+
+-- The error of an answer, if it is one.
+abbrev pub error_in : Answer → Option Code
+error_in answer.Done = None
+error_in answer.Null = None
+error_in (answer.Handle h) = None
+error_in (answer.Number n) = None
+error_in (answer.Text text) = None
+error_in (answer.Refused c) = Some c
+
+-- The order is performed: it is answered, and the error of its answer is kept.
+abbrev pub with_error : Answer × World → Answer × World
+with_error x = (x.0, record x.1 { error = error_in x.0 })
+
+abbrev pub performed : Order → Who → World → Given → Answer × World
+performed o who w g = with_error (answered (effect_of o who w) w g)
+
+-- Does an activation return?
+abbrev pub is_return : Order → Bool
+is_return (order.ByName text scope) = false
+is_return (order.ByIndex h n) = false
+is_return (order.Handle r h) = false
+is_return (order.Iterate r h) = false
+is_return (order.Scan h) = false
+is_return (order.Free h) = false
+is_return (order.Compare a b) = false
+is_return (order.Get property h) = false
+is_return (order.GetStr property h) = false
+is_return (order.GetValue h format) = false
+is_return (order.PutValue h format text mode time event) = false
+is_return (order.Cancel h) = false
+is_return order.GetTime = false
+is_return (order.Register r h time body n) = false
+is_return (order.Remove h) = false
+is_return (order.CbInfo h) = false
+is_return (order.RegisterSystf kind text n calltf compiletf) = false
+is_return order.ChkError = false
+is_return (order.Control stop) = false
+is_return (order.Print text) = false
+is_return (order.SetData n) = false
+is_return order.Pass = false
+is_return order.Return = true

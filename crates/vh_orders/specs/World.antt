@@ -1,0 +1,20 @@
+-- The world of applications: what their orders read and change. (IEEE 1364-2005, clause 26)
+use Rattle.std.specs.Prelude.{ℕ, List, Option}
+use Rattle.vh_app.specs.Script.{ScriptData}
+use Rattle.vh_base.specs.declared.orders.Answer.{Answer}
+use Rattle.vh_base.specs.declared.words.Code.{Code}
+use Rattle.vh_callbacks.specs.Callbacks.{Callbacks}
+use Rattle.vh_handles.specs.Handles.{Handles}
+use Rattle.vh_orders.specs.declared.who.Body.{Body}
+
+-- The full names of the design's objects by number, and the scripts, which no order changes; the variables
+-- of each script; the callbacks; for each frame that stands, the top first, the callbacks that are still to
+-- fire for it; the handles; and the error of the last order.
+pub record World : Type 0 where
+  pub names : List (List ℕ)
+  pub scripts : List ScriptData
+  pub variables : List (List Answer)
+  pub callbacks : Callbacks Body
+  pub frames : List (List ℕ)
+  pub handles : Handles
+  pub error : Option Code

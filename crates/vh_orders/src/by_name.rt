@@ -1,0 +1,92 @@
+ghost use Rattle.std.specs.Prelude.{◌≡◌, IfOk};
+ghost use Rattle.vh_orders.specs.Names.{object_named, name_of, below};
+ghost use Rattle.vh_orders.specs.Orders.{effect_of, object_in, new_handle};
+ghost use Rattle.vh_orders.specs.Views.{world_of, HasEffect};
+
+use crate::halt::Halt;
+use crate::names::{is_scope, joined, object_named};
+use crate::tables::is_startup;
+use crate::who::Who;
+use crate::world::World;
+use std::alloc::Global;
+use vh_base::{Answer, Code, HandleNo, NoMemory, ObjId, Object, Order};
+use vh_handles::Thing;
+
+// The object that a handle names.
+pub(crate) fn object_in(thing: Option<Thing>) -> Result<Object, Code>
+    ensures { result ≡ object_in thing }
+{
+    match thing {
+        None => Err(Code::E1),
+        Some(Thing::Object(object)) => Ok(object),
+        Some(Thing::Iterator { .. } | Thing::Callback(_) | Thing::Event(_)) => Err(Code::E2),
+    }
+}
+
+impl World {
+    // by_name: the object of a full name, or of a path below a scope.
+    pub(crate) fn by_name(
+        &mut self,
+        alloc: Global,
+        who: &Who,
+        text: &[u8],
+        scope: Option<HandleNo>,
+    ) -> Result<Answer, Halt>
+        ensures { HasEffect (effect_of (Order.ByName text.now scope) who.now (world_of self.old))
+            self.old result self.new }
+    {
+        if is_startup(who) {
+            return Err(Halt::Refused(Code::E9));
+        }
+        let Some(handle) = scope else {
+            let found = object_named(&self.names, text);
+            return self.open(alloc, found);
+        };
+        let object = match object_in(self.handles.thing(handle)) {
+            Ok(object) => object,
+            Err(code) => return Err(Halt::Refused(code)),
+        };
+        if !is_scope(&object) {
+            return Err(Halt::Refused(Code::E2));
+        }
+        let found = self.path_named(alloc, &object, text)?;
+        self.open(alloc, found)
+    }
+
+    // The object of a path below a scope.
+    fn path_named(
+        &self,
+        alloc: Global,
+        scope: &Object,
+        path: &[u8],
+    ) -> Result<Option<usize>, NoMemory>
+        ensures { IfOk result (λ id. id ≡ object_named
+            (below (name_of scope.now.id (world_of self.now).names) path.now) (world_of self.now).names) }
+    {
+        let name = joined(alloc, self.object_name(scope.id), path)?;
+        Ok(object_named(&self.names, name.as_slice()))
+    }
+
+    // A new handle of an object, if there is one.
+    fn open(&mut self, alloc: Global, id: Option<usize>) -> Result<Answer, Halt>
+        ensures { HasEffect (new_handle id (world_of self.old)) self.old result self.new }
+    {
+        let Some(id) = id else {
+            return Ok(Answer::Null);
+        };
+        if self.handles.is_full() {
+            return Err(Halt::Refused(Code::E10));
+        }
+        let Ok(number) = u32::try_from(id) else {
+            return Err(Halt::NoMemory);
+        };
+        let object = Object {
+            id: ObjId::new(number),
+            word: None,
+        };
+        let Ok(handle) = self.handles.open_handle(alloc, Thing::Object(object)) else {
+            return Err(Halt::NoMemory);
+        };
+        Ok(Answer::Handle(handle))
+    }
+}

@@ -1,0 +1,27 @@
+//! The routines that applications call, over the world that they read and change (IEEE
+//! 1364-2005, clause 27).
+//!
+//! The one contract used above: [`perform`] answers an order and changes the [`World`] as the
+//! order's row of `specs/Orders.antt` says; a new handle has the next number of the world's.
+//! Want of memory is the one free answer. It wakes nobody and knows neither control nor the
+//! event queue: a removal reaches every frame through the registry's sets. It stands on
+//! `vh_app`, whose scripts have procedures, `vh_callbacks` and `vh_dispatch`, which keep the
+//! callbacks and the frames' sets, and `vh_handles`.
+#![tactic(auto)]
+
+mod by_name;
+mod halt;
+mod names;
+mod performing;
+mod reads;
+mod register;
+mod remove;
+mod tables;
+mod who;
+mod world;
+
+pub use names::joined;
+pub use performing::perform;
+pub use tables::is_return;
+pub use who::{Body, Who};
+pub use world::World;

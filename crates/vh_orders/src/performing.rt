@@ -1,0 +1,97 @@
+ghost use Rattle.std.specs.Prelude.{◌≡◌, false, IfOk, Err};
+ghost use Rattle.vh_orders.specs.Orders.{performed, answered, effect_of, not_yet, is_return};
+ghost use Rattle.vh_orders.specs.Views.{world_of, given_by, HasEffect};
+
+use crate::halt::Halt;
+use crate::tables::{error_in, is_startup};
+use crate::who::Who;
+use crate::world::World;
+use std::alloc::Global;
+use vh_base::{Answer, Code, NoMemory, Order};
+use vh_callbacks::Registration;
+
+/// Performs an order: answers it, and changes the world as its row says. The error of the
+/// answer is the world's last error. An order that ends an activation is not performed.
+pub fn perform(alloc: Global, w: &mut World, who: Who, order: &Order) -> Result<Answer, NoMemory>
+    requires { is_return order.now ≡ false }
+    ensures { IfOk result (λ a. performed order.now who (world_of w.old) (given_by w.old)
+        ≡ (a, world_of w.new)) }
+{
+    let answer = w.answer(alloc, &who, order)?;
+    w.last_error = error_in(&answer);
+    Ok(answer)
+}
+
+impl World {
+    // Answers an order, and changes what it changes.
+    fn answer(&mut self, alloc: Global, who: &Who, order: &Order) -> Result<Answer, NoMemory>
+        ensures { IfOk result (λ a. answered (effect_of order.now who.now (world_of self.old))
+            (world_of self.old) (given_by self.old) ≡ (a, world_of self.new)) }
+    {
+        match self.carry_out(alloc, who, order) {
+            Ok(answer) => Ok(answer),
+            Err(Halt::Refused(code)) => Ok(Answer::Refused(code)),
+            Err(Halt::NoMemory) => Err(NoMemory),
+        }
+    }
+
+    fn carry_out(&mut self, alloc: Global, who: &Who, order: &Order) -> Result<Answer, Halt>
+        ensures { HasEffect (effect_of order.now who.now (world_of self.old)) self.old result self.new }
+    {
+        match order {
+            Order::ByName { text, scope } => self.by_name(alloc, who, text.bytes(), *scope),
+            Order::Register {
+                reason,
+                h,
+                time,
+                body,
+                n,
+            } => {
+                let registration = Registration {
+                    reason: *reason,
+                    object: None,
+                    object_handle: *h,
+                    me: self.handles.next_number(),
+                    time: *time,
+                    serial: None,
+                    user_data: *n,
+                };
+                self.register(alloc, who, registration, body)
+            }
+            Order::Remove { h } => self.remove(who, *h),
+            Order::Print { .. } => Ok(Answer::Done),
+            Order::ByIndex { .. }
+            | Order::Handle { .. }
+            | Order::Iterate { .. }
+            | Order::Scan { .. }
+            | Order::Free { .. }
+            | Order::Compare { .. }
+            | Order::Get { .. }
+            | Order::GetStr { .. }
+            | Order::GetValue { .. }
+            | Order::PutValue { .. }
+            | Order::Cancel { .. }
+            | Order::GetTime
+            | Order::CbInfo { .. }
+            | Order::RegisterSystf { .. }
+            | Order::ChkError
+            | Order::Control { .. }
+            | Order::SetData { .. }
+            | Order::Pass
+            | Order::Return => self.not_yet(who, order),
+        }
+    }
+
+    // An order that no script gives yet.
+    fn not_yet(&self, who: &Who, order: &Order) -> Result<Answer, Halt>
+        ensures { HasEffect (not_yet order.now who.now (world_of self.now)) self.now result self.now }
+    {
+        if is_startup(who) {
+            return Err(Halt::Refused(Code::E9));
+        }
+        if !self.names_all(order) {
+            return Err(Halt::Refused(Code::E1));
+        }
+        Err(Halt::Refused(Code::E9))
+    }
+}

@@ -1,0 +1,2 @@
+-- What an opening queue is made of.
+mod EventsLemmas

@@ -1,0 +1,15 @@
+//! The event queue (IEEE 1364-2005, 11.3 and 11.4).
+//!
+//! The one contract used above: contracts see [`Queue`] as `Events`, a finite map from serials
+//! to entries with the next serial and the present time; each call is one equation over it, and
+//! the entries that may be picked are those that `eligible` of `specs/Events.antt` gives. Want of
+//! memory is the one free answer. It stands on `vh_base` alone.
+#![tactic(auto)]
+
+mod queue;
+mod region;
+#[cfg(test)]
+mod tests;
+
+pub use queue::{Entry, Queue, Work};
+pub use region::Region;
