@@ -1,0 +1,2 @@
+-- What the views of trees with lists of parts are
+pub mod ViewsLemmas

@@ -1,0 +1,5 @@
+use Rattle.vh_ast.proofs.ViewsLemmas.{expr_tree-Name}
+use Rattle.vh_ast.proofs.expr.Expr.named.Goals as goal
+
+pub returns : goal.returns
+returns c = expr_tree-Name _ _ _

@@ -1,0 +1,47 @@
+//! Trees of the whole grammar: a struct or an enum for each production, by its name, with its parts
+//! in order and its place. README.md lays each type beside its production.
+//!
+//! The contract that the layers above use: contracts see each tree as plain data (specs/Views.antt).
+//! The six functions of [`Expr`] and [`Stmt`] make trees whose parts may be absent or stand in lists;
+//! all others are made as they are written. A chain of operators, a target's braces and `generate`
+//! regions are flat: a tree is as deep as what the depth limit counts.
+//!
+//! It stands on `vh_base` for texts and places, on `vh_logic` for the values of numbers, on `vh_lex`
+//! for what the directives before a module set, and on `sqlite_items` for lists and boxes that a type
+//! may hold itself in.
+#![tactic(auto)]
+
+mod data_type;
+mod declared;
+mod expr;
+mod instance;
+mod item;
+mod module;
+mod name;
+mod operator;
+mod port;
+mod routine;
+mod stmt;
+mod target;
+#[cfg(test)]
+mod tests;
+mod timing;
+mod token;
+
+pub use data_type::{DataType, NetType, Range, Variable};
+pub use declared::{Assigned, Decl, Init, Net, Var, VarPart};
+pub use expr::{Expr, ExprForm, Link, Prim};
+pub use instance::{Conn, Conns, Gate, GateType, Inst};
+pub use item::{Gblock, Item, ItemForm, ParameterWord, Plain, ProcessWord};
+pub use module::{Module, Source};
+pub use name::{Esel, Name, Part, Sel, Step};
+pub use operator::{Binary, Unary};
+pub use port::{Direction, Par, Pdecl, Port, PortType, Ports};
+pub use routine::{Function, Local, ResultType, Targ, Task, TaskDirection};
+pub use stmt::{
+    AssignWord, BlockWord, CaseWord, Citem, ForceWord, Labels, LoopWord, ReleaseWord, Simple, Stmt,
+    StmtForm,
+};
+pub use target::{Lv, LvPart, Set};
+pub use timing::{Delay, DelayValue, Edge, Ev, Event};
+pub use token::{Id, Ids, Number};
