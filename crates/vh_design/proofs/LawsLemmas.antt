@@ -1,0 +1,128 @@
+-- Lemmas on `specs/Laws.antt`: what each rule means, from the test that keeps it.
+use Rattle.std.proofs.Common.{◌≡◌, ℕ, Bool, true, ◌&&◌, nat_le, nat_lt, List, [], ◌∷◌, Option, Some, None, slice_index_or, refl}
+use Rattle.std.specs.Cmp.Derive.{both_true}
+use Rattle.std.specs.List.{list_all}
+use Rattle.std.proofs.lemmas.Bool.{leb-true, ltb-true}
+use Rattle.std.proofs.lemmas.List.Sums.{AllPass-from_list_all}
+use Rattle.vh_design.specs.declared.expr.ExprKind.{ExprKind}
+use Rattle.vh_design.specs.declared.expr.ExprKind.TheVariants as kind
+use Rattle.vh_design.specs.declared.fits.TheConstants.{MOST_UNIT}
+use Rattle.vh_design.specs.declared.object.ObjectInfo.{ObjectInfo}
+use Rattle.vh_design.specs.Kinds.{is_vector, is_variable, is_memory, is_function, is_system_function}
+use Rattle.vh_design.specs.Laws.{with_address, parts_of, Read, read_chosen, reads_of, PartsComeBefore, ReadsFit, NodesAreMeasured, UnitsFit, ScopesComeBefore, DriversAreOfNets, PrecisionFits}
+use Rattle.vh_design.proofs.ValidityLemmas.{and_left, and_right, only, node_kind, node_measured, of_kind, object_scope, driver_net}
+use Rattle.vh_design.specs.Validity.{has_kind, is_unit, all_before, fits_word, fits_chosen, fits_kind}
+
+-- The expressions that an expression is made of come before it.
+address_before : (os : List ObjectInfo) (e o : ℕ) (word : Option ℕ) (parts : List ℕ)
+    → fits_word os e o word ≡ true → all_before e parts ≡ true → all_before e (with_address word parts) ≡ true
+address_before os e o None parts h rest = rest
+address_before os e o (Some at) parts h rest = both_true (and_right (has_kind is_memory os o) (nat_lt at e) h) rest
+
+parts_before : (os : List ObjectInfo) (precision e : ℕ) (k : ExprKind)
+    → fits_kind os precision e k ≡ true → all_before e (parts_of k) ≡ true
+parts_before os precision e (kind.Literal v) h = refl
+parts_before os precision e (kind.Whole o) h = refl
+parts_before os precision e (kind.Word m index) h =
+    only (nat_lt index e) (and_right (has_kind is_memory os m) (nat_lt index e) h)
+parts_before os precision e (kind.Bit chosen range index) h =
+    address_before os e chosen.object chosen.word (index ∷ []) (and_left (fits_chosen os e chosen) (nat_lt index e) h)
+    (only (nat_lt index e) (and_right (fits_chosen os e chosen) (nat_lt index e) h))
+parts_before os precision e (kind.Slice chosen range lowest width) h =
+    address_before os e chosen.object chosen.word [] h refl
+parts_before os precision e (kind.Indexed up chosen range base width) h =
+    address_before os e chosen.object chosen.word (base ∷ []) (and_left (fits_chosen os e chosen) (nat_lt base e) h)
+    (only (nat_lt base e) (and_right (fits_chosen os e chosen) (nat_lt base e) h))
+parts_before os precision e (kind.Unary op part) h = only (nat_lt part e) h
+parts_before os precision e (kind.Arithmetic first rest) h = h
+parts_before os precision e (kind.Shift first rest) h = h
+parts_before os precision e (kind.Comparison first rest) h = h
+parts_before os precision e (kind.Logic first rest) h = h
+parts_before os precision e (kind.Choice condition left right) h =
+    let both = and_left (nat_lt condition e && nat_lt left e) (nat_lt right e) h in
+    both_true (and_left (nat_lt condition e) (nat_lt left e) both)
+    (both_true (and_right (nat_lt condition e) (nat_lt left e) both)
+    (only (nat_lt right e) (and_right (nat_lt condition e && nat_lt left e) (nat_lt right e) h)))
+parts_before os precision e (kind.Join first rest) h = h
+parts_before os precision e (kind.Repeat count part) h = only (nat_lt part e) h
+parts_before os precision e (kind.Marked part signed) h = only (nat_lt part e) h
+parts_before os precision e (kind.Time unit) h = refl
+parts_before os precision e (kind.Call function result arguments) h =
+    and_right (has_kind is_function os function && has_kind is_variable os result) (all_before e arguments) h
+parts_before os precision e (kind.SysCall o) h = refl
+
+pub parts_come_before : PartsComeBefore
+parts_come_before d e n valid at =
+    let passes = parts_before d.objects d.precision e n.kind (node_kind d e n (valid.exprs e n at)) in
+    let all = AllPass-from_list_all (λ p. nat_lt p e) (parts_of n.kind) passes in
+    λ k p inside. ltb-true (slice_index_or (parts_of n.kind) k p) e (all k p inside)
+
+-- The objects that it reads pass their tests.
+abbrev passes : List ObjectInfo → Read → Bool
+passes os r = has_kind r.test os r.object
+
+chosen_passes : (os : List ObjectInfo) (e o : ℕ) (word : Option ℕ)
+    → fits_word os e o word ≡ true → passes os (read_chosen o word) ≡ true
+chosen_passes os e o None h = h
+chosen_passes os e o (Some at) h = and_left (has_kind is_memory os o) (nat_lt at e) h
+
+reads_pass : (os : List ObjectInfo) (precision e : ℕ) (k : ExprKind)
+    → fits_kind os precision e k ≡ true → list_all (passes os) (reads_of k) ≡ true
+reads_pass os precision e (kind.Literal v) h = refl
+reads_pass os precision e (kind.Whole o) h = only (has_kind is_vector os o) h
+reads_pass os precision e (kind.Word m index) h =
+    only (has_kind is_memory os m) (and_left (has_kind is_memory os m) (nat_lt index e) h)
+reads_pass os precision e (kind.Bit chosen range index) h =
+    only (passes os (read_chosen chosen.object chosen.word))
+    (chosen_passes os e chosen.object chosen.word (and_left (fits_chosen os e chosen) (nat_lt index e) h))
+reads_pass os precision e (kind.Slice chosen range lowest width) h =
+    only (passes os (read_chosen chosen.object chosen.word)) (chosen_passes os e chosen.object chosen.word h)
+reads_pass os precision e (kind.Indexed up chosen range base width) h =
+    only (passes os (read_chosen chosen.object chosen.word))
+    (chosen_passes os e chosen.object chosen.word (and_left (fits_chosen os e chosen) (nat_lt base e) h))
+reads_pass os precision e (kind.Unary op part) h = refl
+reads_pass os precision e (kind.Arithmetic first rest) h = refl
+reads_pass os precision e (kind.Shift first rest) h = refl
+reads_pass os precision e (kind.Comparison first rest) h = refl
+reads_pass os precision e (kind.Logic first rest) h = refl
+reads_pass os precision e (kind.Choice condition left right) h = refl
+reads_pass os precision e (kind.Join first rest) h = refl
+reads_pass os precision e (kind.Repeat count part) h = refl
+reads_pass os precision e (kind.Marked part signed) h = refl
+reads_pass os precision e (kind.Time unit) h = refl
+reads_pass os precision e (kind.Call function result arguments) h =
+    let called = has_kind is_function os function in
+    let held = has_kind is_variable os result in
+    let both = and_left (called && held) (all_before e arguments) h in
+    both_true (and_left called held both) (only held (and_right called held both))
+reads_pass os precision e (kind.SysCall o) h = only (has_kind is_system_function os o) h
+
+pub reads_fit : ReadsFit
+reads_fit d e n valid at =
+    let passed = reads_pass d.objects d.precision e n.kind (node_kind d e n (valid.exprs e n at)) in
+    let all = AllPass-from_list_all (passes d.objects) (reads_of n.kind) passed in
+    λ k r inside.
+    let it = slice_index_or (reads_of n.kind) k r in
+    of_kind d.objects it.test it.object (all k r inside)
+
+pub nodes_are_measured : NodesAreMeasured
+nodes_are_measured d e n valid at = node_measured d e n (valid.exprs e n at)
+
+-- Its time unit.
+pub units_fit : UnitsFit
+units_fit d e n unit valid at is =
+    let k = node_kind d e n (valid.exprs e n at) in
+    let u : is_unit d.precision unit ≡ true = rw is at k in (
+      leb-true unit MOST_UNIT (and_left (nat_le unit MOST_UNIT) (nat_le d.precision unit) u),
+      leb-true d.precision unit (and_right (nat_le unit MOST_UNIT) (nat_le d.precision unit) u),
+    )
+
+-- Scopes, drivers and the precision.
+pub scopes_come_before : ScopesComeBefore
+scopes_come_before d o i valid at = object_scope d o i (valid.objects o i at)
+
+pub drivers_are_of_nets : DriversAreOfNets
+drivers_are_of_nets d x i valid at = driver_net d i (valid.drivers x i at)
+
+pub precision_fits : PrecisionFits
+precision_fits d valid = leb-true d.precision MOST_UNIT valid.precise

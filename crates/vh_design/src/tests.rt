@@ -1,0 +1,466 @@
+use crate::{
+    Arithmetic, Chosen, Comparison, Counts, Design, Detail, DriverInfo, ExprKind, ExprNode, Kind,
+    Link, Logic, Name, NetType, ObjectInfo, Parts, Range, Shift, Unary, design_laws,
+};
+use std::alloc::Global;
+use std::mem::size_of;
+use std::test::Fail;
+use vh_base::{Boxed, DriverId, ExprId, NoMemory, ObjId, Object, Sequence};
+use vh_logic::{Digit, Vec4};
+
+// The objects of the design below.
+const TOP: u32 = 0;
+
+const Q: u32 = 1;
+
+const W: u32 = 2;
+
+const MEM: u32 = 3;
+
+const SUM: u32 = 4;
+
+const SUM_RESULT: u32 = 5;
+
+const RANDOM: u32 = 6;
+
+const STEP: u32 = 7;
+
+const OBJECTS: u32 = 8;
+
+// Its expressions.
+const READ_Q: u32 = 0;
+
+const ONE: u32 = 1;
+
+const NEXT: u32 = 2;
+
+const EXPRS: u32 = 3;
+
+// module counter; reg [7:0] q; wire [7:0] w; reg signed [3:0] mem [0:2];
+//   function [15:0] sum; .. endfunction
+//   parameter signed [7:0] STEP = 1; .. $random(q, mem[2]) .. q + 1 .. endmodule
+fn counter(alloc: Global) -> Result<Parts, NoMemory> {
+    let mut objects = Vec::new(alloc);
+    let name = Name::from_slice(alloc, b"counter")?;
+    objects.push(object(alloc, Kind::Module, None, 1, Detail::Module(name))?)?;
+    let top = Some(TOP);
+    objects.push(object(alloc, Kind::Reg, top, 8, Detail::Plain)?)?;
+    objects.push(object(alloc, Kind::Net, top, 8, Detail::Net(NetType::Wire))?)?;
+    let mut memory = object(alloc, Kind::Memory, top, 4, Detail::Plain)?;
+    memory.words = 3;
+    memory.signed = true;
+    objects.push(memory)?;
+    objects.push(object(alloc, Kind::Function, top, 1, Detail::Plain)?)?;
+    objects.push(object(alloc, Kind::Reg, Some(SUM), 16, Detail::Plain)?)?;
+    let call = called(alloc, Some(NEXT), &[whole(Q), word(MEM, 2)])?;
+    objects.push(object(alloc, Kind::SysFuncCall, top, 12, call)?)?;
+    let mut step = object(
+        alloc,
+        Kind::Parameter,
+        top,
+        8,
+        Detail::Value(ExprId::new(ONE)),
+    )?;
+    step.signed = true;
+    objects.push(step)?;
+
+    let mut exprs = Vec::new(alloc);
+    exprs.push(node(ExprKind::Whole(ObjId::new(Q)), 8, false))?;
+    exprs.push(node(number(32, true), 32, true))?;
+    exprs.push(node(chain(alloc, READ_Q, ONE)?, 32, false))?;
+
+    let mut drivers = Vec::new(alloc);
+    drivers.push(driver(W, 8))?;
+    Ok(Parts {
+        objects,
+        exprs,
+        drivers,
+        precision: 9,
+    })
+}
+
+fn object(
+    alloc: Global,
+    kind: Kind,
+    parent: Option<u32>,
+    width: u32,
+    detail: Detail,
+) -> Result<ObjectInfo, NoMemory> {
+    Ok(ObjectInfo {
+        name: Name::from_slice(alloc, b"name")?,
+        parent: parent.map(|scope| ObjId::new(scope)),
+        width,
+        words: 0,
+        line: 1,
+        kind,
+        signed: false,
+        detail,
+    })
+}
+
+fn called(alloc: Global, value: Option<u32>, args: &[Object]) -> Result<Detail, NoMemory> {
+    Ok(Detail::Call {
+        systf: 0,
+        result: value.map(|e| ExprId::new(e)),
+        args: Sequence::from_slice(alloc, args)?,
+    })
+}
+
+fn whole(id: u32) -> Object {
+    Object {
+        id: ObjId::new(id),
+        word: None,
+    }
+}
+
+fn word(id: u32, address: u32) -> Object {
+    Object {
+        id: ObjId::new(id),
+        word: Some(address),
+    }
+}
+
+fn node(kind: ExprKind, width: u32, signed: bool) -> ExprNode {
+    ExprNode {
+        kind,
+        width,
+        signed,
+    }
+}
+
+// A 1 in so many digits, 32 at least.
+fn number(width: u32, signed: bool) -> ExprKind {
+    let width = width.clamp(32, 64);
+    ExprKind::Literal(Vec4::from_planes(width, 1, 0, signed))
+}
+
+fn chain(alloc: Global, first: u32, second: u32) -> Result<ExprKind, NoMemory> {
+    let link = Link {
+        op: Arithmetic::Add,
+        part: ExprId::new(second),
+    };
+    Ok(ExprKind::Arithmetic {
+        first: ExprId::new(first),
+        rest: Sequence::from_slice(alloc, &[link])?,
+    })
+}
+
+fn driver(object: u32, width: u32) -> DriverInfo {
+    DriverInfo {
+        object: ObjId::new(object),
+        low: 0,
+        width,
+    }
+}
+
+fn built(parts: Parts) -> Option<Design> {
+    if parts.objects.len() > 99 || parts.exprs.len() > 99 || parts.drivers.len() > 99 {
+        return None;
+    }
+    Design::build(parts)
+}
+
+// Whether the counter stands with one more expression, object or driver, or with another
+// precision.
+fn stands(alloc: Global, kind: ExprKind, width: u32, signed: bool) -> Result<bool, NoMemory> {
+    let mut parts = counter(alloc)?;
+    parts.exprs.push(node(kind, width, signed))?;
+    Ok(built(parts).is_some())
+}
+
+fn stands_with(alloc: Global, object: ObjectInfo) -> Result<bool, NoMemory> {
+    let mut parts = counter(alloc)?;
+    parts.objects.push(object)?;
+    Ok(built(parts).is_some())
+}
+
+fn stands_driven(alloc: Global, driver: DriverInfo) -> Result<bool, NoMemory> {
+    let mut parts = counter(alloc)?;
+    parts.drivers.push(driver)?;
+    Ok(built(parts).is_some())
+}
+
+fn stands_at(alloc: Global, precision: u8) -> Result<bool, NoMemory> {
+    let mut parts = counter(alloc)?;
+    parts.precision = precision;
+    Ok(built(parts).is_some())
+}
+
+// The forms of expressions, of objects and expressions by number.
+fn bit(object: u32, word: Option<u32>, index: u32) -> ExprKind {
+    ExprKind::Bit {
+        of: chosen(object, word),
+        range: Range { left: 7, right: 0 },
+        index: ExprId::new(index),
+    }
+}
+
+fn slice(object: u32, word: Option<u32>, width: u32) -> ExprKind {
+    ExprKind::Slice {
+        of: chosen(object, word),
+        range: Range { left: 7, right: 0 },
+        lowest: 0,
+        width,
+    }
+}
+
+fn indexed(object: u32, word: Option<u32>, base: u32, width: u32) -> ExprKind {
+    ExprKind::Indexed {
+        up: true,
+        of: chosen(object, word),
+        range: Range { left: 7, right: 0 },
+        base: ExprId::new(base),
+        width,
+    }
+}
+
+fn chosen(object: u32, word: Option<u32>) -> Chosen {
+    Chosen {
+        object: ObjId::new(object),
+        word: word.map(|at| ExprId::new(at)),
+    }
+}
+
+fn word_of(memory: u32, index: u32) -> ExprKind {
+    ExprKind::Word {
+        memory: ObjId::new(memory),
+        index: ExprId::new(index),
+    }
+}
+
+fn unary(op: Unary, part: u32) -> ExprKind {
+    ExprKind::Unary {
+        op,
+        part: ExprId::new(part),
+    }
+}
+
+fn shift(alloc: Global, first: u32, second: u32) -> Result<ExprKind, NoMemory> {
+    let link = Link {
+        op: Shift::Left,
+        part: ExprId::new(second),
+    };
+    Ok(ExprKind::Shift {
+        first: ExprId::new(first),
+        rest: Sequence::from_slice(alloc, &[link])?,
+    })
+}
+
+fn compared(alloc: Global, first: u32, second: u32) -> Result<ExprKind, NoMemory> {
+    let link = Link {
+        op: Comparison::Equal,
+        part: ExprId::new(second),
+    };
+    Ok(ExprKind::Comparison {
+        first: ExprId::new(first),
+        rest: Sequence::from_slice(alloc, &[link])?,
+    })
+}
+
+fn both(alloc: Global, first: u32, second: u32) -> Result<ExprKind, NoMemory> {
+    let link = Link {
+        op: Logic::And,
+        part: ExprId::new(second),
+    };
+    Ok(ExprKind::Logic {
+        first: ExprId::new(first),
+        rest: Sequence::from_slice(alloc, &[link])?,
+    })
+}
+
+fn choice(condition: u32, yes: u32, no: u32) -> ExprKind {
+    ExprKind::Choice {
+        condition: ExprId::new(condition),
+        yes: ExprId::new(yes),
+        no: ExprId::new(no),
+    }
+}
+
+fn join(alloc: Global, first: u32, rest: &[ExprId]) -> Result<ExprKind, NoMemory> {
+    Ok(ExprKind::Join {
+        first: ExprId::new(first),
+        rest: Sequence::from_slice(alloc, rest)?,
+    })
+}
+
+fn repeat(count: u32, part: u32) -> ExprKind {
+    ExprKind::Repeat {
+        count,
+        part: ExprId::new(part),
+    }
+}
+
+fn marked(part: u32, signed: bool) -> ExprKind {
+    ExprKind::Marked {
+        part: ExprId::new(part),
+        signed,
+    }
+}
+
+fn call(alloc: Global, function: u32, variable: u32, argument: u32) -> Result<ExprKind, NoMemory> {
+    let arguments = Sequence::from_slice(alloc, &[ExprId::new(argument)])?;
+    Ok(ExprKind::Call {
+        function: ObjId::new(function),
+        result: ObjId::new(variable),
+        arguments: Boxed::new(alloc, arguments)?,
+    })
+}
+
+// A design answers what it was built of.
+#[test]
+fn a_counter_is_what_it_was_built_of(rt: HostRuntime) -> Result<(), Fail> {
+    let design = built(counter(rt.alloc())?).expect(&rt, "every rule is kept");
+    let counts = Counts {
+        objects: OBJECTS,
+        exprs: EXPRS,
+        drivers: 1,
+    };
+    assert_eq!(rt; design.counts(), counts);
+    assert_eq!(rt; design.precision(), 9);
+    assert_eq!(rt; design.width(ExprId::new(READ_Q)), 8);
+    assert_eq!(rt; design.width(ExprId::new(NEXT)), 32);
+    assert!(rt; !design.is_signed(ExprId::new(NEXT)));
+    assert!(rt; design.is_signed(ExprId::new(ONE)));
+    assert!(rt;
+        matches!(
+            design.expr(ExprId::new(NEXT)).kind,
+            ExprKind::Arithmetic { .. }
+        )
+    );
+    assert_eq!(rt; design.object(ObjId::new(MEM)).words, 3);
+    assert_eq!(rt; design.object(ObjId::new(TOP)).kind, Kind::Module);
+    assert_eq!(rt; *design.driver(DriverId::new(0)), driver(W, 8));
+    design_laws();
+    Ok(())
+}
+
+// Widths and signs after IEEE 1364-2005, 5.4.1 and 5.5.1.
+#[test]
+fn selects_have_their_own_width(rt: HostRuntime) -> Result<(), Fail> {
+    let alloc = rt.alloc();
+    assert!(rt; stands(alloc, number(64, false), 64, false)?);
+    assert!(rt; stands(alloc, ExprKind::Whole(ObjId::new(STEP)), 8, true)?);
+    assert!(rt; stands(alloc, ExprKind::Whole(ObjId::new(W)), 8, false)?);
+    assert!(rt; stands(alloc, word_of(MEM, READ_Q), 4, true)?);
+    assert!(rt; stands(alloc, bit(Q, None, ONE), 1, false)?);
+    assert!(rt; stands(alloc, bit(MEM, Some(READ_Q), ONE), 1, false)?);
+    assert!(rt; stands(alloc, slice(W, None, 3), 3, false)?);
+    assert!(rt; stands(alloc, slice(MEM, Some(NEXT), 4), 4, false)?);
+    assert!(rt; stands(alloc, indexed(STEP, None, READ_Q, 2), 2, false)?);
+    assert!(rt; stands(alloc, ExprKind::Time { unit: 9 }, 64, false)?);
+    assert!(rt; stands(alloc, ExprKind::Time { unit: 17 }, 64, false)?);
+    assert!(rt; stands(alloc, call(alloc, SUM, SUM_RESULT, ONE)?, 16, false)?);
+    assert!(rt; stands(alloc, ExprKind::SysCall(ObjId::new(RANDOM)), 12, false)?);
+    Ok(())
+}
+
+#[test]
+fn operators_have_the_width_of_their_operands(rt: HostRuntime) -> Result<(), Fail> {
+    let alloc = rt.alloc();
+    assert!(rt; stands(alloc, unary(Unary::Negate, ONE), 32, true)?);
+    assert!(rt; stands(alloc, unary(Unary::And, ONE), 1, false)?);
+    assert!(rt; stands(alloc, chain(alloc, ONE, ONE)?, 32, true)?);
+    assert!(rt; stands(alloc, shift(alloc, READ_Q, ONE)?, 8, false)?);
+    assert!(rt; stands(alloc, shift(alloc, ONE, READ_Q)?, 32, true)?);
+    assert!(rt; stands(alloc, compared(alloc, ONE, ONE)?, 1, false)?);
+    assert!(rt; stands(alloc, both(alloc, READ_Q, ONE)?, 1, false)?);
+    assert!(rt; stands(alloc, choice(READ_Q, READ_Q, ONE), 32, false)?);
+    assert!(rt; stands(alloc, choice(READ_Q, ONE, ONE), 32, true)?);
+    assert!(rt; stands(alloc, join(alloc, READ_Q, &[ExprId::new(NEXT)])?, 40, false)?);
+    assert!(rt; stands(alloc, join(alloc, ONE, &[ExprId::new(ONE)])?, 64, false)?);
+    assert!(rt; stands(alloc, repeat(3, READ_Q), 24, false)?);
+    assert!(rt; stands(alloc, marked(READ_Q, true), 8, true)?);
+    Ok(())
+}
+
+#[test]
+fn an_expression_that_breaks_a_rule_is_refused(rt: HostRuntime) -> Result<(), Fail> {
+    let alloc = rt.alloc();
+    // A part that doesn't come before it.
+    assert!(rt; !stands(alloc, unary(Unary::Plus, EXPRS), 1, false)?);
+    assert!(rt; !stands(alloc, chain(alloc, ONE, EXPRS)?, 32, false)?);
+    assert!(rt; !stands(alloc, bit(MEM, Some(EXPRS), ONE), 1, false)?);
+    // An object that isn't there, or of a kind that doesn't stand there.
+    assert!(rt; !stands(alloc, ExprKind::Whole(ObjId::new(OBJECTS)), 1, false)?);
+    assert!(rt; !stands(alloc, ExprKind::Whole(ObjId::new(MEM)), 4, true)?);
+    assert!(rt; !stands(alloc, word_of(Q, READ_Q), 8, false)?);
+    assert!(rt; !stands(alloc, slice(MEM, None, 2), 2, false)?);
+    assert!(rt; !stands(alloc, call(alloc, SUM, W, ONE)?, 8, false)?);
+    assert!(rt; !stands(alloc, ExprKind::SysCall(ObjId::new(SUM)), 1, false)?);
+    // A width or a sign that the parts don't give.
+    assert!(rt; !stands(alloc, chain(alloc, READ_Q, ONE)?, 8, false)?);
+    assert!(rt; !stands(alloc, chain(alloc, READ_Q, ONE)?, 32, true)?);
+    // A width of 0, and widths above 64.
+    assert!(rt; !stands(alloc, repeat(0, ONE), 0, false)?);
+    assert!(rt; !stands(alloc, slice(Q, None, 65), 65, false)?);
+    assert!(rt; !stands(alloc, repeat(3, ONE), 64, false)?);
+    assert!(rt; !stands(alloc, repeat(3, ONE), 65, false)?);
+    assert!(rt;
+        !stands(
+            alloc,
+            join(alloc, ONE, &[ExprId::new(ONE), ExprId::new(ONE)])?,
+            64,
+            false
+        )?
+    );
+    assert!(rt;
+        !stands(
+            alloc,
+            join(alloc, ONE, &[ExprId::new(ONE), ExprId::new(ONE)])?,
+            65,
+            false
+        )?
+    );
+    // A unit below the precision, and one above 100 s.
+    assert!(rt; !stands(alloc, ExprKind::Time { unit: 8 }, 64, false)?);
+    assert!(rt; !stands(alloc, ExprKind::Time { unit: 18 }, 64, false)?);
+    Ok(())
+}
+
+#[test]
+fn an_object_or_a_driver_that_breaks_a_rule_is_refused(rt: HostRuntime) -> Result<(), Fail> {
+    let alloc = rt.alloc();
+    // A scope that doesn't come before it; a width of 0 and one above 64.
+    assert!(rt;
+        stands_with(
+            alloc,
+            object(alloc, Kind::Reg, Some(SUM), 64, Detail::Plain)?
+        )?
+    );
+    assert!(rt;
+        !stands_with(
+            alloc,
+            object(alloc, Kind::Reg, Some(OBJECTS), 1, Detail::Plain)?
+        )?
+    );
+    assert!(rt; !stands_with(alloc, object(alloc, Kind::Reg, None, 0, Detail::Plain)?)?);
+    assert!(rt; !stands_with(alloc, object(alloc, Kind::Reg, None, 65, Detail::Plain)?)?);
+    // A value, a call's expression and its arguments that aren't there.
+    let value = Detail::Value(ExprId::new(EXPRS));
+    assert!(rt; !stands_with(alloc, object(alloc, Kind::Constant, None, 1, value)?)?);
+    let call = called(alloc, Some(EXPRS), &[])?;
+    assert!(rt; !stands_with(alloc, object(alloc, Kind::SysFuncCall, None, 1, call)?)?);
+    let call = called(alloc, None, &[whole(Q), whole(OBJECTS + 1)])?;
+    assert!(rt; !stands_with(alloc, object(alloc, Kind::SysTaskCall, None, 1, call)?)?);
+    let call = called(alloc, None, &[word(MEM, 3)])?;
+    assert!(rt; !stands_with(alloc, object(alloc, Kind::SysTaskCall, None, 1, call)?)?);
+    let call = called(alloc, None, &[word(Q, 0)])?;
+    assert!(rt; !stands_with(alloc, object(alloc, Kind::SysTaskCall, None, 1, call)?)?);
+    // A driver of a variable, of what isn't there, and of no digits.
+    assert!(rt; stands_driven(alloc, driver(W, 64))?);
+    assert!(rt; !stands_driven(alloc, driver(Q, 8))?);
+    assert!(rt; !stands_driven(alloc, driver(OBJECTS, 8))?);
+    assert!(rt; !stands_driven(alloc, driver(W, 0))?);
+    // A precision above 100 s.
+    assert!(rt; stands_at(alloc, 17)?);
+    assert!(rt; !stands_at(alloc, 18)?);
+    Ok(())
+}
+
+// 100,000 objects and 4 million operators are to fit.
+#[test]
+fn objects_and_expressions_are_small(rt: HostRuntime) {
+    assert_eq!(rt; size_of::<ObjectInfo>(), 96);
+    assert_eq!(rt; size_of::<ExprNode>(), 40);
+    assert_eq!(rt; size_of::<DriverInfo>(), 12);
+}
