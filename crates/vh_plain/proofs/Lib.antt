@@ -1,0 +1,2 @@
+-- What ordered maps hold, before and after each call
+pub mod ViewsLemmas

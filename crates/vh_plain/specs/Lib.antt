@@ -1,0 +1,2 @@
+-- How ordered maps hold a schedule and a table
+pub mod Views
