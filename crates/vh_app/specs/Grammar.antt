@@ -10,6 +10,8 @@ use Rattle.std.specs.Prelude.{ℕ, ◌+◌, ◌*◌, ◌-◌, Bool, true, false,
 use Rattle.vh_base.specs.Words.{reason_text}
 use Rattle.vh_base.specs.declared.words.Reason.{Reason}
 use Rattle.vh_base.specs.declared.words.Reason.TheVariants.{CbValueChange, CbEndOfCompile, CbStartOfSimulation, CbEndOfSimulation}
+use Rattle.vh_lines.specs.declared.routine.Routine.TheVariants as words
+use Rattle.vh_lines.specs.Routines.{routine_text}
 use Rattle.vh_grammar.specs.Part.{Part, tok, seq, bind, alt, rep, nested, only, act, two, after, before, listed}
 use Rattle.vh_grammar.specs.Reading.{Out, read, whole}
 use Rattle.vh_app.specs.declared.tree.Block.{Block}
@@ -83,13 +85,13 @@ abbrev pub reason_in : Token → Option Reason
 reason_in (name bytes) = reason_of bytes
 reason_in _ = None
 
--- the words of the orders (own)
+-- the orders that are built, by their words (own)
 abbrev pub routine_of : List ℕ → Option Routine
 routine_of bytes =
-    if bytes_eq bytes (codes "by_name") then Some routines.ByName
-    else (if bytes_eq bytes (codes "register") then Some routines.Register
-    else (if bytes_eq bytes (codes "remove") then Some routines.Remove
-    else (if bytes_eq bytes (codes "print") then Some routines.Print else None)))
+    if bytes_eq bytes (routine_text words.ByName) then Some routines.ByName
+    else (if bytes_eq bytes (routine_text words.Register) then Some routines.Register
+    else (if bytes_eq bytes (routine_text words.Remove) then Some routines.Remove
+    else (if bytes_eq bytes (routine_text words.Print) then Some routines.Print else None)))
 
 abbrev pub routine_in : Token → Option Routine
 routine_in (name bytes) = routine_of bytes

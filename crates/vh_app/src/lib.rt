@@ -3,7 +3,8 @@
 //! The contracts used above: [`read_app`] answers exactly what `script_of` of specs/Meaning.antt
 //! says of the bytes, where memory does not run out, and [`Script::next`] is the one equation with
 //! `next_of` of specs/Next.antt. It stands on vh_base, whose [`Order`](vh_base::Order) it gives, on
-//! vh_grammar, in whose parts the grammar is written, and on indexmap, which numbers the variables.
+//! vh_grammar, in whose parts the grammar is written, on vh_lines, whose words of orders it reads, and on
+//! indexmap, which numbers the variables.
 #![tactic(auto)]
 
 mod bytes;

@@ -5,6 +5,7 @@ ghost use Rattle.vh_app.specs.Seen.{tokens_seen, command_seen, commands_seen, or
 ghost use Rattle.vh_base.specs.Lists.{names_seen};
 ghost use Rattle.vh_base.specs.Words.{reason_text};
 ghost use Rattle.vh_app.specs.Spelling.{unescaped};
+ghost use Rattle.vh_lines.specs.Routines.{routine_text};
 
 use crate::fault::NotRead;
 use crate::token::Token;
@@ -12,6 +13,7 @@ use crate::tree::{App, Block, Command, Handle, Order, Procedure, Routine};
 use std::alloc::Global;
 use vh_base::Reason;
 use vh_grammar::Stop;
+use vh_lines::Routine as Word;
 
 /// How deep blocks nest at most, a procedure's having the depth 1.
 const LEVELS: usize = 64;
@@ -494,17 +496,24 @@ fn routine<'t, 'a>(tokens: &'t [Token<'a>]) -> Result<(Routine, &'t [Token<'a>])
 fn routine_of(word: &[u8]) -> Option<Routine>
     ensures { result ≡ Grammar.routine_of word.now }
 {
-    if word == b"by_name".as_slice() {
+    if is_routine(word, Word::ByName) {
         Some(Routine::ByName)
-    } else if word == b"register".as_slice() {
+    } else if is_routine(word, Word::Register) {
         Some(Routine::Register)
-    } else if word == b"remove".as_slice() {
+    } else if is_routine(word, Word::Remove) {
         Some(Routine::Remove)
-    } else if word == b"print".as_slice() {
+    } else if is_routine(word, Word::Print) {
         Some(Routine::Print)
     } else {
         None
     }
+}
+
+// Is this the word of an order?
+fn is_routine(word: &[u8], routine: Word) -> bool
+    ensures { result ≡ bytes_eq word.now (routine_text routine) }
+{
+    word == routine.name().as_bytes()
 }
 
 // Takes a reason.

@@ -21,7 +21,9 @@ use Rattle.vh_base.specs.declared.words.Relation.{Relation}
 use Rattle.vh_base.specs.declared.words.Relation.TheVariants as relation
 use Rattle.vh_base.specs.declared.words.SystfKind.{SystfKind}
 use Rattle.vh_base.specs.declared.words.SystfKind.TheVariants as kind
+use Rattle.vh_lines.specs.declared.routine.Routine.TheVariants as routine
 use Rattle.vh_lines.specs.Quoted.{quoted}
+use Rattle.vh_lines.specs.Routines.{routine_text}
 
 -- The word of a relation (IEEE 1364-2005, 26.6 and Annex G).
 abbrev pub relation_text : Relation → List ℕ
@@ -135,32 +137,32 @@ control_text true = codes "stop"
 
 -- An order: its name and its arguments, a row for each order. (own)
 abbrev pub order_text : Order → List ℕ
-order_text (order.ByName text scope) = spaced (codes "by_name") (quoted text ∷ handle_text scope ∷ [])
-order_text (order.ByIndex h n) = spaced (codes "by_index") (handle_text h ∷ decimal n ∷ [])
-order_text (order.Handle relation h) = spaced (codes "handle") (relation_text relation ∷ handle_text h ∷ [])
-order_text (order.Iterate relation h) = spaced (codes "iterate") (relation_text relation ∷ handle_text h ∷ [])
-order_text (order.Scan h) = spaced (codes "scan") (handle_text h ∷ [])
-order_text (order.Free h) = spaced (codes "free") (handle_text h ∷ [])
-order_text (order.Compare a b) = spaced (codes "compare") (handle_text a ∷ handle_text b ∷ [])
-order_text (order.Get property h) = spaced (codes "get") (property_text property ∷ handle_text h ∷ [])
-order_text (order.GetStr property h) = spaced (codes "get_str") (property_text property ∷ handle_text h ∷ [])
-order_text (order.GetValue h format) = spaced (codes "get_value") (handle_text h ∷ format_text format ∷ [])
+order_text (order.ByName text scope) = spaced (routine_text routine.ByName) (quoted text ∷ handle_text scope ∷ [])
+order_text (order.ByIndex h n) = spaced (routine_text routine.ByIndex) (handle_text h ∷ decimal n ∷ [])
+order_text (order.Handle relation h) = spaced (routine_text routine.Handle) (relation_text relation ∷ handle_text h ∷ [])
+order_text (order.Iterate relation h) = spaced (routine_text routine.Iterate) (relation_text relation ∷ handle_text h ∷ [])
+order_text (order.Scan h) = spaced (routine_text routine.Scan) (handle_text h ∷ [])
+order_text (order.Free h) = spaced (routine_text routine.Free) (handle_text h ∷ [])
+order_text (order.Compare a b) = spaced (routine_text routine.Compare) (handle_text a ∷ handle_text b ∷ [])
+order_text (order.Get property h) = spaced (routine_text routine.Get) (property_text property ∷ handle_text h ∷ [])
+order_text (order.GetStr property h) = spaced (routine_text routine.GetStr) (property_text property ∷ handle_text h ∷ [])
+order_text (order.GetValue h format) = spaced (routine_text routine.GetValue) (handle_text h ∷ format_text format ∷ [])
 order_text (order.PutValue h format text mode time event) =
-    spaced (codes "put_value") (handle_text h ∷ format_text format ∷ quoted text ∷ mode_text mode ∷ decimal time ∷ event_words event)
-order_text (order.Cancel h) = spaced (codes "cancel") (handle_text h ∷ [])
-order_text order.GetTime = codes "get_time"
+    spaced (routine_text routine.PutValue) (handle_text h ∷ format_text format ∷ quoted text ∷ mode_text mode ∷ decimal time ∷ event_words event)
+order_text (order.Cancel h) = spaced (routine_text routine.Cancel) (handle_text h ∷ [])
+order_text order.GetTime = routine_text routine.GetTime
 order_text (order.Register reason h time body n) =
-    spaced (codes "register") (reason_text reason ∷ handle_text h ∷ decimal time ∷ body_text body ∷ decimal n ∷ [])
-order_text (order.Remove h) = spaced (codes "remove") (handle_text h ∷ [])
-order_text (order.CbInfo h) = spaced (codes "cb_info") (handle_text h ∷ [])
+    spaced (routine_text routine.Register) (reason_text reason ∷ handle_text h ∷ decimal time ∷ body_text body ∷ decimal n ∷ [])
+order_text (order.Remove h) = spaced (routine_text routine.Remove) (handle_text h ∷ [])
+order_text (order.CbInfo h) = spaced (routine_text routine.CbInfo) (handle_text h ∷ [])
 order_text (order.RegisterSystf kind text n calltf compiletf) =
-    spaced (codes "register_systf") (kind_text kind ∷ quoted text ∷ decimal n ∷ codes "calltf" ∷ proc_text calltf ∷ compiletf_words compiletf)
-order_text order.ChkError = codes "chk_error"
-order_text (order.Control stop) = spaced (codes "control") (control_text stop ∷ [])
-order_text (order.Print text) = spaced (codes "print") (quoted text ∷ [])
-order_text (order.SetData n) = spaced (codes "set_data") (decimal n ∷ [])
-order_text order.Pass = codes "pass"
-order_text order.Return = codes "return"
+    spaced (routine_text routine.RegisterSystf) (kind_text kind ∷ quoted text ∷ decimal n ∷ codes "calltf" ∷ proc_text calltf ∷ compiletf_words compiletf)
+order_text order.ChkError = routine_text routine.ChkError
+order_text (order.Control stop) = spaced (routine_text routine.Control) (control_text stop ∷ [])
+order_text (order.Print text) = spaced (routine_text routine.Print) (quoted text ∷ [])
+order_text (order.SetData n) = spaced (routine_text routine.SetData) (decimal n ∷ [])
+order_text order.Pass = routine_text routine.Pass
+order_text order.Return = routine_text routine.Return
 
 -- What an order is answered. (own)
 abbrev pub answer_text : Answer → List ℕ

@@ -2,10 +2,12 @@ ghost use Rattle.std.specs.Prelude.{◌≡◌, ◌++◌, ◌∷◌, [], true, On
 ghost use Rattle.std.specs.List.{list_all};
 ghost use Rattle.std.specs.Fmt.{decimal};
 ghost use Rattle.vh_lines.specs.Quoted.{quoted};
+ghost use Rattle.vh_lines.specs.Routines.{routine_text};
 ghost use Rattle.vh_base.specs.Words.{reason_text};
 ghost use Rattle.vh_lines.specs.OrderText.{relation_text, property_text, format_text, mode_text, kind_text, handle_text, is_name_byte as is_byte, begins_as_name as begins_so, is_name as is_name_of, name_text, proc_text, body_text, spaced, event_words, compiletf_words, control_text, order_text, answer_text};
 
 use crate::quoted::push_quoted;
+use crate::routine::Routine;
 use std::alloc::AllocError;
 use vh_base::{
     Answer, BodyName, Format, HandleNo, Mode, Order, ProcName, Property, Reason, Relation, Short,
@@ -19,13 +21,13 @@ pub fn push_order(line: &mut String, order: &Order) -> Result<(), AllocError>
     match order {
         Order::ByName { text, scope } => push_by_name(line, text, *scope),
         Order::ByIndex { h, n } => push_by_index(line, *h, *n),
-        Order::Handle { relation, h } => push_related(line, "handle ", *relation, *h),
-        Order::Iterate { relation, h } => push_related(line, "iterate ", *relation, *h),
-        Order::Scan { h } => push_with_handle(line, "scan ", *h),
-        Order::Free { h } => push_with_handle(line, "free ", *h),
+        Order::Handle { relation, h } => push_related(line, Routine::Handle, *relation, *h),
+        Order::Iterate { relation, h } => push_related(line, Routine::Iterate, *relation, *h),
+        Order::Scan { h } => push_with_handle(line, Routine::Scan, *h),
+        Order::Free { h } => push_with_handle(line, Routine::Free, *h),
         Order::Compare { a, b } => push_compare(line, *a, *b),
-        Order::Get { property, h } => push_get(line, "get ", *property, *h),
-        Order::GetStr { property, h } => push_get(line, "get_str ", *property, *h),
+        Order::Get { property, h } => push_get(line, Routine::Get, *property, *h),
+        Order::GetStr { property, h } => push_get(line, Routine::GetStr, *property, *h),
         Order::GetValue { h, format } => push_get_value(line, *h, *format),
         Order::PutValue {
             h,
@@ -38,8 +40,8 @@ pub fn push_order(line: &mut String, order: &Order) -> Result<(), AllocError>
             push_put_value(line, *h, *format)?;
             push_put_text(line, text, *mode, *time, *event)
         }
-        Order::Cancel { h } => push_with_handle(line, "cancel ", *h),
-        Order::GetTime => line.push_str("get_time"),
+        Order::Cancel { h } => push_with_handle(line, Routine::Cancel, *h),
+        Order::GetTime => line.push_str(Routine::GetTime.name()),
         Order::Register {
             reason,
             h,
@@ -50,8 +52,8 @@ pub fn push_order(line: &mut String, order: &Order) -> Result<(), AllocError>
             push_register(line, *reason, *h, *time)?;
             push_called(line, body, *n)
         }
-        Order::Remove { h } => push_with_handle(line, "remove ", *h),
-        Order::CbInfo { h } => push_with_handle(line, "cb_info ", *h),
+        Order::Remove { h } => push_with_handle(line, Routine::Remove, *h),
+        Order::CbInfo { h } => push_with_handle(line, Routine::CbInfo, *h),
         Order::RegisterSystf {
             kind,
             text,
@@ -62,12 +64,12 @@ pub fn push_order(line: &mut String, order: &Order) -> Result<(), AllocError>
             push_register_systf(line, *kind, text, *n)?;
             push_systf_calls(line, calltf, compiletf)
         }
-        Order::ChkError => line.push_str("chk_error"),
+        Order::ChkError => line.push_str(Routine::ChkError.name()),
         Order::Control { stop } => push_control(line, *stop),
         Order::Print { text } => push_print(line, text),
         Order::SetData { n } => push_set_data(line, *n),
-        Order::Pass => line.push_str("pass"),
-        Order::Return => line.push_str("return"),
+        Order::Pass => line.push_str(Routine::Pass.name()),
+        Order::Return => line.push_str(Routine::Return.name()),
     }
 }
 
@@ -105,58 +107,79 @@ fn push_number(line: &mut String, n: u64) -> Result<(), AllocError>
 
 // Adds `by_name` and its arguments.
 fn push_by_name(line: &mut String, text: &Short, scope: Option<HandleNo>) -> Result<(), AllocError>
-    ensures { OnOk result (string_bytes line.new ≡ string_bytes line.old ++ spaced (codes "by_name") (quoted text.now ∷ handle_text scope ∷ [])) }
+    ensures { OnOk result (string_bytes line.new ≡ string_bytes line.old ++ spaced (routine_text Routine.ByName) (quoted text.now ∷ handle_text scope ∷ [])) }
 {
-    line.push_str("by_name ")?;
+    push_word(line, Routine::ByName)?;
     push_quoted(line, text.bytes())?;
-    line.push_str(" ")?;
-    push_handle(line, scope)
+    push_further(line, scope)
 }
 
 // Adds `by_index` and its arguments.
 fn push_by_index(line: &mut String, h: Option<HandleNo>, n: u64) -> Result<(), AllocError>
-    ensures { OnOk result (string_bytes line.new ≡ string_bytes line.old ++ spaced (codes "by_index") (handle_text h ∷ decimal n ∷ [])) }
+    ensures { OnOk result (string_bytes line.new ≡ string_bytes line.old ++ spaced (routine_text Routine.ByIndex) (handle_text h ∷ decimal n ∷ [])) }
 {
-    push_with_handle(line, "by_index ", h)?;
+    push_with_handle(line, Routine::ByIndex, h)?;
     line.push_str(" ")?;
     push_number(line, n)
 }
 
-// Adds a name with its space, a relation and a handle.
+// Adds the word of an order, a relation and a handle.
 fn push_related(
     line: &mut String,
-    name: &str,
+    routine: Routine,
     relation: Relation,
     h: Option<HandleNo>,
 ) -> Result<(), AllocError>
-    ensures { OnOk result (string_bytes line.new ≡ string_bytes line.old ++ name.now ++ spaced (relation_text relation) (handle_text h ∷ [])) }
+    ensures { OnOk result (string_bytes line.new ≡ string_bytes line.old
+        ++ spaced (routine_text routine) (relation_text relation ∷ handle_text h ∷ [])) }
 {
-    line.push_str(name)?;
+    push_word(line, routine)?;
     line.push_str(relation_name(relation))?;
-    line.push_str(" ")?;
-    push_handle(line, h)
+    push_further(line, h)
 }
 
-// Adds a name with its space, a property and a handle.
+// Adds the word of an order, a property and a handle.
 fn push_get(
     line: &mut String,
-    name: &str,
+    routine: Routine,
     property: Property,
     h: Option<HandleNo>,
 ) -> Result<(), AllocError>
-    ensures { OnOk result (string_bytes line.new ≡ string_bytes line.old ++ name.now ++ spaced (property_text property) (handle_text h ∷ [])) }
+    ensures { OnOk result (string_bytes line.new ≡ string_bytes line.old
+        ++ spaced (routine_text routine) (property_text property ∷ handle_text h ∷ [])) }
 {
-    line.push_str(name)?;
+    push_word(line, routine)?;
     line.push_str(property_name(property))?;
-    line.push_str(" ")?;
+    push_further(line, h)
+}
+
+// Adds the word of an order, with the space behind it.
+fn push_word(line: &mut String, routine: Routine) -> Result<(), AllocError>
+    ensures { OnOk result (string_bytes line.new
+        ≡ string_bytes line.old ++ routine_text routine ++ codes " ") }
+{
+    line.push_str(routine.name())?;
+    line.push_str(" ")
+}
+
+// Adds the word of an order and a handle.
+fn push_with_handle(
+    line: &mut String,
+    routine: Routine,
+    h: Option<HandleNo>,
+) -> Result<(), AllocError>
+    ensures { OnOk result (string_bytes line.new
+        ≡ string_bytes line.old ++ spaced (routine_text routine) (handle_text h ∷ [])) }
+{
+    push_word(line, routine)?;
     push_handle(line, h)
 }
 
-// Adds a name with its space, and a handle.
-fn push_with_handle(line: &mut String, name: &str, h: Option<HandleNo>) -> Result<(), AllocError>
-    ensures { OnOk result (string_bytes line.new ≡ string_bytes line.old ++ name.now ++ handle_text h) }
+// Adds a further handle.
+fn push_further(line: &mut String, h: Option<HandleNo>) -> Result<(), AllocError>
+    ensures { OnOk result (string_bytes line.new ≡ string_bytes line.old ++ codes " " ++ handle_text h) }
 {
-    line.push_str(name)?;
+    line.push_str(" ")?;
     push_handle(line, h)
 }
 
@@ -166,26 +189,26 @@ fn push_compare(
     a: Option<HandleNo>,
     b: Option<HandleNo>,
 ) -> Result<(), AllocError>
-    ensures { OnOk result (string_bytes line.new ≡ string_bytes line.old ++ spaced (codes "compare") (handle_text a ∷ handle_text b ∷ [])) }
+    ensures { OnOk result (string_bytes line.new ≡ string_bytes line.old ++ spaced (routine_text Routine.Compare) (handle_text a ∷ handle_text b ∷ [])) }
 {
-    push_with_handle(line, "compare ", a)?;
-    push_with_handle(line, " ", b)
+    push_with_handle(line, Routine::Compare, a)?;
+    push_further(line, b)
 }
 
 // Adds `get_value` and its arguments.
 fn push_get_value(line: &mut String, h: Option<HandleNo>, format: Format) -> Result<(), AllocError>
-    ensures { OnOk result (string_bytes line.new ≡ string_bytes line.old ++ spaced (codes "get_value") (handle_text h ∷ format_text format ∷ [])) }
+    ensures { OnOk result (string_bytes line.new ≡ string_bytes line.old ++ spaced (routine_text Routine.GetValue) (handle_text h ∷ format_text format ∷ [])) }
 {
-    push_with_handle(line, "get_value ", h)?;
+    push_with_handle(line, Routine::GetValue, h)?;
     line.push_str(" ")?;
     line.push_str(format_name(format))
 }
 
 // Adds `put_value`, the handle and the format, with the space behind them.
 fn push_put_value(line: &mut String, h: Option<HandleNo>, format: Format) -> Result<(), AllocError>
-    ensures { OnOk result (string_bytes line.new ≡ string_bytes line.old ++ codes "put_value " ++ handle_text h ++ codes " " ++ format_text format ++ codes " ") }
+    ensures { OnOk result (string_bytes line.new ≡ string_bytes line.old ++ routine_text Routine.PutValue ++ codes " " ++ handle_text h ++ codes " " ++ format_text format ++ codes " ") }
 {
-    push_with_handle(line, "put_value ", h)?;
+    push_with_handle(line, Routine::PutValue, h)?;
     line.push_str(" ")?;
     line.push_str(format_name(format))?;
     line.push_str(" ")
@@ -226,11 +249,11 @@ fn push_register(
     h: Option<HandleNo>,
     time: u64,
 ) -> Result<(), AllocError>
-    ensures { OnOk result (string_bytes line.new ≡ string_bytes line.old ++ codes "register " ++ reason_text reason ++ codes " " ++ handle_text h ++ codes " " ++ decimal time ++ codes " ") }
+    ensures { OnOk result (string_bytes line.new ≡ string_bytes line.old ++ routine_text Routine.Register ++ codes " " ++ reason_text reason ++ codes " " ++ handle_text h ++ codes " " ++ decimal time ++ codes " ") }
 {
-    line.push_str("register ")?;
+    push_word(line, Routine::Register)?;
     line.push_str(reason.name())?;
-    push_with_handle(line, " ", h)?;
+    push_further(line, h)?;
     line.push_str(" ")?;
     push_number(line, time)?;
     line.push_str(" ")
@@ -337,9 +360,9 @@ fn push_register_systf(
     text: &Short,
     n: u64,
 ) -> Result<(), AllocError>
-    ensures { OnOk result (string_bytes line.new ≡ string_bytes line.old ++ codes "register_systf " ++ kind_text kind ++ codes " " ++ quoted text.now ++ codes " " ++ decimal n ++ codes " ") }
+    ensures { OnOk result (string_bytes line.new ≡ string_bytes line.old ++ routine_text Routine.RegisterSystf ++ codes " " ++ kind_text kind ++ codes " " ++ quoted text.now ++ codes " " ++ decimal n ++ codes " ") }
 {
-    line.push_str("register_systf ")?;
+    push_word(line, Routine::RegisterSystf)?;
     line.push_str(kind_name(kind))?;
     line.push_str(" ")?;
     push_quoted(line, text.bytes())?;
@@ -367,27 +390,28 @@ fn push_systf_calls(
 
 // Adds `control` and how the run is to end.
 fn push_control(line: &mut String, stop: bool) -> Result<(), AllocError>
-    ensures { OnOk result (string_bytes line.new ≡ string_bytes line.old ++ spaced (codes "control") (control_text stop ∷ [])) }
+    ensures { OnOk result (string_bytes line.new ≡ string_bytes line.old ++ spaced (routine_text Routine.Control) (control_text stop ∷ [])) }
 {
+    push_word(line, Routine::Control)?;
     if stop {
-        return line.push_str("control stop");
+        return line.push_str("stop");
     }
-    line.push_str("control finish")
+    line.push_str("finish")
 }
 
 // Adds `print` and its text.
 fn push_print(line: &mut String, text: &Short) -> Result<(), AllocError>
-    ensures { OnOk result (string_bytes line.new ≡ string_bytes line.old ++ spaced (codes "print") (quoted text.now ∷ [])) }
+    ensures { OnOk result (string_bytes line.new ≡ string_bytes line.old ++ spaced (routine_text Routine.Print) (quoted text.now ∷ [])) }
 {
-    line.push_str("print ")?;
+    push_word(line, Routine::Print)?;
     push_quoted(line, text.bytes())
 }
 
 // Adds `set_data` and its number.
 fn push_set_data(line: &mut String, n: u64) -> Result<(), AllocError>
-    ensures { OnOk result (string_bytes line.new ≡ string_bytes line.old ++ spaced (codes "set_data") (decimal n ∷ [])) }
+    ensures { OnOk result (string_bytes line.new ≡ string_bytes line.old ++ spaced (routine_text Routine.SetData) (decimal n ∷ [])) }
 {
-    line.push_str("set_data ")?;
+    push_word(line, Routine::SetData)?;
     push_number(line, n)
 }
 
