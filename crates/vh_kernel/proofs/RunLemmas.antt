@@ -6,7 +6,7 @@ use Rattle.vh_base.specs.declared.orders.Order.{Order}
 use Rattle.vh_app.specs.declared.point.Point.{Point}
 use Rattle.vh_app.specs.Next.{next_of as next_order}
 use Rattle.vh_app.specs.Script.{ScriptData}
-use Rattle.vh_kernel.specs.declared.activation.Activation.{Activation}
+use Rattle.vh_kernel.specs.Activations.{Activation}
 use Rattle.vh_kernel.specs.declared.control.Control.{Control}
 use Rattle.vh_kernel.specs.declared.control.Control.TheVariants as top
 use Rattle.vh_queue.specs.declared.queue.Entry.{Entry}

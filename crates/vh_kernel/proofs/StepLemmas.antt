@@ -15,7 +15,7 @@ use Rattle.vh_app.specs.Next.{next_of as next_order}
 use Rattle.vh_app.specs.Script.{ScriptData}
 use Rattle.vh_callbacks.specs.declared.registration.Registration.{Registration}
 use Rattle.vh_callbacks.specs.Callbacks.{info_of, body_of}
-use Rattle.vh_kernel.specs.declared.activation.Activation.{Activation}
+use Rattle.vh_kernel.specs.Activations.{Activation}
 use Rattle.vh_orders.specs.declared.who.Body.{Body}
 use Rattle.vh_kernel.specs.declared.control.Control.{Control}
 use Rattle.vh_kernel.specs.declared.control.Control.TheVariants as top
@@ -38,7 +38,7 @@ use Rattle.vh_kernel.specs.Outcome.{Made, Outcome, Move, move_of}
 use Rattle.vh_kernel.specs.Settle.{settled, opening}
 use Rattle.vh_kernel.specs.State.{State, with_top, without_top, without_item, with_frames, with_variables}
 use Rattle.vh_kernel.specs.Statements.{next_statement, going_on, value_outcome, statement_outcome}
-use Rattle.vh_kernel.specs.Step.{telling_outcome, called, fire_move, order_move, activation_move, work_outcome, time_move, region_move, pick_move, started, agenda_move, idle_move, item_move, top_move, crowded_move, is_crowded, is_end, step_of, is_over, item_choices, agenda_choices, idle_choices, top_choices, choices_of}
+use Rattle.vh_kernel.specs.Step.{telling_outcome, called, fire_move, order_move, next_move_of, activation_move, work_outcome, time_move, region_move, pick_move, started, agenda_move, idle_move, item_move, top_move, crowded_move, is_crowded, is_end, step_of, is_over, item_choices, agenda_choices, idle_choices, top_choices, choices_of}
 
 -- The second state has the queue and the phase of the first.
 pub record IsKept (s t : State) : Type 0 where
@@ -62,6 +62,18 @@ order-acts : (b : Bool) (o : Order) (a : Activation) (p : Point) (vars : List (L
     → IsActing a s g (order_move b o (record a { at = p }) before (with_variables vars s) g)
 order-acts true o a p vars before s g = returns vars refl
 order-acts false o a p vars before s g = orders vars o _ refl
+
+-- An activation of a script that is there, by what the script orders next.
+pub acts-next : (s : State) (a : Activation) (script : ScriptData) (vars after : List Answer) (o : Order) (p : Point) (g : Given)
+    → slice_get s.world.scripts a.script ≡ Some script → slice_get s.world.variables a.script ≡ Some vars
+    → (o, p, after) ≡ next_order script a.at vars a.seen
+    → activation_move (slice_get s.world.scripts a.script) (slice_get s.world.variables a.script) a s g
+    ≡ order_move (is_return o) o (record a { at = p }) (with_top (top.Activation a) s)
+    (with_variables (slice_set s.world.variables a.script after) s) g
+acts-next s a script vars after o p g there held next =
+    ap (λ (x : Option ScriptData). activation_move x (slice_get s.world.variables a.script) a s g) there
+    ∙ ap (λ (x : Option (List Answer)). activation_move (Some script) x a s g) held
+    ∙ ap (λ (n : Order × Point × List Answer). next_move_of n a (with_top (top.Activation a) s) s g) (sym next)
 
 pub acts : (script : Option ScriptData) (vars : Option (List Answer)) (a : Activation) (s : State) (g : Given)
     → IsActing a s g (activation_move script vars a s g)

@@ -1,5 +1,7 @@
 -- Occurrences, and which callbacks each fires.
 pub mod Occurrences
+-- Activations, and what they see.
+pub mod Activations
 -- The machine's state, and that at the opening.
 pub mod State
 -- What is dropped before the next label.

@@ -30,7 +30,7 @@ use Rattle.vh_kernel.specs.declared.occurrence.Agendum.{Agendum}
 use Rattle.vh_kernel.specs.declared.occurrence.Agendum.TheVariants as agendum
 use Rattle.vh_kernel.specs.declared.phase.Phase.{Phase}
 use Rattle.vh_kernel.specs.declared.phase.Phase.TheVariants as phase
-use Rattle.vh_kernel.specs.declared.activation.Activation.{Activation}
+use Rattle.vh_kernel.specs.Activations.{Activation, after_answer, first_seen, startup_seen}
 use Rattle.vh_kernel.specs.declared.control.Control.{Control}
 use Rattle.vh_kernel.specs.declared.control.Control.TheVariants as top
 use Rattle.vh_kernel.specs.declared.occurrence.Told.{Told}
@@ -69,33 +69,6 @@ telling_outcome o s =
 abbrev pub occurrence_move : Occurrence → State → State → Move
 occurrence_move o before s = move_of (λ shown. label.Occ s.occurrence o.reason o.object) before (telling_outcome o s)
 
--- What a callback's activation sees at first, and what a startup sees: it has no callback.
-abbrev pub first_seen : Registration → Occurrence → ℕ → Seen
-first_seen r o time = record {
-  reason = r.reason;
-  time = time;
-  object = r.object_handle;
-  me = Some r.me;
-  value = o.value;
-  index = o.index;
-  user_data = r.user_data;
-  step = 0;
-  last = answer.Null;
-}
-
-abbrev pub startup_seen : ℕ → Seen
-startup_seen time = record {
-  reason = reason.CbEndOfCompile;
-  time = time;
-  object = None;
-  me = None;
-  value = None;
-  index = None;
-  user_data = 0;
-  step = 0;
-  last = answer.Null;
-}
-
 -- What a callback calls begins.
 abbrev pub called : Option Registration → Option Body → ℕ → Occurrence → State → State
 called None b c o s = s
@@ -116,15 +89,10 @@ fire_move (Some c) f s = (
       (with_top (top.Frame f) (with_frames (without_in_top c s.world.frames) s)),
 )
 
--- An activation after an order: it has seen one step more, and its answer. The count of steps stays at
--- 2^32-1.
-abbrev pub seen_after : Answer → Seen → Seen
-seen_after a seen = record seen { step = min (seen.step + 1) 4294967295; last = a }
-
--- It stands on control again, in the world that the order left.
+-- After an order an activation stands on control again, in the world that the order left.
 abbrev pub order_outcome : Activation → Answer × World → State → Outcome
 order_outcome a given s =
-    silently (with_top (top.Activation (record a { seen = seen_after given.0 a.seen })) (record s { world = given.1 }))
+    silently (with_top (top.Activation (after_answer given.0 a)) (record s { world = given.1 }))
 
 -- It gives an order and is answered, or returns. The first state is that before.
 abbrev pub answer_move : Order → Activation → Answer × World → State → State → Move

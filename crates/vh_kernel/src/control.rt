@@ -5,7 +5,7 @@ use crate::activation::Activation;
 use crate::occurrence::{Occurrence, Told};
 use std::alloc::Global;
 use std::marker::Model;
-use vh_base::{Boxed, Cause, NoMemory};
+use vh_base::{Cause, NoMemory};
 
 /// What may stand on control.
 #[derive(Drop)]
@@ -17,7 +17,7 @@ pub enum Control {
     /// An occurrence that was told, and fires its callbacks.
     Frame(Told),
     /// A startup or a procedure that gives its orders.
-    Activation(Boxed<Activation>),
+    Activation(Activation),
     /// The run finishes next.
     Leave(Cause),
 }

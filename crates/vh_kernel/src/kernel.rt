@@ -1,7 +1,6 @@
 ghost use Rattle.std.specs.Prelude.{◌≡◌, ◌<◌, ℕ, false, List, [], slice_get, length, ◌^◌, IfOk, IsTrue};
 ghost use Rattle.vh_queue.specs.Events.{eligible, next_region, least_time};
 ghost use Rattle.vh_orders.specs.Names.{name_of};
-ghost use Rattle.vh_kernel.specs.Step.{startup_seen};
 
 mod callbacks;
 mod frames;
@@ -9,7 +8,7 @@ mod opening;
 mod processes;
 mod settling;
 
-use crate::activation::Activation;
+use crate::activation::{Activation, startup_seen};
 use crate::control::{Control, Stack};
 use crate::label::{Ending, Label};
 use crate::occurrence::{Agendum, Occurrence};
@@ -18,10 +17,7 @@ use crate::thread::Thread;
 use std::alloc::Global;
 use std::collections::VecDeque;
 use vh_app::Script;
-use vh_base::{
-    Answer, Boxed, Cause, Fault, First, FirstBit, MOST_ENTRIES, NoMemory, ObjId, Reason, Seen,
-    Serial,
-};
+use vh_base::{Cause, Fault, First, FirstBit, MOST_ENTRIES, NoMemory, ObjId, Reason, Serial};
 use vh_orders::{Who, World};
 use vh_queue::{Queue, Work};
 
@@ -38,23 +34,6 @@ pub struct Kernel {
     agenda: VecDeque<Agendum>,
     occurrence: u64,
     phase: Phase,
-}
-
-// What a startup sees.
-fn startup_seen(time: u64) -> Seen
-    ensures { result ≡ startup_seen time }
-{
-    Seen {
-        reason: Reason::CbEndOfCompile,
-        time,
-        object: None,
-        me: None,
-        value: None,
-        index: None,
-        user_data: 0,
-        step: 0,
-        last: Answer::Null,
-    }
 }
 
 impl Kernel {
@@ -185,7 +164,7 @@ impl Kernel {
             Some(Control::Process(p)) => self.perform_next(alloc, p),
             Some(Control::Pending(what)) => self.occur(alloc, what),
             Some(Control::Frame(told)) => self.fire(alloc, told, k),
-            Some(Control::Activation(activation)) => self.act(alloc, activation.into_inner()),
+            Some(Control::Activation(activation)) => self.act(alloc, activation),
             Some(Control::Leave(cause)) => self.finish(cause),
         }
     }
@@ -255,14 +234,9 @@ impl Kernel {
         let Some(script) = self.world.scripts.get(i) else {
             return Ok(Label::Startup(number));
         };
-        let activation = Activation {
-            who: Who::Startup(number),
-            script: i,
-            at: script.startup(),
-            seen: startup_seen(self.queue.time()),
-        };
-        self.control
-            .push(Control::Activation(Boxed::new(alloc, activation)?))?;
+        let seen = startup_seen(self.queue.time());
+        let activation = Activation::new(alloc, Who::Startup(number), i, script.startup(), seen)?;
+        self.control.push(Control::Activation(activation))?;
         Ok(Label::Startup(number))
     }
 

@@ -3,8 +3,10 @@
 //!
 //! The one contract used above: [`Kernel::step`] makes one step of the machine from the
 //! state that the kernel shows to the next, by the k-th of [`Kernel::choices`], and
-//! [`line_of`] is the label's line in the transcript. Stands on vh_app, whose scripts say what
-//! they order next, and on vh_callbacks, which keeps what they have registered.
+//! [`line_of`] is the label's line in the transcript. It stands on `vh_app`, whose scripts say what
+//! they order next, on `vh_orders`, which performs it on the world, on `vh_queue`, which has the
+//! entries, on `vh_dispatch` and `vh_callbacks`, which have the frames' sets and what was registered,
+//! and on `vh_lines`, which has the texts of orders.
 #![tactic(auto)]
 
 mod activation;

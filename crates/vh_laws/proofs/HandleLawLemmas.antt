@@ -20,7 +20,7 @@ use Rattle.vh_base.proofs.ChecksLemmas.{unless-holds, with_some-holds, with_ok-h
 use Rattle.vh_app.specs.Script.{ScriptData}
 use Rattle.vh_callbacks.specs.Callbacks.{info_of, body_of, is_full as no_callback_more}
 use Rattle.vh_callbacks.proofs.LawsLemmas.{tells_registered}
-use Rattle.vh_kernel.specs.declared.activation.Activation.{Activation}
+use Rattle.vh_kernel.specs.Activations.{Activation}
 use Rattle.vh_orders.specs.declared.who.Body.{Body}
 use Rattle.vh_orders.specs.declared.who.Who.{Who}
 use Rattle.vh_handles.specs.declared.handles.Thing.{Thing}

@@ -1,45 +1,16 @@
 ghost use Rattle.std.specs.Prelude.{◌≡◌, ◌≤◌, ◌<◌, false, length, slice_get, OnOk};
 ghost use Rattle.vh_callbacks.specs.Callbacks.{info_of, body_of};
 ghost use Rattle.vh_dispatch.specs.Frames.{top_set};
-ghost use Rattle.vh_kernel.specs.Step.{first_seen, seen_after};
 ghost use Rattle.vh_orders.specs.Orders.{Given, is_return};
 
-use crate::activation::Activation;
+use crate::activation::{Activation, first_seen};
 use crate::control::Control;
 use crate::kernel::Kernel;
 use crate::label::Label;
 use crate::occurrence::{Occurrence, Told};
 use std::alloc::Global;
-use vh_base::{Answer, Boxed, CbNumber, Fault, MOST_FRAMES, MOST_NUMBERS, NoMemory, Order, Seen};
-use vh_callbacks::Registration;
+use vh_base::{Boxed, CbNumber, Fault, MOST_FRAMES, MOST_NUMBERS, NoMemory, Order};
 use vh_orders::{Who, is_return, perform};
-
-// What a callback's activation sees at first.
-fn first_seen(registration: &Registration, what: &Occurrence, time: u64) -> Seen
-    ensures { result ≡ first_seen registration.now what.now time }
-{
-    Seen {
-        reason: registration.reason,
-        time,
-        object: registration.object_handle,
-        me: Some(registration.me),
-        value: what.value(),
-        index: what.index(),
-        user_data: registration.user_data,
-        step: 0,
-        last: Answer::Null,
-    }
-}
-
-// An activation after an order: one step more.
-fn noted(activation: Activation, answer: &Answer) -> Activation
-    ensures { result ≡ record activation { seen = seen_after answer.now activation.seen } }
-{
-    let mut further = activation;
-    further.seen.step = further.seen.step.saturating_add(1);
-    further.seen.last = answer.copy();
-    further
-}
 
 impl Kernel {
     ghost use Rattle.vh_kernel.specs.Outcome.{move_of};
@@ -116,14 +87,10 @@ impl Kernel {
         let Some(live) = self.world.registry.callback(c) else {
             return Ok(());
         };
-        let activation = Activation {
-            who: Who::Callback(c),
-            script: live.body.script,
-            at: live.body.start,
-            seen: first_seen(&live.registration, what, self.queue.time()),
-        };
-        self.control
-            .push(Control::Activation(Boxed::new(alloc, activation)?))
+        let seen = first_seen(&live.registration, what, self.queue.time());
+        let body = live.body;
+        let activation = Activation::new(alloc, Who::Callback(c), body.script, body.start, seen)?;
+        self.control.push(Control::Activation(activation))
     }
 
     // An activation that was on top of control gives its next order, or returns.
@@ -132,32 +99,16 @@ impl Kernel {
             (slice_get (state_of self.old).world.variables activation.script) activation
             (state_of self.old) (given_by self.old)) result self.new }
     {
-        let i = activation.script;
+        let i = activation.script();
         if i >= self.world.scripts.len() || i >= self.world.vars.len() {
-            return Ok(Label::Ret(activation.who));
+            return Ok(Label::Ret(activation.who()));
         }
         let mut activation = activation;
-        let order = self.next_order(&mut activation);
+        let order = activation.next_order(&self.world.scripts[i], &mut self.world.vars[i]);
         if is_return(&order) {
-            return Ok(Label::Ret(activation.who));
+            return Ok(Label::Ret(activation.who()));
         }
         self.obey(alloc, activation, order)
-    }
-
-    // What the script of an activation orders next.
-    fn next_order(&mut self, activation: &mut Activation) -> Order
-        requires script { activation.old.script < length (state_of self.old).world.scripts }
-        requires vars { activation.old.script < length (state_of self.old).world.variables }
-        ensures moves { (g : Given) → activation_move
-            (slice_get (state_of self.old).world.scripts activation.old.script)
-            (slice_get (state_of self.old).world.variables activation.old.script) activation.old (state_of self.old) g
-            ≡ order_move (is_return result) result activation.new
-            (with_top (Control.Activation activation.old) (state_of self.old)) (state_of self.new) g }
-        ensures given { given_by self.new ≡ given_by self.old }
-    {
-        let i = activation.script;
-        let vars = &mut self.world.vars[i];
-        self.world.scripts[i].next(&mut activation.at, vars, &activation.seen)
     }
 
     // It goes on after an order.
@@ -173,9 +124,9 @@ impl Kernel {
     {
         let who = activation.who();
         let answer = perform(alloc, &mut self.world, who, &order)?;
-        let further = noted(activation, &answer);
-        self.control
-            .push(Control::Activation(Boxed::new(alloc, further)?))?;
+        let mut activation = activation;
+        activation.note(&answer);
+        self.control.push(Control::Activation(activation))?;
         Ok(Label::Do(who, Boxed::new(alloc, order)?, Boxed::new(alloc, answer)?))
     }
 }
