@@ -4,14 +4,15 @@ use Rattle.std.specs.Cmp.Derive.{both_true}
 use Rattle.std.specs.List.{list_all}
 use Rattle.std.proofs.lemmas.Bool.{leb-true, ltb-true}
 use Rattle.std.proofs.lemmas.List.Sums.{AllPass-from_list_all}
-use Rattle.vh_design.specs.declared.expr.ExprKind.{ExprKind}
-use Rattle.vh_design.specs.declared.expr.ExprKind.TheVariants as kind
-use Rattle.vh_design.specs.declared.fits.TheConstants.{MOST_UNIT}
-use Rattle.vh_design.specs.declared.object.ObjectInfo.{ObjectInfo}
-use Rattle.vh_design.specs.Kinds.{is_vector, is_variable, is_memory, is_function, is_system_function}
+use Rattle.vh_nodes.specs.declared.expr.ExprKind.{ExprKind}
+use Rattle.vh_nodes.specs.declared.expr.ExprKind.TheVariants as kind
+use Rattle.vh_nodes.specs.declared.fits.TheConstants.{MOST_UNIT}
+use Rattle.vh_nodes.specs.declared.object.ObjectInfo.{ObjectInfo}
+use Rattle.vh_nodes.specs.Kinds.{is_vector, is_variable, is_memory, is_function, is_system_function}
 use Rattle.vh_design.specs.Laws.{with_address, parts_of, Read, read_chosen, reads_of, PartsComeBefore, ReadsFit, NodesAreMeasured, UnitsFit, ScopesComeBefore, DriversAreOfNets, PrecisionFits}
-use Rattle.vh_design.proofs.ValidityLemmas.{and_left, and_right, only, node_kind, node_measured, of_kind, object_scope, driver_net}
-use Rattle.vh_design.specs.Validity.{has_kind, is_unit, all_before, fits_word, fits_chosen, fits_kind}
+use Rattle.vh_nodes.proofs.FitsLemmas.{and_left, and_right, only, of_kind}
+use Rattle.vh_design.proofs.ValidityLemmas.{node_kind, node_measured, object_scope, driver_net}
+use Rattle.vh_nodes.specs.Fits.{has_kind, is_unit, all_before, fits_word, fits_chosen, fits_kind}
 
 -- The expressions that an expression is made of come before it.
 address_before : (os : List ObjectInfo) (e o : ℕ) (word : Option ℕ) (parts : List ℕ)
@@ -53,12 +54,12 @@ parts_before os precision e (kind.SysCall o) h = refl
 
 pub parts_come_before : PartsComeBefore
 parts_come_before d e n valid at =
-    let passes = parts_before d.objects d.precision e n.kind (node_kind d e n (valid.exprs e n at)) in
+    let passes = parts_before d.objects d.precision e n.kind (node_kind d e n (valid.nodes.exprs e n at)) in
     let all = AllPass-from_list_all (λ p. nat_lt p e) (parts_of n.kind) passes in
     λ k p inside. ltb-true (slice_index_or (parts_of n.kind) k p) e (all k p inside)
 
 -- The objects that it reads pass their tests.
-abbrev passes : List ObjectInfo → Read → Bool
+abbrev pub passes : List ObjectInfo → Read → Bool
 passes os r = has_kind r.test os r.object
 
 chosen_passes : (os : List ObjectInfo) (e o : ℕ) (word : Option ℕ)
@@ -99,19 +100,19 @@ reads_pass os precision e (kind.SysCall o) h = only (has_kind is_system_function
 
 pub reads_fit : ReadsFit
 reads_fit d e n valid at =
-    let passed = reads_pass d.objects d.precision e n.kind (node_kind d e n (valid.exprs e n at)) in
+    let passed = reads_pass d.objects d.precision e n.kind (node_kind d e n (valid.nodes.exprs e n at)) in
     let all = AllPass-from_list_all (passes d.objects) (reads_of n.kind) passed in
     λ k r inside.
     let it = slice_index_or (reads_of n.kind) k r in
     of_kind d.objects it.test it.object (all k r inside)
 
 pub nodes_are_measured : NodesAreMeasured
-nodes_are_measured d e n valid at = node_measured d e n (valid.exprs e n at)
+nodes_are_measured d e n valid at = node_measured d e n (valid.nodes.exprs e n at)
 
 -- Its time unit.
 pub units_fit : UnitsFit
 units_fit d e n unit valid at is =
-    let k = node_kind d e n (valid.exprs e n at) in
+    let k = node_kind d e n (valid.nodes.exprs e n at) in
     let u : is_unit d.precision unit ≡ true = rw is at k in (
       leb-true unit MOST_UNIT (and_left (nat_le unit MOST_UNIT) (nat_le d.precision unit) u),
       leb-true d.precision unit (and_right (nat_le unit MOST_UNIT) (nat_le d.precision unit) u),
@@ -119,10 +120,10 @@ units_fit d e n unit valid at is =
 
 -- Scopes, drivers and the precision.
 pub scopes_come_before : ScopesComeBefore
-scopes_come_before d o i valid at = object_scope d o i (valid.objects o i at)
+scopes_come_before d o i valid at = object_scope d o i (valid.nodes.objects o i at)
 
 pub drivers_are_of_nets : DriversAreOfNets
-drivers_are_of_nets d x i valid at = driver_net d i (valid.drivers x i at)
+drivers_are_of_nets d x i valid at = driver_net d i (valid.nodes.drivers x i at)
 
 pub precision_fits : PrecisionFits
-precision_fits d valid = leb-true d.precision MOST_UNIT valid.precise
+precision_fits d valid = leb-true d.precision MOST_UNIT valid.nodes.precise

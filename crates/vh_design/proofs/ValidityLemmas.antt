@@ -1,19 +1,24 @@
--- Lemmas on `specs/Validity.antt`: that each element passes a test of its number and itself, and what the
--- tests mean.
-use Rattle.std.proofs.Common.{◌≡◌, ◌<◌, ◌≤◌, ◌+◌, ℕ, Bool, true, false, ◌&&◌, nat_eq, nat_le, List, length, get_or, IfSome, IsSomeAnd, Option, Some, None, slice_get, unwrap_or, refl, arith, below_more}
-use Rattle.std.specs.Cmp.Derive.{both_true}
-use Rattle.std.specs.Option.{option_map}
-use Rattle.std.proofs.lemmas.Bool.{eqb-true, leb-true, ltb-true}
+-- Lemmas on `specs/Validity.antt`: that each element passes a test of its number and itself, and what
+-- the tests of a design's parts mean.
+use Rattle.std.proofs.Common.{◌≡◌, ◌<◌, ◌≤◌, ◌+◌, ℕ, Bool, true, ◌&&◌, nat_eq, List, length, get_or, IfSome, Option, Some, None, slice_get, refl, subst, arith, below_more}
+use Rattle.std.specs.Option.{option_and_then}
+use Rattle.std.proofs.lemmas.Bool.{eqb-true, ltb-true}
 use Rattle.std.proofs.lemmas.Option.{slice_get_read, slice_get_within}
 use Rattle.vh_logic.specs.declared.vector.TheConstants.{MAX_WIDTH}
-use Rattle.vh_design.specs.declared.driver.DriverInfo.{DriverInfo}
-use Rattle.vh_design.specs.declared.expr.ExprNode.{ExprNode}
-use Rattle.vh_design.specs.declared.object.Kind.{Kind}
-use Rattle.vh_design.specs.declared.object.ObjectInfo.{ObjectInfo}
-use Rattle.vh_design.specs.Kinds.{is_net}
+use Rattle.vh_nodes.specs.declared.driver.DriverInfo.{DriverInfo}
+use Rattle.vh_nodes.specs.declared.expr.ExprNode.{ExprNode}
+use Rattle.vh_nodes.specs.declared.object.Detail.{Detail}
+use Rattle.vh_nodes.specs.declared.object.Detail.TheVariants as detail
+use Rattle.vh_nodes.specs.declared.object.ObjectInfo.{ObjectInfo}
+use Rattle.vh_code.specs.declared.code.Code.{Code}
+use Rattle.vh_code.specs.declared.statement.StmtInfo.{StmtInfo}
+use Rattle.vh_code.specs.Codes.{fits_statement}
+use Rattle.vh_nodes.specs.Kinds.{is_net, is_scope}
 use Rattle.vh_design.specs.Shape.{Shape}
-use Rattle.vh_design.specs.Validity.{has_kind, is_width, before, same_sign, fits_kind, fits_node, fits_detail, fits_object, fits_driver, AllFit, IsOfKind, IsMeasured}
-use Rattle.vh_design.specs.Widths.{kind_width, kind_signed}
+use Rattle.vh_nodes.specs.Fits.{body_of, body_number, has_kind, is_width, before, same_sign, fits_kind, fits_node, fits_detail, fits_object, fits_driver, IsOfKind}
+use Rattle.vh_nodes.proofs.FitsLemmas.{and_left, and_right, width_least, width_most, same, of_kind}
+use Rattle.vh_design.specs.Validity.{body_at, AllFit, IsValid, IsMeasured}
+use Rattle.vh_nodes.specs.Widths.{kind_width, kind_signed}
 
 -- Each element below a number passes.
 abbrev pub FitBelow : {T : Type 0} → (ℕ → T → Bool) → List T → ℕ → Type 0
@@ -38,50 +43,6 @@ AllFit-below test xs n below past k x at =
 pub AllFit-at : {T : Type 0} (test : ℕ → T → Bool) (xs : List T) (n : ℕ) (x : T)
     → AllFit test xs → n < length xs → x ≡ get_or xs n x → test n x ≡ true
 AllFit-at test xs n x fits inside is = fits n x (slice_get_read xs (length xs) n x refl inside is)
-
--- Two tests that pass, pass each; one that passes, passes beside nothing.
-pub and_left : (a b : Bool) → (a && b) ≡ true → a ≡ true
-and_left true b h = refl
-and_left false b h = h
-
-pub and_right : (a b : Bool) → (a && b) ≡ true → b ≡ true
-and_right true b h = h
-and_right false b h = cc
-
-pub only : (a : Bool) → a ≡ true → (a && true) ≡ true
-only a h = both_true h refl
-
--- A width that passes.
-width_least : (w : ℕ) → is_width w ≡ true → 1 ≤ w
-width_least w h = leb-true 1 w (and_left (nat_le 1 w) (nat_le w MAX_WIDTH) h)
-
-width_most : (w : ℕ) → is_width w ≡ true → w ≤ MAX_WIDTH
-width_most w h = leb-true w MAX_WIDTH (and_right (nat_le 1 w) (nat_le w MAX_WIDTH) h)
-
--- Two signs that pass.
-same : (a b : Bool) → same_sign a b ≡ true → a ≡ b
-same true true h = refl
-same true false h = cc
-same false true h = cc
-same false false h = refl
-
--- An object whose kind passes is there.
-some_of_kind : (test : Kind → Bool) (o : Option ObjectInfo)
-    → unwrap_or (option_map (λ (i : ObjectInfo). test i.kind) o) false ≡ true → IsSomeAnd o (λ i. test i.kind ≡ true)
-some_of_kind test None h = cc
-some_of_kind test (Some i) h = h
-
-some_inside : (os : List ObjectInfo) (test : Kind → Bool) (o : ℕ) (i : Option ObjectInfo)
-    → slice_get os o ≡ i → unwrap_or (option_map (λ (x : ObjectInfo). test x.kind) i) false ≡ true → o < length os
-some_inside os test o None at h = cc
-some_inside os test o (Some i) at h = slice_get_within os o i at
-
--- Its number is below that of the objects.
-pub has_kind-inside : (os : List ObjectInfo) (test : Kind → Bool) (o : ℕ) → has_kind test os o ≡ true → o < length os
-has_kind-inside os test o h = some_inside os test o (slice_get os o) refl h
-
-pub of_kind : (os : List ObjectInfo) (test : Kind → Bool) (o : ℕ) → has_kind test os o ≡ true → IsOfKind os test o
-of_kind os test o h = some_of_kind test (slice_get os o) h
 
 -- An expression that passes: its parts and what it reads, and its width and sign.
 pub node_kind : (d : Shape) (e : ℕ) (n : ExprNode)
@@ -116,31 +77,31 @@ scope_before o None h = tt
 scope_before o (Some p) h = ltb-true p o h
 
 pub object_scope : (d : Shape) (o : ℕ) (i : ObjectInfo)
-    → fits_object (length d.exprs) d.objects o i ≡ true → IfSome i.parent (λ p. p < o)
+    → fits_object (length d.exprs) (length d.bodies) d.objects o i ≡ true → IfSome i.parent (λ p. p < o)
 object_scope d o i h =
     let a = before o i.parent in
     let b = is_width i.width in
-    scope_before o i.parent (and_left a b (and_left (a && b) (fits_detail (length d.exprs) d.objects i.detail) h))
+    scope_before o i.parent (and_left a b (and_left (a && b) (fits_detail (length d.exprs) (length d.bodies) d.objects i.detail) h))
 
 object_width : (d : Shape) (o : ℕ) (i : ObjectInfo)
-    → fits_object (length d.exprs) d.objects o i ≡ true → is_width i.width ≡ true
+    → fits_object (length d.exprs) (length d.bodies) d.objects o i ≡ true → is_width i.width ≡ true
 object_width d o i h =
     let a = before o i.parent in
     let b = is_width i.width in
-    and_right a b (and_left (a && b) (fits_detail (length d.exprs) d.objects i.detail) h)
+    and_right a b (and_left (a && b) (fits_detail (length d.exprs) (length d.bodies) d.objects i.detail) h)
 
 pub object_least : (d : Shape) (o : ℕ) (i : ObjectInfo)
-    → fits_object (length d.exprs) d.objects o i ≡ true → 1 ≤ i.width
+    → fits_object (length d.exprs) (length d.bodies) d.objects o i ≡ true → 1 ≤ i.width
 object_least d o i h = width_least i.width (object_width d o i h)
 
 pub object_most : (d : Shape) (o : ℕ) (i : ObjectInfo)
-    → fits_object (length d.exprs) d.objects o i ≡ true → i.width ≤ MAX_WIDTH
+    → fits_object (length d.exprs) (length d.bodies) d.objects o i ≡ true → i.width ≤ MAX_WIDTH
 object_most d o i h = width_most i.width (object_width d o i h)
 
 pub object_detail : (d : Shape) (o : ℕ) (i : ObjectInfo)
-    → fits_object (length d.exprs) d.objects o i ≡ true → fits_detail (length d.exprs) d.objects i.detail ≡ true
+    → fits_object (length d.exprs) (length d.bodies) d.objects o i ≡ true → fits_detail (length d.exprs) (length d.bodies) d.objects i.detail ≡ true
 object_detail d o i h =
-    and_right (before o i.parent && is_width i.width) (fits_detail (length d.exprs) d.objects i.detail) h
+    and_right (before o i.parent && is_width i.width) (fits_detail (length d.exprs) (length d.bodies) d.objects i.detail) h
 
 -- A driver that passes: its net and its width.
 pub driver_net : (d : Shape) (i : DriverInfo) → fits_driver d.objects i ≡ true → IsOfKind d.objects is_net i.object
@@ -152,3 +113,34 @@ driver_least d i h = width_least i.width (and_right (has_kind is_net d.objects i
 
 pub driver_most : (d : Shape) (i : DriverInfo) → fits_driver d.objects i ≡ true → i.width ≤ MAX_WIDTH
 driver_most d i h = width_most i.width (and_right (has_kind is_net d.objects i.object) (is_width i.width) h)
+
+-- A statement that passes: its scope.
+pub stmt_scope : (d : Shape) (i : StmtInfo) → fits_statement d.objects i ≡ true → IsOfKind d.objects is_scope i.scope
+stmt_scope d i h = of_kind d.objects is_scope i.scope h
+
+-- The number of an object's body is below the number of bodies.
+body_below : (exprs bodies : ℕ) (os : List ObjectInfo) (it : Detail) (n : ℕ)
+    → fits_detail exprs bodies os it ≡ true → body_of it ≡ Some n → n < bodies
+body_below exprs bodies os detail.Plain n h is = absurd (cc)
+body_below exprs bodies os (detail.Net type) n h is = absurd (cc)
+body_below exprs bodies os (detail.Port output index) n h is = absurd (cc)
+body_below exprs bodies os (detail.Module name) n h is = absurd (cc)
+body_below exprs bodies os (detail.Memory lowest) n h is = absurd (cc)
+body_below exprs bodies os (detail.Value e) n h is = absurd (cc)
+body_below exprs bodies os (detail.Call systf result args) n h is = absurd (cc)
+body_below exprs bodies os (detail.Routine body) n h is =
+    let same : body ≡ n = cc in subst (λ (k : ℕ). k < bodies) same (ltb-true body bodies h)
+
+some_body : (d : Shape) (t : ℕ) (o : Option ObjectInfo) (n : ℕ)
+    → IsValid d → slice_get d.objects t ≡ o → option_and_then (λ (i : ObjectInfo). body_of i.detail) o ≡ Some n → n < length d.bodies
+some_body d t None n valid at is = absurd (cc)
+some_body d t (Some i) n valid at is =
+    body_below (length d.exprs) (length d.bodies) d.objects i.detail n (object_detail d t i (valid.nodes.objects t i at)) is
+
+pub body-inside : (d : Shape) (t n : ℕ) → IsValid d → body_number d.objects t ≡ Some n → n < length d.bodies
+body-inside d t n valid is = some_body d t (slice_get d.objects t) n valid refl is
+
+-- The body that was found.
+pub body_at-found : (d : Shape) (t n : ℕ) (x : Code)
+    → body_number d.objects t ≡ Some n → slice_get d.bodies n ≡ Some x → body_at d t ≡ Some x
+body_at-found d t n x found at = rw found at

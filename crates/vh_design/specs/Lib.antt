@@ -1,7 +1,3 @@
--- Which kinds of object may stand where
-pub mod Kinds
--- The width and the sign of an expression by its parts
-pub mod Widths
 -- What contracts see of a design
 pub mod Shape
 -- What contracts see of the parts that are handed in
@@ -10,3 +6,5 @@ pub mod Handed
 pub mod Validity
 -- What the rules mean for the numbers of a design
 pub mod Laws
+-- The same for codes, waits, display calls and statements
+pub mod CodeLaws

@@ -1,133 +1,74 @@
--- Which parts make a design. Each rule is one test of an object, an expression or a driver. (own: the rules say
--- where ids point, and which kinds may stand where after IEEE 1364-2005, clauses 4, 5, 6 and 26.6)
-use Rattle.std.specs.Prelude.{◌≡◌, ◌<◌, ◌≤◌, ◌^◌, ℕ, List, Bool, true, false, if◌then◌else◌, not, ◌&&◌, ◌==◌, length, nat_le, nat_lt, Option, Some, None, slice_get, unwrap_or, IsSomeAnd}
-use Rattle.std.specs.List.{list_all}
-use Rattle.std.specs.Option.{option_map}
-use Rattle.vh_base.specs.declared.orders.Object.{Object}
+-- Which parts make a design. (own)
+use Rattle.std.specs.Prelude.{◌≡◌, ◌<◌, ◌≤◌, ◌^◌, ℕ, List, Bool, true, length, nat_le, Option, Some, slice_get}
+use Rattle.std.specs.Option.{option_and_then}
 use Rattle.vh_logic.specs.declared.vector.TheConstants.{MAX_WIDTH}
-use Rattle.vh_design.specs.declared.driver.DriverInfo.{DriverInfo}
-use Rattle.vh_design.specs.declared.expr.Chosen.{Chosen}
-use Rattle.vh_design.specs.declared.expr.ExprKind.{ExprKind}
-use Rattle.vh_design.specs.declared.expr.ExprKind.TheVariants as kind
-use Rattle.vh_design.specs.declared.expr.ExprNode.{ExprNode}
-use Rattle.vh_design.specs.declared.object.Detail.{Detail}
-use Rattle.vh_design.specs.declared.object.Detail.TheVariants as detail
-use Rattle.vh_design.specs.declared.object.Kind.{Kind}
-use Rattle.vh_design.specs.declared.object.ObjectInfo.{ObjectInfo}
-use Rattle.vh_design.specs.declared.fits.TheConstants.{MOST_UNIT}
-use Rattle.vh_design.specs.Kinds.{is_vector, is_variable, is_memory, is_function, is_system_function, is_net}
+use Rattle.vh_nodes.specs.declared.expr.ExprNode.{ExprNode}
+use Rattle.vh_nodes.specs.declared.object.Detail.{Detail}
+use Rattle.vh_nodes.specs.declared.fits.TheConstants.{MOST_UNIT}
+use Rattle.vh_nodes.specs.Fits.{body_number, fits_detail, fits_object, fits_node, fits_driver}
+use Rattle.vh_nodes.specs.Widths.{kind_width, kind_signed}
+use Rattle.vh_code.specs.declared.code.Code.{Code}
+use Rattle.vh_code.specs.declared.codes.Limits.{Limits}
+use Rattle.vh_code.specs.declared.show.ShowCall.{ShowCall}
+use Rattle.vh_code.specs.Codes.{fits_code, fits_wait, fits_show, fits_statement}
 use Rattle.vh_design.specs.Shape.{Shape}
-use Rattle.vh_design.specs.Widths.{kind_width, kind_signed, operands}
-
--- Is the object of this number of such a kind?
-abbrev pub has_kind : (Kind → Bool) → List ObjectInfo → ℕ → Bool
-has_kind test os o = unwrap_or (option_map (λ i. test i.kind) (slice_get os o)) false
-
--- A width that a vector may have.
-abbrev pub is_width : ℕ → Bool
-is_width w = nat_le 1 w && nat_le w MAX_WIDTH
-
--- A time unit that a module of a design of this precision may have.
-abbrev pub is_unit : ℕ → ℕ → Bool
-is_unit precision unit = nat_le unit MOST_UNIT && nat_le precision unit
-
--- Are all of these numbers below this one?
-abbrev pub all_before : ℕ → List ℕ → Bool
-all_before e parts = list_all (λ p. nat_lt p e) parts
-
--- Is the number, where there is one, below this one?
-abbrev pub before : ℕ → Option ℕ → Bool
-before n None = true
-before n (Some m) = nat_lt m n
-
--- Are both signed, or neither?
-abbrev pub same_sign : Bool → Bool → Bool
-same_sign a b = if a then b else not b
-
--- What is selected from: a vector, or a word of a memory by an expression before this one.
-abbrev pub fits_word : List ObjectInfo → ℕ → ℕ → Option ℕ → Bool
-fits_word os e o None = has_kind is_vector os o
-fits_word os e o (Some at) = has_kind is_memory os o && nat_lt at e
-
-abbrev pub fits_chosen : List ObjectInfo → ℕ → Chosen → Bool
-fits_chosen os e c = fits_word os e c.object c.word
-
--- The parts of an expression and what it reads, a row for each kind.
-abbrev pub fits_kind : List ObjectInfo → ℕ → ℕ → ExprKind → Bool
-fits_kind os precision e (kind.Literal v) = true
-fits_kind os precision e (kind.Whole o) = has_kind is_vector os o
-fits_kind os precision e (kind.Word m index) = has_kind is_memory os m && nat_lt index e
-fits_kind os precision e (kind.Bit chosen range index) = fits_chosen os e chosen && nat_lt index e
-fits_kind os precision e (kind.Slice chosen range lowest width) = fits_chosen os e chosen
-fits_kind os precision e (kind.Indexed up chosen range base width) = fits_chosen os e chosen && nat_lt base e
-fits_kind os precision e (kind.Unary op part) = nat_lt part e
-fits_kind os precision e (kind.Arithmetic first rest) = nat_lt first e && all_before e (operands rest)
-fits_kind os precision e (kind.Shift first rest) = nat_lt first e && all_before e (operands rest)
-fits_kind os precision e (kind.Comparison first rest) = nat_lt first e && all_before e (operands rest)
-fits_kind os precision e (kind.Logic first rest) = nat_lt first e && all_before e (operands rest)
-fits_kind os precision e (kind.Choice condition left right) = nat_lt condition e && nat_lt left e && nat_lt right e
-fits_kind os precision e (kind.Join first rest) = nat_lt first e && all_before e rest
-fits_kind os precision e (kind.Repeat count part) = nat_lt part e
-fits_kind os precision e (kind.Marked part signed) = nat_lt part e
-fits_kind os precision e (kind.Time unit) = is_unit precision unit
-fits_kind os precision e (kind.Call function result arguments) =
-    has_kind is_function os function && has_kind is_variable os result && all_before e arguments
-fits_kind os precision e (kind.SysCall o) = has_kind is_system_function os o
-
--- An expression: that, and its width and sign are those that its parts give.
-abbrev pub fits_node : List ExprNode → List ObjectInfo → ℕ → ℕ → ExprNode → Bool
-fits_node ns os precision e n =
-    fits_kind os precision e n.kind && n.width == kind_width ns os n.kind && is_width n.width
-    && same_sign n.signed (kind_signed ns os n.kind)
-
--- An object that a call names: it is there, and where it is named by an address it is a memory with that word.
-abbrev pub has_word : List ObjectInfo → ℕ → Option ℕ → Bool
-has_word os o None = nat_lt o (length os)
-has_word os o (Some at) = unwrap_or (option_map (λ i. is_memory i.kind && nat_lt at i.words) (slice_get os o)) false
-
--- What is known of an object beside what all have: the expressions and objects that it names are there.
-abbrev pub fits_detail : ℕ → List ObjectInfo → Detail → Bool
-fits_detail exprs os detail.Plain = true
-fits_detail exprs os (detail.Net type) = true
-fits_detail exprs os (detail.Port output index) = true
-fits_detail exprs os (detail.Module name) = true
-fits_detail exprs os (detail.Value e) = nat_lt e exprs
-fits_detail exprs os (detail.Call systf result args) =
-    before exprs result && list_all (λ (o : Object). has_word os o.id o.word) args
-
--- An object: its scope has a lesser number, its width is one, and what its detail names is there.
-abbrev pub fits_object : ℕ → List ObjectInfo → ℕ → ObjectInfo → Bool
-fits_object exprs os o i = before o i.parent && is_width i.width && fits_detail exprs os i.detail
-
--- A driver: so many digits of a net.
-abbrev pub fits_driver : List ObjectInfo → DriverInfo → Bool
-fits_driver os d = has_kind is_net os d.object && is_width d.width
 
 -- Each element passes a test of its number and itself.
 abbrev pub AllFit : {T : Type 0} → (ℕ → T → Bool) → List T → Type 0
 AllFit {T} test xs = (k : ℕ) (x : T) → slice_get xs k ≡ Some x → test k x ≡ true
 
--- The rules, of all of each.
-pub record IsValid (d : Shape) : Type 0 where
-  pub objects : AllFit (fits_object (length d.exprs) d.objects) d.objects
+-- How many waits, display calls and statements there are, and the precision.
+abbrev pub limits_of : Shape → Limits
+limits_of d = record {
+  waits = length d.waits;
+  shows = length d.shows;
+  stmts = length d.stmts;
+  precision = d.precision;
+}
+
+-- Each of these codes may stand in the design.
+abbrev pub CodesFit : Shape → List Code → Type 0
+CodesFit d cs = AllFit (λ k. fits_code d.objects d.exprs d.drivers (limits_of d)) cs
+
+-- Each of its display calls may.
+abbrev pub CallsFit : Shape → Type 0
+CallsFit d = AllFit (λ s. fits_show d.objects (length d.exprs) d.precision) d.shows
+
+-- The rules, of all objects, expressions and drivers, and of the precision.
+pub record NodesFit (d : Shape) : Type 0 where
+  pub objects : AllFit (fits_object (length d.exprs) (length d.bodies) d.objects) d.objects
   pub exprs : AllFit (fits_node d.exprs d.objects d.precision) d.exprs
   pub drivers : AllFit (λ x. fits_driver d.objects) d.drivers
   pub precise : nat_le d.precision MOST_UNIT ≡ true
+
+-- Of all waits, display calls and statements.
+pub record NamesFit (d : Shape) : Type 0 where
+  pub waits : AllFit (λ w. fits_wait d.objects) d.waits
+  pub shows : CallsFit d
+  pub stmts : AllFit (λ n. fits_statement d.objects) d.stmts
+
+-- And of all codes and bodies.
+pub record IsValid (d : Shape) : Type 0 where
+  pub nodes : NodesFit d
+  pub names : NamesFit d
+  pub codes : CodesFit d d.codes
+  pub bodies : CodesFit d d.bodies
 
 -- No list has more elements than there are numbers for them.
 pub record IsCounted (d : Shape) : Type 0 where
   pub objects : length d.objects < 2 ^ 32
   pub exprs : length d.exprs < 2 ^ 32
   pub drivers : length d.drivers < 2 ^ 32
+  pub codes : length d.codes < 2 ^ 32
+  pub bodies : length d.bodies < 2 ^ 32
+  pub waits : length d.waits < 2 ^ 32
+  pub shows : length d.shows < 2 ^ 32
+  pub stmts : length d.stmts < 2 ^ 32
 
 -- What each design keeps.
 pub record IsDesign (d : Shape) : Type 0 where
   pub valid : IsValid d
   pub counted : IsCounted d
-
--- Is there an object of this number, of such a kind?
-abbrev pub IsOfKind : List ObjectInfo → (Kind → Bool) → ℕ → Type 0
-IsOfKind os test o = IsSomeAnd (slice_get os o) (λ i. test i.kind ≡ true)
 
 -- The width of an expression is one that a vector may have, and it and the sign are those that its parts give.
 pub record IsMeasured (d : Shape) (n : ExprNode) : Type 0 where
@@ -138,4 +79,16 @@ pub record IsMeasured (d : Shape) (n : ExprNode) : Type 0 where
 
 -- What the detail of an object names is there.
 abbrev pub IsThere : Shape → Detail → Type 0
-IsThere d it = fits_detail (length d.exprs) d.objects it ≡ true
+IsThere d it = fits_detail (length d.exprs) (length d.bodies) d.objects it ≡ true
+
+-- The body of a task or function, by its object's number.
+abbrev pub body_at : Shape → ℕ → Option Code
+body_at d t = option_and_then (λ n. slice_get d.bodies n) (body_number d.objects t)
+
+-- A code may stand in the design.
+abbrev pub CodeFits : Shape → Code → Type 0
+CodeFits d c = fits_code d.objects d.exprs d.drivers (limits_of d) c ≡ true
+
+-- A display call may.
+abbrev pub CallFits : Shape → ShowCall → Type 0
+CallFits d s = fits_show d.objects (length d.exprs) d.precision s ≡ true

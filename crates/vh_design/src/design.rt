@@ -1,93 +1,49 @@
-ghost use Rattle.std.specs.Prelude.{◌≡◌, ◌<◌, ◌≤◌, ◌↔◌, length, slice_get, Some, true, IsTrue, IfSome, SomeIff};
+ghost use Rattle.std.specs.Prelude.{◌≡◌, ◌<◌, ◌≤◌, length, slice_get, Some, true, IfSome, SomeIff};
 ghost use Rattle.vh_logic.specs.declared.vector.TheConstants.{MAX_WIDTH};
-ghost use Rattle.vh_design.specs.Kinds.{is_net};
-ghost use Rattle.vh_design.specs.Widths.{width_of, signed_of};
-ghost use Rattle.vh_design.specs.Shape.{Shape, shape};
+ghost use Rattle.vh_nodes.specs.Fits.{has_body, fits_kind, IsOfKind};
+ghost use Rattle.vh_nodes.specs.Kinds.{is_net, is_scope};
+ghost use Rattle.vh_nodes.specs.Widths.{width_of, signed_of};
+ghost use Rattle.vh_code.specs.Codes.{fits_wait};
 ghost use Rattle.vh_design.specs.Handed.{shape_of};
-ghost use Rattle.vh_design.specs.Validity.{fits_node, fits_object, fits_driver, fits_kind, AllFit, IsValid, IsCounted, IsOfKind, IsMeasured, IsThere};
+ghost use Rattle.vh_design.specs.Validity.{body_at, CodeFits, CallFits, IsValid, IsCounted, IsMeasured, IsThere};
 
-use crate::driver::DriverInfo;
-use crate::expr::ExprNode;
-use crate::fits::{MOST_UNIT, fits_driver, fits_node, fits_object};
-use crate::object::ObjectInfo;
+use crate::fitting::is_valid;
 use crate::parts::Parts;
 use std::marker::Model;
-use vh_base::{DriverId, ExprId, ObjId};
+use vh_base::{DriverId, ExprId, ObjId, ProcId, ShowId, WaitId};
+use vh_code::{Code, ShowCall, StmtInfo, WaitInfo};
 use vh_logic::MAX_WIDTH;
+use vh_nodes::{DriverInfo, ExprNode, MOST_UNIT, ObjectInfo, body_number};
 
-/// A design that is valid by its type: contracts see its objects, expressions and drivers, each at
-/// its number, and the simulation's precision.
+/// A design that is valid by its type: contracts see the lists of its parts, each part at its
+/// number, and the simulation's precision.
 #[derive(Drop)]
 pub struct Design {
-    objects: Vec<ObjectInfo>,
-    exprs: Vec<ExprNode>,
-    drivers: Vec<DriverInfo>,
-    precision: u8,
+    parts: Parts,
 }
 
 impl Model for Design {
-    ghost use Rattle.vh_design.specs.Shape.{Shape, shape};
+    ghost use Rattle.vh_design.specs.Shape.{Shape};
+    ghost use Rattle.vh_design.specs.Handed.{shape_of};
     ghost use Rattle.vh_design.specs.Validity.{IsDesign};
 
     ghost Value = { Shape };
 
-    ghost view = { λ d. shape d.objects.items d.exprs.items d.drivers.items d.precision };
+    ghost view = { λ d. shape_of d.parts };
 
-    ghost invariant = { λ d. IsDesign (shape d.objects.items d.exprs.items d.drivers.items d.precision) };
+    ghost invariant = { λ d. IsDesign (shape_of d.parts) };
 }
 
-/// How many objects, expressions and drivers a design has: their numbers are below.
+/// How many of each a design has: their numbers are below.
 #[derive(Clone, Copy, Debug, PartialEq, Eq)]
 pub struct Counts {
     pub objects: u32,
-    pub exprs: u32,
+    pub processes: u32,
     pub drivers: u32,
-}
-
-// Whether each object fits.
-fn objects_fit(exprs: usize, objects: &[ObjectInfo]) -> bool
-    ensures { IsTrue result ↔ AllFit (fits_object exprs objects.now) objects.now }
-{
-    for (o, object) in objects.iter().enumerate() {
-        if !fits_object(exprs, objects, o, object) {
-            return false;
-        }
-    }
-    true
-}
-
-// Whether each expression fits.
-fn exprs_fit(exprs: &[ExprNode], objects: &[ObjectInfo], precision: u8) -> bool
-    ensures { IsTrue result ↔ AllFit (fits_node exprs.now objects.now precision) exprs.now }
-{
-    for (e, node) in exprs.iter().enumerate() {
-        if !fits_node(exprs, objects, precision, e, node) {
-            return false;
-        }
-    }
-    true
-}
-
-// Whether each driver fits.
-fn drivers_fit(objects: &[ObjectInfo], drivers: &[DriverInfo]) -> bool
-    ensures { IsTrue result ↔ AllFit (λ x. fits_driver objects.now) drivers.now }
-{
-    for driver in drivers {
-        if !fits_driver(objects, driver) {
-            return false;
-        }
-    }
-    true
-}
-
-// Whether the parts make a design.
-fn is_valid(parts: &Parts) -> bool
-    ensures { IsTrue result ↔ IsValid (shape_of parts.now) }
-{
-    parts.precision <= MOST_UNIT
-        && objects_fit(parts.exprs.len(), &parts.objects)
-        && exprs_fit(&parts.exprs, &parts.objects, parts.precision)
-        && drivers_fit(&parts.objects, &parts.drivers)
+    pub exprs: u32,
+    pub waits: u32,
+    pub shows: u32,
+    pub stmts: u32,
 }
 
 impl Design {
@@ -100,18 +56,7 @@ impl Design {
         if !is_valid(&parts) {
             return None;
         }
-        let Parts {
-            objects,
-            exprs,
-            drivers,
-            precision,
-        } = parts;
-        Some(Design {
-            objects,
-            exprs,
-            drivers,
-            precision,
-        })
+        Some(Design { parts })
     }
 
     /// An object of the design.
@@ -123,7 +68,7 @@ impl Design {
         ensures most { result.now.width ≤ MAX_WIDTH }
         ensures detail { IsThere self.now result.now.detail }
     {
-        &self.objects[o.number() as usize]
+        &self.parts.objects[o.number() as usize]
     }
 
     /// An expression of the design.
@@ -133,7 +78,7 @@ impl Design {
         ensures fits { fits_kind self.now.objects self.now.precision e result.now.kind ≡ true }
         ensures measured { IsMeasured self.now result.now }
     {
-        &self.exprs[e.number() as usize]
+        &self.parts.exprs[e.number() as usize]
     }
 
     /// The width of an expression where nothing around it asks for more.
@@ -162,20 +107,76 @@ impl Design {
         ensures least { 1 ≤ result.now.width }
         ensures most { result.now.width ≤ MAX_WIDTH }
     {
-        &self.drivers[x.number() as usize]
+        &self.parts.drivers[x.number() as usize]
+    }
+
+    /// The code of a process. A branch of a fork runs that of its parent.
+    pub fn code(&self, p: ProcId) -> &Code
+        requires { p < length self.now.codes }
+        ensures value { slice_get self.now.codes p ≡ Some result.now }
+        ensures fits { CodeFits self.now result.now }
+    {
+        &self.parts.codes[p.number() as usize]
+    }
+
+    /// The body of a task or function.
+    pub fn body(&self, t: ObjId) -> &Code
+        requires { has_body self.now.objects t ≡ true }
+        ensures value { body_at self.now t ≡ Some result.now }
+        ensures fits { CodeFits self.now result.now }
+    {
+        match body_number(&self.parts.objects, t) {
+            Some(n) => &self.parts.bodies[n as usize],
+            None => unreachable!(),
+        }
+    }
+
+    /// A wait of the design.
+    pub fn wait(&self, w: WaitId) -> &WaitInfo
+        requires { w < length self.now.waits }
+        ensures value { slice_get self.now.waits w ≡ Some result.now }
+        ensures fits { fits_wait self.now.objects result.now ≡ true }
+    {
+        &self.parts.waits[w.number() as usize]
+    }
+
+    /// A display call of the design.
+    pub fn show_call(&self, c: ShowId) -> &ShowCall
+        requires { c < length self.now.shows }
+        ensures value { slice_get self.now.shows c ≡ Some result.now }
+        ensures fits { CallFits self.now result.now }
+    {
+        &self.parts.shows[c.number() as usize]
+    }
+
+    /// A statement of the design.
+    pub fn stmt(&self, n: u32) -> &StmtInfo
+        requires { n < length self.now.stmts }
+        ensures value { slice_get self.now.stmts n ≡ Some result.now }
+        ensures scope { IsOfKind self.now.objects is_scope result.now.scope }
+    {
+        &self.parts.stmts[n as usize]
     }
 
     /// How many of each there are.
     pub fn counts(&self) -> Counts
         ensures objects { result.objects ≡ length self.now.objects }
-        ensures exprs { result.exprs ≡ length self.now.exprs }
+        ensures processes { result.processes ≡ length self.now.codes }
         ensures drivers { result.drivers ≡ length self.now.drivers }
+        ensures exprs { result.exprs ≡ length self.now.exprs }
+        ensures waits { result.waits ≡ length self.now.waits }
+        ensures shows { result.shows ≡ length self.now.shows }
+        ensures stmts { result.stmts ≡ length self.now.stmts }
         ensures valid { IsValid self.now }
     {
         Counts {
-            objects: self.objects.len() as u32,
-            exprs: self.exprs.len() as u32,
-            drivers: self.drivers.len() as u32,
+            objects: self.parts.objects.len() as u32,
+            processes: self.parts.codes.len() as u32,
+            drivers: self.parts.drivers.len() as u32,
+            exprs: self.parts.exprs.len() as u32,
+            waits: self.parts.waits.len() as u32,
+            shows: self.parts.shows.len() as u32,
+            stmts: self.parts.stmts.len() as u32,
         }
     }
 
@@ -184,6 +185,6 @@ impl Design {
         ensures value { result ≡ self.now.precision }
         ensures most { result ≤ MOST_UNIT }
     {
-        self.precision
+        self.parts.precision
     }
 }

@@ -1,11 +1,16 @@
 use crate::{
-    Arithmetic, Chosen, Comparison, Counts, Design, Detail, DriverInfo, ExprKind, ExprNode, Kind,
-    Link, Logic, Name, NetType, ObjectInfo, Parts, Range, Shift, Unary, design_laws,
+    Arithmetic, Arm, Block, CaseKind, CaseTest, Chosen, Code, Comparison, Counts, Delay, Design,
+    Detail, Drive, DriverInfo, Edge, ExprKind, ExprNode, Goes, Input, Instruction, Kind, Leave,
+    Link, Logic, Name, NetType, ObjectInfo, Operation, Parts, Pause, Range, Schedule, Shift,
+    ShowArg, ShowCall, ShowTask, Single, StmtInfo, StmtKind, Target, Term, Unary, WaitInfo,
+    design_laws,
 };
 use std::alloc::Global;
 use std::mem::size_of;
 use std::test::Fail;
-use vh_base::{Boxed, DriverId, ExprId, NoMemory, ObjId, Object, Sequence};
+use vh_base::{
+    Boxed, DriverId, ExprId, NoMemory, ObjId, Object, Place, ProcId, Sequence, ShowId, WaitId,
+};
 use vh_logic::{Digit, Vec4};
 
 // The objects of the design below.
@@ -25,7 +30,15 @@ const RANDOM: u32 = 6;
 
 const STEP: u32 = 7;
 
-const OBJECTS: u32 = 8;
+const EVENT: u32 = 8;
+
+const BLOCK: u32 = 9;
+
+const TASK: u32 = 10;
+
+const TASK_CALL: u32 = 11;
+
+const OBJECTS: u32 = 12;
 
 // Its expressions.
 const READ_Q: u32 = 0;
@@ -38,7 +51,8 @@ const EXPRS: u32 = 3;
 
 // module counter; reg [7:0] q; wire [7:0] w; reg signed [3:0] mem [0:2];
 //   function [15:0] sum; .. endfunction
-//   parameter signed [7:0] STEP = 1; .. $random(q, mem[2]) .. q + 1 .. endmodule
+//   parameter signed [7:0] STEP = 1; .. $random(q, mem[2]) .. q + 1 ..
+//   event tick; initial begin : block q = q + 1; end task count; .. endtask .. $count; .. endmodule
 fn counter(alloc: Global) -> Result<Parts, NoMemory> {
     let mut objects = Vec::new(alloc);
     let name = Name::from_slice(alloc, b"counter")?;
@@ -63,6 +77,11 @@ fn counter(alloc: Global) -> Result<Parts, NoMemory> {
     )?;
     step.signed = true;
     objects.push(step)?;
+    objects.push(object(alloc, Kind::NamedEvent, top, 1, Detail::Plain)?)?;
+    objects.push(object(alloc, Kind::NamedBegin, top, 1, Detail::Plain)?)?;
+    objects.push(object(alloc, Kind::Task, top, 1, Detail::Routine(0))?)?;
+    let call = called(alloc, None, &[])?;
+    objects.push(object(alloc, Kind::SysTaskCall, top, 1, call)?)?;
 
     let mut exprs = Vec::new(alloc);
     exprs.push(node(ExprKind::Whole(ObjId::new(Q)), 8, false))?;
@@ -71,12 +90,217 @@ fn counter(alloc: Global) -> Result<Parts, NoMemory> {
 
     let mut drivers = Vec::new(alloc);
     drivers.push(driver(W, 8))?;
-    Ok(Parts {
+    let mut parts = Parts {
         objects,
         exprs,
         drivers,
+        codes: Vec::new(alloc),
+        bodies: Vec::new(alloc),
+        waits: Vec::new(alloc),
+        shows: Vec::new(alloc),
+        stmts: Vec::new(alloc),
         precision: 9,
+    };
+    add_code(alloc, &mut parts)?;
+    Ok(parts)
+}
+
+// Its code, the body of its task, a wait, a display call and a statement.
+fn add_code(alloc: Global, parts: &mut Parts) -> Result<(), NoMemory> {
+    let assignment = assign(alloc, &[Target::Whole(ObjId::new(Q))], NEXT)?;
+    parts.codes.push(code_of(alloc, assignment)?)?;
+    parts.bodies.push(code_of(alloc, leave(alloc)?)?)?;
+    parts.waits.push(wait_for(alloc, digits(Q, 8))?)?;
+    parts.shows.push(show(alloc, TOP, 17, READ_Q)?)?;
+    parts.stmts.push(statement(TOP))?;
+    Ok(())
+}
+
+// A code of two instructions, an operation and an end, in one block.
+fn code_of(alloc: Global, operation: Operation) -> Result<Code, NoMemory> {
+    let block = Block {
+        object: ObjId::new(BLOCK),
+        around: None,
+        after: Goes::To(1),
+    };
+    code_in(alloc, operation, block, Goes::To(1), Some(0))
+}
+
+fn code_in(
+    alloc: Global,
+    operation: Operation,
+    block: Block,
+    next: Goes,
+    number: Option<u32>,
+) -> Result<Code, NoMemory> {
+    let mut instructions = Vec::new(alloc);
+    instructions.push(Instruction {
+        operation,
+        next,
+        stmt: number,
+        block: number,
+        first: true,
+    })?;
+    instructions.push(Instruction {
+        operation: Operation::End,
+        next: Goes::To(1),
+        stmt: None,
+        block: None,
+        first: false,
+    })?;
+    Ok(Code {
+        start: Goes::To(0),
+        instructions: Sequence::new(instructions),
+        blocks: Sequence::from_slice(alloc, &[block])?,
     })
+}
+
+fn assign(alloc: Global, targets: &[Target], value: u32) -> Result<Operation, NoMemory> {
+    Ok(Operation::Assign {
+        value: ExprId::new(value),
+        targets: Sequence::from_slice(alloc, targets)?,
+    })
+}
+
+fn leave(alloc: Global) -> Result<Operation, NoMemory> {
+    let end = Leave {
+        outputs: Sequence::new(Vec::new(alloc)),
+        result: None,
+    };
+    Ok(Operation::Leave(Boxed::new(alloc, end)?))
+}
+
+fn schedule(alloc: Global, unit: u8) -> Result<Operation, NoMemory> {
+    let update = Schedule {
+        targets: Sequence::from_slice(alloc, &[Target::Whole(ObjId::new(Q))])?,
+        value: ExprId::new(NEXT),
+        delay: Some(delay(ONE, unit)),
+    };
+    Ok(Operation::Schedule(Boxed::new(alloc, update)?))
+}
+
+// case (q) 1: .. endcase, in so many digits.
+fn case(alloc: Global, width: u32, signed: bool, to: u32) -> Result<Operation, NoMemory> {
+    let arm = Arm {
+        label: ExprId::new(ONE),
+        to: Goes::To(to),
+    };
+    let test = CaseTest {
+        kind: CaseKind::Plain,
+        subject: ExprId::new(READ_Q),
+        arms: Sequence::from_slice(alloc, &[arm])?,
+        width,
+        signed,
+    };
+    Ok(Operation::Case(Boxed::new(alloc, test)?))
+}
+
+fn drive(alloc: Global, drivers: &[DriverId], wait: u32) -> Result<Operation, NoMemory> {
+    let driven = Drive {
+        drivers: Sequence::from_slice(alloc, drivers)?,
+        value: ExprId::new(READ_Q),
+        delay: None,
+        wait: WaitId::new(wait),
+    };
+    Ok(Operation::Drive(Boxed::new(alloc, driven)?))
+}
+
+fn enter(alloc: Global, routine: u32, variable: u32) -> Result<Operation, NoMemory> {
+    let input = Input {
+        variable: ObjId::new(variable),
+        value: ExprId::new(ONE),
+    };
+    Ok(Operation::Enter {
+        routine: ObjId::new(routine),
+        inputs: Sequence::from_slice(alloc, &[input])?,
+    })
+}
+
+fn fork(alloc: Global, branch: u32) -> Result<Operation, NoMemory> {
+    Ok(Operation::Fork(Sequence::from_slice(alloc, &[branch])?))
+}
+
+fn delay(amount: u32, unit: u8) -> Delay {
+    Delay {
+        amount: ExprId::new(amount),
+        unit,
+    }
+}
+
+fn hold(width: u32) -> Operation {
+    Operation::Hold {
+        value: ExprId::new(NEXT),
+        width,
+        delay: delay(ONE, 9),
+    }
+}
+
+fn test(condition: u32, otherwise: u32) -> Operation {
+    Operation::Test {
+        condition: ExprId::new(condition),
+        otherwise: Goes::To(otherwise),
+    }
+}
+
+fn force(object: u32) -> Operation {
+    Operation::Single(Single::Force {
+        object: ObjId::new(object),
+        value: ExprId::new(ONE),
+    })
+}
+
+fn initial(object: u32) -> Operation {
+    Operation::Initial {
+        object: ObjId::new(object),
+        value: ExprId::new(ONE),
+    }
+}
+
+fn disable(object: u32) -> Operation {
+    Operation::Single(Single::Disable(ObjId::new(object)))
+}
+
+fn trigger(object: u32) -> Operation {
+    Operation::Single(Single::Trigger(ObjId::new(object)))
+}
+
+fn digits(object: u32, width: u32) -> Term {
+    Term::Digits {
+        object: ObjId::new(object),
+        low: 0,
+        width,
+        edge: Edge::Any,
+    }
+}
+
+fn wait_for(alloc: Global, term: Term) -> Result<WaitInfo, NoMemory> {
+    Ok(WaitInfo {
+        terms: Sequence::from_slice(alloc, &[term])?,
+    })
+}
+
+fn show(alloc: Global, scope: u32, unit: u8, value: u32) -> Result<ShowCall, NoMemory> {
+    let mut args = Vec::new(alloc);
+    args.push(ShowArg::Empty)?;
+    args.push(ShowArg::Value(ExprId::new(value)))?;
+    Ok(ShowCall {
+        task: ShowTask::Display,
+        scope: ObjId::new(scope),
+        unit,
+        args: Sequence::new(args),
+    })
+}
+
+fn statement(scope: u32) -> StmtInfo {
+    StmtInfo {
+        kind: StmtKind::Assignment,
+        scope: ObjId::new(scope),
+        place: Place {
+            file: 1,
+            line: 1,
+            column: 1,
+        },
+    }
 }
 
 fn object(
@@ -157,6 +381,12 @@ fn built(parts: Parts) -> Option<Design> {
     if parts.objects.len() > 99 || parts.exprs.len() > 99 || parts.drivers.len() > 99 {
         return None;
     }
+    if parts.codes.len() > 99 || parts.bodies.len() > 99 || parts.waits.len() > 99 {
+        return None;
+    }
+    if parts.shows.len() > 99 || parts.stmts.len() > 99 {
+        return None;
+    }
     Design::build(parts)
 }
 
@@ -183,6 +413,37 @@ fn stands_driven(alloc: Global, driver: DriverInfo) -> Result<bool, NoMemory> {
 fn stands_at(alloc: Global, precision: u8) -> Result<bool, NoMemory> {
     let mut parts = counter(alloc)?;
     parts.precision = precision;
+    Ok(built(parts).is_some())
+}
+
+// Whether the counter stands with one more process, of one operation and an end.
+fn stands_doing(alloc: Global, operation: Operation) -> Result<bool, NoMemory> {
+    let code = code_of(alloc, operation)?;
+    stands_coded(alloc, code)
+}
+
+fn stands_coded(alloc: Global, code: Code) -> Result<bool, NoMemory> {
+    let mut parts = counter(alloc)?;
+    parts.codes.push(code)?;
+    Ok(built(parts).is_some())
+}
+
+// The same with one more wait, display call or statement.
+fn stands_waiting(alloc: Global, term: Term) -> Result<bool, NoMemory> {
+    let mut parts = counter(alloc)?;
+    parts.waits.push(wait_for(alloc, term)?)?;
+    Ok(built(parts).is_some())
+}
+
+fn stands_showing(alloc: Global, scope: u32, unit: u8, value: u32) -> Result<bool, NoMemory> {
+    let mut parts = counter(alloc)?;
+    parts.shows.push(show(alloc, scope, unit, value)?)?;
+    Ok(built(parts).is_some())
+}
+
+fn stands_in(alloc: Global, scope: u32) -> Result<bool, NoMemory> {
+    let mut parts = counter(alloc)?;
+    parts.stmts.push(statement(scope))?;
     Ok(built(parts).is_some())
 }
 
@@ -312,8 +573,12 @@ fn a_counter_is_what_it_was_built_of(rt: HostRuntime) -> Result<(), Fail> {
     let design = built(counter(rt.alloc())?).expect(&rt, "every rule is kept");
     let counts = Counts {
         objects: OBJECTS,
-        exprs: EXPRS,
+        processes: 1,
         drivers: 1,
+        exprs: EXPRS,
+        waits: 1,
+        shows: 1,
+        stmts: 1,
     };
     assert_eq!(rt; design.counts(), counts);
     assert_eq!(rt; design.precision(), 9);
@@ -330,6 +595,10 @@ fn a_counter_is_what_it_was_built_of(rt: HostRuntime) -> Result<(), Fail> {
     assert_eq!(rt; design.object(ObjId::new(MEM)).words, 3);
     assert_eq!(rt; design.object(ObjId::new(TOP)).kind, Kind::Module);
     assert_eq!(rt; *design.driver(DriverId::new(0)), driver(W, 8));
+    assert_eq!(rt; design.code(ProcId::new(0)).start, Goes::To(0));
+    assert_eq!(rt; design.wait(WaitId::new(0)).terms.as_slice().len(), 1);
+    assert_eq!(rt; design.show_call(ShowId::new(0)).task, ShowTask::Display);
+    assert_eq!(rt; design.stmt(0).kind, StmtKind::Assignment);
     design_laws();
     Ok(())
 }
@@ -454,6 +723,141 @@ fn an_object_or_a_driver_that_breaks_a_rule_is_refused(rt: HostRuntime) -> Resul
     // A precision above 100 s.
     assert!(rt; stands_at(alloc, 17)?);
     assert!(rt; !stands_at(alloc, 18)?);
+    Ok(())
+}
+
+// Each rule on codes, waits, display calls and statements, kept and broken.
+#[test]
+fn a_code_that_breaks_a_rule_is_refused(rt: HostRuntime) -> Result<(), Fail> {
+    let alloc = rt.alloc();
+    // Targets: of a kind that may change, there, and together not too wide.
+    let q = Target::Whole(ObjId::new(Q));
+    let net = Target::Whole(ObjId::new(W));
+    let memory = Target::Word {
+        memory: ObjId::new(MEM),
+        index: ExprId::new(ONE),
+    };
+    assert!(rt; stands_doing(alloc, assign(alloc, &[q, memory], ONE)?)?);
+    assert!(rt; !stands_doing(alloc, assign(alloc, &[net], ONE)?)?);
+    assert!(rt; !stands_doing(alloc, assign(alloc, &[q], EXPRS)?)?);
+    assert!(rt; !stands_doing(alloc, assign(alloc, &[], ONE)?)?);
+    assert!(rt; !stands_doing(alloc, assign(alloc, &[q, q, q, q, q, q, q, q, q], ONE)?)?);
+    // Widths and time units.
+    assert!(rt; stands_doing(alloc, hold(64))?);
+    assert!(rt; !stands_doing(alloc, hold(65))?);
+    assert!(rt; stands_doing(alloc, schedule(alloc, 9)?)?);
+    assert!(rt; !stands_doing(alloc, schedule(alloc, 8)?)?);
+    // A `case` of 8 unsigned digits with a label of 32 signed ones.
+    assert!(rt; stands_doing(alloc, case(alloc, 32, false, 1)?)?);
+    assert!(rt; !stands_doing(alloc, case(alloc, 8, false, 1)?)?);
+    assert!(rt; !stands_doing(alloc, case(alloc, 32, true, 1)?)?);
+    assert!(rt; !stands_doing(alloc, case(alloc, 32, false, 2)?)?);
+    Ok(())
+}
+
+#[test]
+fn a_jump_or_a_number_that_is_not_there_is_refused(rt: HostRuntime) -> Result<(), Fail> {
+    let alloc = rt.alloc();
+    assert!(rt; stands_doing(alloc, test(ONE, 1))?);
+    assert!(rt; !stands_doing(alloc, test(ONE, 2))?);
+    assert!(rt; !stands_doing(alloc, test(EXPRS, 1))?);
+    assert!(rt; stands_doing(alloc, fork(alloc, 1)?)?);
+    assert!(rt; !stands_doing(alloc, fork(alloc, 2)?)?);
+    assert!(rt; stands_doing(alloc, Operation::Pause(Pause::Await(WaitId::new(0))))?);
+    assert!(rt; !stands_doing(alloc, Operation::Pause(Pause::Await(WaitId::new(1))))?);
+    assert!(rt; stands_doing(alloc, Operation::Single(Single::Show(ShowId::new(0))))?);
+    assert!(rt; !stands_doing(alloc, Operation::Single(Single::Show(ShowId::new(1))))?);
+    assert!(rt; stands_doing(alloc, drive(alloc, &[DriverId::new(0)], 0)?)?);
+    assert!(rt; !stands_doing(alloc, drive(alloc, &[DriverId::new(1)], 0)?)?);
+    assert!(rt; !stands_doing(alloc, drive(alloc, &[DriverId::new(0)], 1)?)?);
+    Ok(())
+}
+
+#[test]
+fn an_object_of_another_kind_is_refused(rt: HostRuntime) -> Result<(), Fail> {
+    let alloc = rt.alloc();
+    assert!(rt; stands_doing(alloc, enter(alloc, TASK, Q)?)?);
+    assert!(rt; !stands_doing(alloc, enter(alloc, SUM, Q)?)?);
+    assert!(rt; !stands_doing(alloc, enter(alloc, TASK, W)?)?);
+    assert!(rt; stands_doing(alloc, force(W))?);
+    assert!(rt; !stands_doing(alloc, force(MEM))?);
+    assert!(rt; stands_doing(alloc, initial(Q))?);
+    assert!(rt; !stands_doing(alloc, initial(W))?);
+    assert!(rt; stands_doing(alloc, disable(BLOCK))?);
+    assert!(rt; stands_doing(alloc, disable(TASK))?);
+    assert!(rt; !stands_doing(alloc, disable(SUM))?);
+    assert!(rt; stands_doing(alloc, trigger(EVENT))?);
+    assert!(rt; !stands_doing(alloc, trigger(Q))?);
+    assert!(rt; stands_doing(alloc, Operation::SysCall(ObjId::new(TASK_CALL)))?);
+    assert!(rt; !stands_doing(alloc, Operation::SysCall(ObjId::new(RANDOM)))?);
+    assert!(rt; stands_doing(alloc, Operation::SysFunc(ObjId::new(RANDOM)))?);
+    assert!(rt; !stands_doing(alloc, Operation::SysFunc(ObjId::new(TASK_CALL)))?);
+    Ok(())
+}
+
+#[test]
+fn a_block_a_wait_or_a_display_call_that_breaks_a_rule_is_refused(
+    rt: HostRuntime,
+) -> Result<(), Fail> {
+    let alloc = rt.alloc();
+    // A block in itself, of a scope that is none, and a code that goes on behind its end.
+    let block = Block {
+        object: ObjId::new(BLOCK),
+        around: Some(0),
+        after: Goes::To(1),
+    };
+    assert!(rt;
+        !stands_coded(
+            alloc,
+            code_in(alloc, Operation::End, block, Goes::Back, None)?
+        )?
+    );
+    let block = Block {
+        object: ObjId::new(TOP),
+        around: None,
+        after: Goes::To(1),
+    };
+    assert!(rt;
+        !stands_coded(
+            alloc,
+            code_in(alloc, Operation::End, block, Goes::Back, None)?
+        )?
+    );
+    let block = Block {
+        object: ObjId::new(BLOCK),
+        around: None,
+        after: Goes::Back,
+    };
+    assert!(rt;
+        stands_coded(
+            alloc,
+            code_in(alloc, Operation::End, block, Goes::Back, None)?
+        )?
+    );
+    assert!(rt;
+        !stands_coded(
+            alloc,
+            code_in(alloc, Operation::End, block, Goes::To(2), None)?
+        )?
+    );
+    assert!(rt;
+        !stands_coded(
+            alloc,
+            code_in(alloc, Operation::End, block, Goes::Back, Some(1))?
+        )?
+    );
+    // A memory in an event control; all its words, where it is read.
+    assert!(rt; !stands_waiting(alloc, digits(MEM, 4))?);
+    assert!(rt; stands_waiting(alloc, Term::Reads(ObjId::new(MEM)))?);
+    assert!(rt; stands_waiting(alloc, Term::Event(ObjId::new(EVENT)))?);
+    assert!(rt; !stands_waiting(alloc, Term::Event(ObjId::new(Q)))?);
+    assert!(rt; !stands_waiting(alloc, digits(Q, 0))?);
+    // The scope, the time unit and the values of a display call; the scope of a statement.
+    assert!(rt; !stands_showing(alloc, Q, 9, ONE)?);
+    assert!(rt; !stands_showing(alloc, TOP, 8, ONE)?);
+    assert!(rt; !stands_showing(alloc, TOP, 9, EXPRS)?);
+    assert!(rt; stands_in(alloc, BLOCK)?);
+    assert!(rt; !stands_in(alloc, EVENT)?);
     Ok(())
 }
 

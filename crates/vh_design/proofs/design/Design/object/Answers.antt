@@ -1,22 +1,23 @@
 use Rattle.std.proofs.Common.{◌≡◌, true, length}
-use Rattle.vh_design.specs.Shape.{Shape, shape}
-use Rattle.vh_design.specs.Validity.{fits_object}
+use Rattle.vh_design.specs.Shape.{Shape}
+use Rattle.vh_design.specs.Handed.{shape_of}
+use Rattle.vh_nodes.specs.Fits.{fits_object}
 use Rattle.vh_design.proofs.ValidityLemmas.{AllFit-at, object_scope, object_least, object_most, object_detail}
 use Rattle.vh_design.proofs.design.Design.object.Goals as goal
 
--- The design by its fields.
+-- The design by its parts.
 abbrev seen : goal.After-index → Shape
-seen c = let d = c.self.inside in shape d.objects.items d.exprs.items d.drivers.items d.precision
+seen c = shape_of c.self.inside.parts
 
 -- The object keeps its rule.
 fits : (c : goal.After-index)
-    → fits_object (length c.self.inside.exprs.items) c.self.inside.objects.items c.args.o c.index.result.now ≡ true
+    → fits_object (length c.self.inside.parts.exprs.items) (length c.self.inside.parts.bodies.items) c.self.inside.parts.objects.items c.args.o c.index.result.now ≡ true
 fits c =
-    let d = c.self.inside in
+    let d = c.self.inside.parts in
     let inside = rw (← c.self.view_is) at c.requires in
     let is = rw c.number.ensures at c.index.ensures in
-    AllFit-at (fits_object (length d.exprs.items) d.objects.items) d.objects.items c.args.o c.index.result.now
-    c.self.invariant.valid.objects inside is
+    AllFit-at (fits_object (length d.exprs.items) (length d.bodies.items) d.objects.items) d.objects.items c.args.o c.index.result.now
+    c.self.invariant.valid.nodes.objects inside is
 
 pub returns-clause-scope : goal.returns-clause-scope
 returns-clause-scope c = object_scope (seen c) c.args.o c.index.result.now (fits c)

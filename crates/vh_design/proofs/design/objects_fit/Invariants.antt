@@ -1,6 +1,0 @@
-use Rattle.vh_design.specs.Validity.{fits_object}
-use Rattle.vh_design.proofs.ValidityLemmas.{FitBelow}
-use Rattle.vh_design.proofs.design.objects_fit.Given as goal
-
-abbrev pub invariant-loop-o : goal.invariant-loop-o
-invariant-loop-o l = FitBelow (fits_object l.exprs l.objects) l.objects l.o

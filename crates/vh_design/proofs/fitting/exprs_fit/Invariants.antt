@@ -1,0 +1,6 @@
+use Rattle.vh_nodes.specs.Fits.{fits_node}
+use Rattle.vh_design.proofs.ValidityLemmas.{FitBelow}
+use Rattle.vh_design.proofs.fitting.exprs_fit.Given as goal
+
+abbrev pub invariant-loop-e : goal.invariant-loop-e
+invariant-loop-e l = FitBelow (fits_node l.exprs l.objects l.precision) l.exprs l.e
