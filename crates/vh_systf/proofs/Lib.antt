@@ -1,0 +1,2 @@
+-- The table as the rows hold it
+pub mod TableLemmas
