@@ -1,0 +1,155 @@
+ghost use Rattle.std.specs.Prelude.{◌≡◌, ◌≤◌, ◌<◌, ◌+◌, ◌^◌, ◌<ℤ◌, neg_ℤ, pos, false, IfSome};
+ghost use Rattle.vh_logic.specs.Vector.{width_of, filled};
+ghost use Rattle.vh_logic.specs.declared.digits.Digit.TheVariants.{X};
+ghost use Rattle.vh_logic.specs.Number.{integer_at, integer_of};
+ghost use Rattle.vh_logic.specs.declared.vector.TheConstants.{MAX_WIDTH};
+ghost use Rattle.vh_eval.specs.Selects.{digits_above, digits_below, digits_from, place_of, lowest_index, selected, address_of};
+
+use vh_design::Range;
+use vh_logic::{Digit, Plane, Vec4, concat, mask, select};
+
+// The integer that a number of so many digits stands for.
+fn integer_at(number: Plane, width: u32, signed: bool) -> i128
+    requires bound { number < 2 ^ width }
+    requires least { 1 ≤ width }
+    requires most { width ≤ MAX_WIDTH }
+    ensures value { result ≡ integer_at width signed number }
+    ensures below { result <ℤ pos (2 ^ 64) }
+    ensures above { neg_ℤ (pos (2 ^ 64)) <ℤ result }
+{
+    let size = number as i128;
+    let all = mask(width) as i128 + 1;
+    if signed && 2 * size >= all {
+        return size - all;
+    }
+    size
+}
+
+// The integer of an index, by its sign.
+fn index_of(v: &Vec4) -> Option<i128>
+    ensures value { result ≡ integer_of v.now }
+    ensures below { IfSome result (λ z. z <ℤ pos (2 ^ 64)) }
+    ensures above { IfSome result (λ z. neg_ℤ (pos (2 ^ 64)) <ℤ z) }
+{
+    let number = v.number()?;
+    Some(integer_at(number, v.width(), v.is_signed()))
+}
+
+// The address that an index names.
+pub(crate) fn address_of(index: &Vec4) -> Option<u32>
+    ensures { result ≡ address_of (integer_of index.now) }
+{
+    u32::try_from(index_of(index)?).ok()
+}
+
+// The place of an index.
+fn place_of(range: Range, index: i128) -> i128
+    requires below { index <ℤ pos (2 ^ 65) }
+    requires above { neg_ℤ (pos (2 ^ 65)) <ℤ index }
+    ensures value { result ≡ place_of range index }
+{
+    let right = i128::from(range.right);
+    if range.left >= range.right {
+        index - right
+    } else {
+        right - index
+    }
+}
+
+// The index of the lowest digit of so many.
+fn lowest_index(range: Range, up: bool, index: i128, width: u32) -> i128
+    requires least { 1 ≤ width }
+    requires below { index <ℤ pos (2 ^ 64) }
+    requires above { neg_ℤ (pos (2 ^ 64)) <ℤ index }
+    ensures value { result ≡ lowest_index range up index width }
+    ensures below { result <ℤ pos (2 ^ 65) }
+    ensures above { neg_ℤ (pos (2 ^ 65)) <ℤ result }
+{
+    let further = i128::from(width - 1);
+    match (range.left >= range.right, up) {
+        (true, true) | (false, false) => index,
+        (true, false) => index - further,
+        (false, true) => index + further,
+    }
+}
+
+// x at so many places.
+fn unknown(width: u32) -> Vec4
+    requires least { 1 ≤ width }
+    requires most { width ≤ MAX_WIDTH }
+    ensures value { result ≡ filled width X false }
+    ensures width { width_of result ≡ width }
+{
+    Vec4::filled(width, Digit::X, false)
+}
+
+// So many digits from a place on.
+fn digits_above(v: &Vec4, place: u128, width: u32) -> Vec4
+    requires least { 1 ≤ width }
+    requires most { width ≤ MAX_WIDTH }
+    ensures value { result ≡ record { digits = digits_above (v.now).digits place width; signed = false } }
+    ensures width { width_of result ≡ width }
+{
+    if place >= u128::from(v.width()) {
+        return unknown(width);
+    }
+    let place = place as u32;
+    let there = v.width() - place;
+    if width <= there {
+        return select(v, place, width);
+    }
+    concat(&unknown(width - there), &select(v, place, there))
+}
+
+// So many digits from so many places below the lowest on.
+fn digits_below(v: &Vec4, distance: u128, width: u32) -> Vec4
+    requires some { 1 ≤ distance }
+    requires least { 1 ≤ width }
+    requires most { width ≤ MAX_WIDTH }
+    ensures value { result ≡ record { digits = digits_below (v.now).digits distance width; signed = false } }
+    ensures width { width_of result ≡ width }
+{
+    if distance >= u128::from(width) {
+        return unknown(width);
+    }
+    let distance = distance as u32;
+    concat(&digits_above(v, 0, width - distance), &unknown(distance))
+}
+
+// So many digits from a place on, of which 0 is the lowest.
+fn digits_from(v: &Vec4, place: i128, width: u32) -> Vec4
+    requires least { 1 ≤ width }
+    requires most { width ≤ MAX_WIDTH }
+    ensures value { result ≡ record { digits = digits_from (v.now).digits place width; signed = false } }
+    ensures width { width_of result ≡ width }
+{
+    let distance = place.unsigned_abs();
+    if place < 0 {
+        return digits_below(v, distance, width);
+    }
+    digits_above(v, distance, width)
+}
+
+// The digits that an index selects.
+pub(crate) fn selected(v: &Vec4, range: Range, up: bool, index: &Vec4, width: u32) -> Vec4
+    requires least { 1 ≤ width }
+    requires most { width ≤ MAX_WIDTH }
+    ensures value { result ≡ selected (v.now).digits range up (integer_of index.now) width }
+    ensures width { width_of result ≡ width }
+{
+    let Some(index) = index_of(index) else {
+        return unknown(width);
+    };
+    let lowest = lowest_index(range, up, index, width);
+    digits_from(v, place_of(range, lowest), width)
+}
+
+// The digits from a constant index on.
+pub(crate) fn sliced(v: &Vec4, range: Range, lowest: u32, width: u32) -> Vec4
+    requires least { 1 ≤ width }
+    requires most { width ≤ MAX_WIDTH }
+    ensures value { result ≡ record { digits = digits_from (v.now).digits (place_of range (pos lowest)) width; signed = false } }
+    ensures width { width_of result ≡ width }
+{
+    digits_from(v, place_of(range, i128::from(lowest)), width)
+}
