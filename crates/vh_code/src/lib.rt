@@ -31,7 +31,7 @@ pub use operation::{
 };
 pub use show::{ShowArg, ShowArgs, ShowCall, ShowTask};
 pub use statement::{StmtInfo, StmtKind};
-pub use target::{Delay, Input, Inputs, Output, Outputs, Target, Targets};
+pub use target::{Delay, Input, Inputs, Output, Outputs, Targets};
 pub use wait::{Edge, Term, Terms, WaitInfo};
 
 #[cfg(test)]

@@ -1,41 +1,9 @@
 use vh_base::{ExprId, ObjId, Sequence};
-use vh_nodes::{Chosen, Range};
+use vh_nodes::Selected;
 
-/// What an assignment changes of one object. Indexes are read when the object is changed.
-#[derive(Clone, Copy)]
-pub enum Target {
-    /// A whole variable.
-    Whole(ObjId),
-    /// A word of a memory.
-    Word {
-        memory: ObjId,
-        index: ExprId,
-    },
-    /// One digit, by an index.
-    Bit {
-        of: Chosen,
-        range: Range,
-        index: ExprId,
-    },
-    /// So many digits from the one of this index up.
-    Slice {
-        of: Chosen,
-        range: Range,
-        lowest: u32,
-        width: u32,
-    },
-    /// So many digits from an index on, upwards (`+:`) or downwards (`-:`) by index.
-    Indexed {
-        up: bool,
-        of: Chosen,
-        range: Range,
-        base: ExprId,
-        width: u32,
-    },
-}
-
-/// The parts of an assignment's left side, the highest first, which contracts see as a list.
-pub type Targets = Sequence<Target>;
+/// What an assignment changes, the highest part first, which contracts see as a list. Indexes are read
+/// when an object is changed.
+pub type Targets = Sequence<Selected>;
 
 /// A delay, in units of a module, from 0 for 1 fs to 17 for 100 s.
 #[derive(Clone, Copy)]

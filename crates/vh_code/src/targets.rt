@@ -1,34 +1,21 @@
 ghost use Rattle.std.specs.Prelude.{◌≡◌, nat_lt, length};
 ghost use Rattle.std.specs.List.{list_all};
-ghost use Rattle.vh_code.specs.Targets.{target_width, targets_width, drivers_width, fits_selected, fits_target, fits_targets, fits_drivers, fits_delay, fits_input, fits_output};
+ghost use Rattle.vh_code.specs.Targets.{targets_width, drivers_width, fits_target, fits_targets, fits_drivers, fits_delay, fits_input, fits_output};
 
-use crate::target::{Delay, Input, Output, Target};
+use crate::target::{Delay, Input, Output};
 use vh_base::DriverId;
 use vh_nodes::{
-    Chosen, DriverInfo, ObjectInfo, driver_width, is_before, is_memory_at, is_unit, is_variable_at,
-    is_width, object_width, side_by_side,
+    Access, DriverInfo, ObjectInfo, Selected, driver_width, fits_selected, is_before, is_unit,
+    is_variable_at, is_width, selected_width, side_by_side,
 };
 
-// How many digits a target has.
-fn target_width(objects: &[ObjectInfo], target: Target) -> u32
-    ensures { result ≡ target_width objects.now target }
-{
-    match target {
-        Target::Whole(object) => object_width(objects, object),
-        Target::Word { memory, .. } => object_width(objects, memory),
-        Target::Bit { .. } => 1,
-        Target::Slice { width, .. } => width,
-        Target::Indexed { width, .. } => width,
-    }
-}
-
 // How many some targets have, one above the greatest width where it is more.
-fn targets_width(objects: &[ObjectInfo], targets: &[Target]) -> u32
+fn targets_width(objects: &[ObjectInfo], targets: &[Selected]) -> u32
     ensures { result ≡ targets_width objects.now targets.now }
 {
     targets.iter().fold(
         0,
-        |sum, target| side_by_side(sum, target_width(objects, *target)),
+        |sum, target| side_by_side(sum, selected_width(objects, target)),
     )
 }
 
@@ -41,47 +28,25 @@ fn drivers_width(drivers: &[DriverInfo], chosen: &[DriverId]) -> u32
         .fold(0, |sum, x| side_by_side(sum, driver_width(drivers, *x)))
 }
 
-// Whether a target may select from this.
-fn fits_selected(objects: &[ObjectInfo], exprs: usize, chosen: Chosen) -> bool
-    ensures { result ≡ fits_selected objects.now exprs chosen }
-{
-    match chosen.word {
-        None => is_variable_at(objects, chosen.object),
-        Some(at) => is_memory_at(objects, chosen.object) && is_before(exprs, at),
-    }
-}
-
 // Whether a target may stand beside so many expressions.
-fn fits_target(objects: &[ObjectInfo], exprs: usize, target: Target) -> bool
-    ensures { result ≡ fits_target objects.now exprs target }
+fn fits_target(objects: &[ObjectInfo], exprs: usize, target: &Selected) -> bool
+    ensures { result ≡ fits_target objects.now exprs target.now }
 {
-    match target {
-        Target::Whole(object) => is_variable_at(objects, object),
-        Target::Word { memory, index } => is_memory_at(objects, memory) && is_before(exprs, index),
-        Target::Bit { of, index, .. } => {
-            fits_selected(objects, exprs, of) && is_before(exprs, index)
-        }
-        Target::Slice { of, width, .. } => fits_selected(objects, exprs, of) && is_width(width),
-        Target::Indexed {
-            of,
-            base,
-            width,
-            ..
-        } => fits_selected(objects, exprs, of) && is_before(exprs, base) && is_width(width),
-    }
+    fits_selected(objects, exprs, Access::Assigned, target)
+        && is_width(selected_width(objects, target))
 }
 
 // Whether all these targets may.
-fn all_targets_fit(objects: &[ObjectInfo], exprs: usize, targets: &[Target]) -> bool
+fn all_targets_fit(objects: &[ObjectInfo], exprs: usize, targets: &[Selected]) -> bool
     ensures { result ≡ list_all (fits_target objects.now exprs) targets.now }
 {
     targets
         .iter()
-        .all(|target| fits_target(objects, exprs, *target))
+        .all(|target| fits_target(objects, exprs, target))
 }
 
 /// Whether these may be the left side of an assignment.
-pub(crate) fn fits_targets(objects: &[ObjectInfo], exprs: usize, targets: &[Target]) -> bool
+pub(crate) fn fits_targets(objects: &[ObjectInfo], exprs: usize, targets: &[Selected]) -> bool
     ensures { result ≡ fits_targets objects.now exprs targets.now }
 {
     all_targets_fit(objects, exprs, targets) && is_width(targets_width(objects, targets))

@@ -1,4 +1,4 @@
-use crate::{Block, Instruction, Operation, ShowCall, StmtInfo, Target, Term};
+use crate::{Block, Instruction, Operation, ShowCall, StmtInfo, Term};
 use std::mem::size_of;
 
 // 4 million statements are to fit.
@@ -6,7 +6,6 @@ use std::mem::size_of;
 fn instructions_are_small(rt: HostRuntime) {
     assert_eq!(rt; size_of::<Operation>(), 32);
     assert_eq!(rt; size_of::<Instruction>(), 64);
-    assert_eq!(rt; size_of::<Target>(), 32);
     assert_eq!(rt; size_of::<Block>(), 20);
     assert_eq!(rt; size_of::<Term>(), 20);
     assert_eq!(rt; size_of::<ShowCall>(), 40);

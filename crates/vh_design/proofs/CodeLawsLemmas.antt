@@ -6,13 +6,15 @@ use Rattle.std.specs.Option.{option_map}
 use Rattle.std.proofs.lemmas.Bool.{eqb-true, leb-true, ltb-true}
 use Rattle.std.proofs.lemmas.List.Sums.{AllPass-from_list_all}
 use Rattle.vh_nodes.specs.declared.driver.DriverInfo.{DriverInfo}
+use Rattle.vh_nodes.specs.declared.expr.Access.TheVariants as access
 use Rattle.vh_nodes.specs.declared.expr.ExprNode.{ExprNode}
+use Rattle.vh_nodes.specs.declared.expr.Selected.{Selected}
 use Rattle.vh_nodes.specs.declared.fits.TheConstants.{MOST_UNIT}
 use Rattle.vh_nodes.specs.declared.object.Kind.{Kind}
 use Rattle.vh_nodes.specs.declared.object.ObjectInfo.{ObjectInfo}
-use Rattle.vh_nodes.specs.Fits.{has_kind, has_body, is_width, is_unit, same_sign, before}
+use Rattle.vh_nodes.specs.Fits.{has_kind, has_body, is_width, is_unit, same_sign, before, fits_selected}
 use Rattle.vh_nodes.specs.Kinds.{is_vector, is_variable, is_memory, is_forcible, is_event, is_disable_target, is_routine, is_system_task, is_system_function, is_scope}
-use Rattle.vh_nodes.specs.Widths.{width_of, signed_of, widest, all_signed}
+use Rattle.vh_nodes.specs.Widths.{width_of, signed_of, widest, all_signed, selected_width}
 use Rattle.vh_nodes.proofs.FitsLemmas.{and_left, and_right, only, of_kind, same, width_least, width_most}
 use Rattle.vh_code.specs.declared.code.Code.{Code}
 use Rattle.vh_code.specs.declared.code.Goes.{Goes}
@@ -34,18 +36,16 @@ use Rattle.vh_code.specs.declared.operation.Single.TheVariants as single
 use Rattle.vh_code.specs.declared.target.Delay.{Delay}
 use Rattle.vh_code.specs.declared.target.Input.{Input}
 use Rattle.vh_code.specs.declared.target.Output.{Output}
-use Rattle.vh_code.specs.declared.target.Target.{Target}
-use Rattle.vh_code.specs.declared.target.Target.TheVariants as target
 use Rattle.vh_code.specs.declared.wait.Term.{Term}
 use Rattle.vh_code.specs.declared.wait.Term.TheVariants as term
 use Rattle.vh_code.specs.Codes.{fits_instruction, fits_blocks, fits_term, fits_arg}
 use Rattle.vh_code.specs.Operations.{fits_goes, fits_delayed, fits_pause, labels, fits_arm, fits_case, fits_loop, fits_result, fits_leave, fits_single, fits_operation}
-use Rattle.vh_code.specs.Targets.{targets_width, fits_place, fits_target, fits_targets, fits_drivers, fits_delay, fits_input, fits_output}
-use Rattle.vh_design.specs.CodeLaws.{loop_goes, goes_of, IsPlace, change_chosen, change_of, single_changes, result_reads, changes_of, delay_units, pause_units, units_of, target_exprs, delay_exprs, pause_exprs, loop_exprs, single_exprs, result_exprs, exprs_of, term_read, IsUnit, CodesMayStand, BodiesMayStand, PlacesAreThere, ExpressionsAreThere, ChangesFit, DelaysFit, CasesAreMeasured, WaitsFit, ShowsFit, StatementsFit}
-use Rattle.vh_design.specs.Laws.{with_address, read}
+use Rattle.vh_code.specs.Targets.{targets_width, fits_target, fits_targets, fits_drivers, fits_delay, fits_input, fits_output}
+use Rattle.vh_design.specs.CodeLaws.{loop_goes, goes_of, IsPlace, change_of, single_changes, result_reads, changes_of, delay_units, pause_units, units_of, delay_exprs, pause_exprs, loop_exprs, single_exprs, result_exprs, exprs_of, term_read, IsUnit, CodesMayStand, BodiesMayStand, PlacesAreThere, ExpressionsAreThere, ChangesFit, DelaysFit, CasesAreMeasured, WaitsFit, ShowsFit, StatementsFit}
+use Rattle.vh_design.specs.Laws.{selected_exprs, read}
 use Rattle.vh_design.specs.Shape.{Shape}
 use Rattle.vh_design.specs.Validity.{CodeFits, limits_of}
-use Rattle.vh_design.proofs.LawsLemmas.{passes}
+use Rattle.vh_design.proofs.LawsLemmas.{passes, selected_passes, selected_before}
 use Rattle.vh_design.proofs.ValidityLemmas.{stmt_scope}
 
 -- What each of some things passes, each of what they are turned into passes.
@@ -193,25 +193,12 @@ places_are_there d c k i fits at =
     λ n g inside. is_place places (slice_index_or (i.next ∷ goes_of i.operation) n g) (all n g inside)
 
 -- The objects that an operation which passes changes or names.
-selected_pass : (os : List ObjectInfo) (exprs o : ℕ) (word : Option ℕ)
-    → fits_place os exprs o word ≡ true → passes os (change_chosen o word) ≡ true
-selected_pass os exprs o None h = h
-selected_pass os exprs o (Some at) h = and_left (has_kind is_memory os o) (nat_lt at exprs) h
+target_pass : (os : List ObjectInfo) (exprs : ℕ) (t : Selected) → fits_target os exprs t ≡ true → passes os (change_of t) ≡ true
+target_pass os exprs t h =
+    selected_passes os exprs access.Assigned t
+    (and_left (fits_selected os exprs access.Assigned t) (is_width (selected_width os t)) h)
 
-target_pass : (os : List ObjectInfo) (exprs : ℕ) (t : Target) → fits_target os exprs t ≡ true → passes os (change_of t) ≡ true
-target_pass os exprs (target.Whole o) h = h
-target_pass os exprs (target.Word m index) h = and_left (has_kind is_memory os m) (nat_lt index exprs) h
-target_pass os exprs (target.Bit chosen range index) h =
-    selected_pass os exprs chosen.object chosen.word
-    (and_left (fits_place os exprs chosen.object chosen.word) (nat_lt index exprs) h)
-target_pass os exprs (target.Slice chosen range lowest width) h =
-    selected_pass os exprs chosen.object chosen.word
-    (and_left (fits_place os exprs chosen.object chosen.word) (is_width width) h)
-target_pass os exprs (target.Indexed up chosen range base width) h =
-    selected_pass os exprs chosen.object chosen.word
-    (first_of (fits_place os exprs chosen.object chosen.word) (nat_lt base exprs) (is_width width) h)
-
-targets_pass : (os : List ObjectInfo) (exprs : ℕ) (ts : List Target)
+targets_pass : (os : List ObjectInfo) (exprs : ℕ) (ts : List Selected)
     → fits_targets os exprs ts ≡ true → list_all (passes os) (map change_of ts) ≡ true
 targets_pass os exprs ts h =
     all_mapped (fits_target os exprs) (passes os) change_of (target_pass os exprs) ts
@@ -302,32 +289,16 @@ changes_fit d c k i fits at =
     of_kind d.objects it.test it.object (all n r inside)
 
 -- The expressions of an operation that passes.
-address_there : (os : List ObjectInfo) (exprs o : ℕ) (word : Option ℕ) (parts : List ℕ) → fits_place os exprs o word ≡ true
-    → list_all (λ e. nat_lt e exprs) parts ≡ true → list_all (λ e. nat_lt e exprs) (with_address word parts) ≡ true
-address_there os exprs o None parts h rest = rest
-address_there os exprs o (Some at) parts h rest = both_true (and_right (has_kind is_memory os o) (nat_lt at exprs) h) rest
+target_there : (os : List ObjectInfo) (exprs : ℕ) (t : Selected)
+    → fits_target os exprs t ≡ true → list_all (λ e. nat_lt e exprs) (selected_exprs t) ≡ true
+target_there os exprs t h =
+    selected_before os exprs access.Assigned t
+    (and_left (fits_selected os exprs access.Assigned t) (is_width (selected_width os t)) h)
 
-target_there : (os : List ObjectInfo) (exprs : ℕ) (t : Target)
-    → fits_target os exprs t ≡ true → list_all (λ e. nat_lt e exprs) (target_exprs t) ≡ true
-target_there os exprs (target.Whole o) h = refl
-target_there os exprs (target.Word m index) h =
-    only (nat_lt index exprs) (and_right (has_kind is_memory os m) (nat_lt index exprs) h)
-target_there os exprs (target.Bit chosen range index) h =
-    let place = fits_place os exprs chosen.object chosen.word in
-    address_there os exprs chosen.object chosen.word (index ∷ []) (and_left place (nat_lt index exprs) h)
-    (only (nat_lt index exprs) (and_right place (nat_lt index exprs) h))
-target_there os exprs (target.Slice chosen range lowest width) h =
-    address_there os exprs chosen.object chosen.word []
-    (and_left (fits_place os exprs chosen.object chosen.word) (is_width width) h) refl
-target_there os exprs (target.Indexed up chosen range base width) h =
-    let place = fits_place os exprs chosen.object chosen.word in
-    address_there os exprs chosen.object chosen.word (base ∷ []) (first_of place (nat_lt base exprs) (is_width width) h)
-    (only (nat_lt base exprs) (second_of place (nat_lt base exprs) (is_width width) h))
-
-targets_there : (os : List ObjectInfo) (exprs : ℕ) (ts : List Target)
-    → fits_targets os exprs ts ≡ true → list_all (λ e. nat_lt e exprs) (flat_map target_exprs ts) ≡ true
+targets_there : (os : List ObjectInfo) (exprs : ℕ) (ts : List Selected)
+    → fits_targets os exprs ts ≡ true → list_all (λ e. nat_lt e exprs) (flat_map selected_exprs ts) ≡ true
 targets_there os exprs ts h =
-    all_flat (fits_target os exprs) (λ e. nat_lt e exprs) target_exprs (target_there os exprs) ts
+    all_flat (fits_target os exprs) (λ e. nat_lt e exprs) selected_exprs (target_there os exprs) ts
     (and_left (list_all (fits_target os exprs) ts) (is_width (targets_width os ts)) h)
 
 delayed_there : (exprs precision : ℕ) (o : Option Delay)
@@ -376,9 +347,9 @@ leave_there : (os : List ObjectInfo) (exprs : ℕ) (e : Leave)
 leave_there os exprs e h =
     let outputs = list_all (fits_output os exprs) e.outputs in
     let result = fits_result os exprs e.result in
-    all_joined (λ x. nat_lt x exprs) (flat_map (λ (o : Output). flat_map target_exprs o.targets) e.outputs)
+    all_joined (λ x. nat_lt x exprs) (flat_map (λ (o : Output). flat_map selected_exprs o.targets) e.outputs)
     (result_exprs e.result)
-    (all_flat (fits_output os exprs) (λ x. nat_lt x exprs) (λ (o : Output). flat_map target_exprs o.targets)
+    (all_flat (fits_output os exprs) (λ x. nat_lt x exprs) (λ (o : Output). flat_map selected_exprs o.targets)
     (λ o passed.
     targets_there os exprs o.targets (and_right (has_kind is_variable os o.variable) (fits_targets os exprs o.targets) passed))
     e.outputs (and_left outputs result h))
@@ -402,7 +373,7 @@ exprs_there os ns ds l places (op.Schedule s) h =
     let aimed = fits_targets os (length ns) s.targets in
     let delayed = fits_delayed (length ns) l.precision s.delay in
     both_true (first_of there aimed delayed h)
-    (all_joined (λ e. nat_lt e (length ns)) (flat_map target_exprs s.targets) (delay_exprs s.delay)
+    (all_joined (λ e. nat_lt e (length ns)) (flat_map selected_exprs s.targets) (delay_exprs s.delay)
     (targets_there os (length ns) s.targets (second_of there aimed delayed h))
     (delayed_there (length ns) l.precision s.delay (and_right (there && aimed) delayed h)))
 exprs_there os ns ds l places (op.Pause p) h = pause_there (length ns) l p h

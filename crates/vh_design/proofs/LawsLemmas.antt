@@ -4,36 +4,45 @@ use Rattle.std.specs.Cmp.Derive.{both_true}
 use Rattle.std.specs.List.{list_all}
 use Rattle.std.proofs.lemmas.Bool.{leb-true, ltb-true}
 use Rattle.std.proofs.lemmas.List.Sums.{AllPass-from_list_all}
+use Rattle.vh_nodes.specs.declared.expr.Access.{Access}
+use Rattle.vh_nodes.specs.declared.expr.Access.TheVariants as access
 use Rattle.vh_nodes.specs.declared.expr.ExprKind.{ExprKind}
 use Rattle.vh_nodes.specs.declared.expr.ExprKind.TheVariants as kind
+use Rattle.vh_nodes.specs.declared.expr.Select.{Select}
+use Rattle.vh_nodes.specs.declared.expr.Select.TheVariants as select
+use Rattle.vh_nodes.specs.declared.expr.Selected.{Selected}
 use Rattle.vh_nodes.specs.declared.fits.TheConstants.{MOST_UNIT}
 use Rattle.vh_nodes.specs.declared.object.ObjectInfo.{ObjectInfo}
-use Rattle.vh_nodes.specs.Kinds.{is_vector, is_variable, is_memory, is_function, is_system_function}
-use Rattle.vh_design.specs.Laws.{with_address, parts_of, Read, read_chosen, reads_of, PartsComeBefore, ReadsFit, NodesAreMeasured, UnitsFit, ScopesComeBefore, DriversAreOfNets, PrecisionFits}
+use Rattle.vh_nodes.specs.Kinds.{is_variable, is_memory, is_function, is_system_function}
+use Rattle.vh_design.specs.Laws.{with_address, select_exprs, selected_exprs, parts_of, Read, read_word, read_selected, reads_of, PartsComeBefore, ReadsFit, NodesAreMeasured, UnitsFit, ScopesComeBefore, DriversAreOfNets, PrecisionFits}
 use Rattle.vh_nodes.proofs.FitsLemmas.{and_left, and_right, only, of_kind}
 use Rattle.vh_design.proofs.ValidityLemmas.{node_kind, node_measured, object_scope, driver_net}
-use Rattle.vh_nodes.specs.Fits.{has_kind, is_unit, all_before, fits_word, fits_chosen, fits_kind}
+use Rattle.vh_nodes.specs.Fits.{has_kind, is_unit, all_before, fits_word, fits_select, fits_selected, fits_kind}
+
+-- The expressions by which something is read or assigned to come before.
+address_before : (os : List ObjectInfo) (e : ℕ) (access : Access) (o : ℕ) (word : Option ℕ) (parts : List ℕ)
+    → fits_word os e access o word ≡ true → all_before e parts ≡ true → all_before e (with_address word parts) ≡ true
+address_before os e access o None parts h rest = rest
+address_before os e access o (Some at) parts h rest = both_true (and_right (has_kind is_memory os o) (nat_lt at e) h) rest
+
+index_before : (e : ℕ) (s : Select) → fits_select e s ≡ true → all_before e (select_exprs s) ≡ true
+index_before e select.Whole h = refl
+index_before e (select.Bit range index) h = only (nat_lt index e) h
+index_before e (select.Slice range lowest width) h = refl
+index_before e (select.Indexed up range base width) h = only (nat_lt base e) h
+
+pub selected_before : (os : List ObjectInfo) (e : ℕ) (access : Access) (s : Selected)
+    → fits_selected os e access s ≡ true → all_before e (selected_exprs s) ≡ true
+selected_before os e access s h =
+    let word = fits_word os e access s.of.object s.of.word in
+    address_before os e access s.of.object s.of.word (select_exprs s.select) (and_left word (fits_select e s.select) h)
+    (index_before e s.select (and_right word (fits_select e s.select) h))
 
 -- The expressions that an expression is made of come before it.
-address_before : (os : List ObjectInfo) (e o : ℕ) (word : Option ℕ) (parts : List ℕ)
-    → fits_word os e o word ≡ true → all_before e parts ≡ true → all_before e (with_address word parts) ≡ true
-address_before os e o None parts h rest = rest
-address_before os e o (Some at) parts h rest = both_true (and_right (has_kind is_memory os o) (nat_lt at e) h) rest
-
 parts_before : (os : List ObjectInfo) (precision e : ℕ) (k : ExprKind)
     → fits_kind os precision e k ≡ true → all_before e (parts_of k) ≡ true
 parts_before os precision e (kind.Literal v) h = refl
-parts_before os precision e (kind.Whole o) h = refl
-parts_before os precision e (kind.Word m index) h =
-    only (nat_lt index e) (and_right (has_kind is_memory os m) (nat_lt index e) h)
-parts_before os precision e (kind.Bit chosen range index) h =
-    address_before os e chosen.object chosen.word (index ∷ []) (and_left (fits_chosen os e chosen) (nat_lt index e) h)
-    (only (nat_lt index e) (and_right (fits_chosen os e chosen) (nat_lt index e) h))
-parts_before os precision e (kind.Slice chosen range lowest width) h =
-    address_before os e chosen.object chosen.word [] h refl
-parts_before os precision e (kind.Indexed up chosen range base width) h =
-    address_before os e chosen.object chosen.word (base ∷ []) (and_left (fits_chosen os e chosen) (nat_lt base e) h)
-    (only (nat_lt base e) (and_right (fits_chosen os e chosen) (nat_lt base e) h))
+parts_before os precision e (kind.Selected s) h = selected_before os e access.Read s h
 parts_before os precision e (kind.Unary op part) h = only (nat_lt part e) h
 parts_before os precision e (kind.Arithmetic first rest) h = h
 parts_before os precision e (kind.Shift first rest) h = h
@@ -62,25 +71,22 @@ parts_come_before d e n valid at =
 abbrev pub passes : List ObjectInfo → Read → Bool
 passes os r = has_kind r.test os r.object
 
-chosen_passes : (os : List ObjectInfo) (e o : ℕ) (word : Option ℕ)
-    → fits_word os e o word ≡ true → passes os (read_chosen o word) ≡ true
-chosen_passes os e o None h = h
-chosen_passes os e o (Some at) h = and_left (has_kind is_memory os o) (nat_lt at e) h
+word_passes : (os : List ObjectInfo) (e : ℕ) (access : Access) (o : ℕ) (word : Option ℕ)
+    → fits_word os e access o word ≡ true → passes os (read_word access o word) ≡ true
+word_passes os e access o None h = h
+word_passes os e access o (Some at) h = and_left (has_kind is_memory os o) (nat_lt at e) h
+
+pub selected_passes : (os : List ObjectInfo) (e : ℕ) (access : Access) (s : Selected)
+    → fits_selected os e access s ≡ true → passes os (read_selected access s) ≡ true
+selected_passes os e access s h =
+    word_passes os e access s.of.object s.of.word
+    (and_left (fits_word os e access s.of.object s.of.word) (fits_select e s.select) h)
 
 reads_pass : (os : List ObjectInfo) (precision e : ℕ) (k : ExprKind)
     → fits_kind os precision e k ≡ true → list_all (passes os) (reads_of k) ≡ true
 reads_pass os precision e (kind.Literal v) h = refl
-reads_pass os precision e (kind.Whole o) h = only (has_kind is_vector os o) h
-reads_pass os precision e (kind.Word m index) h =
-    only (has_kind is_memory os m) (and_left (has_kind is_memory os m) (nat_lt index e) h)
-reads_pass os precision e (kind.Bit chosen range index) h =
-    only (passes os (read_chosen chosen.object chosen.word))
-    (chosen_passes os e chosen.object chosen.word (and_left (fits_chosen os e chosen) (nat_lt index e) h))
-reads_pass os precision e (kind.Slice chosen range lowest width) h =
-    only (passes os (read_chosen chosen.object chosen.word)) (chosen_passes os e chosen.object chosen.word h)
-reads_pass os precision e (kind.Indexed up chosen range base width) h =
-    only (passes os (read_chosen chosen.object chosen.word))
-    (chosen_passes os e chosen.object chosen.word (and_left (fits_chosen os e chosen) (nat_lt base e) h))
+reads_pass os precision e (kind.Selected s) h =
+    only (passes os (read_selected access.Read s)) (selected_passes os e access.Read s h)
 reads_pass os precision e (kind.Unary op part) h = refl
 reads_pass os precision e (kind.Arithmetic first rest) h = refl
 reads_pass os precision e (kind.Shift first rest) h = refl

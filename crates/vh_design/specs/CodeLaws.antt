@@ -1,6 +1,8 @@
 -- What the rules mean for the codes, waits, display calls and statements of a design, rule by rule. (own)
 use Rattle.std.specs.Prelude.{◌≡◌, ◌<◌, ◌≤◌, ℕ, List, [], ◌∷◌, ◌++◌, map, flat_map, All, Option, Some, None, ⊤, length, slice_get, ◌||◌, ◌&&◌}
 use Rattle.vh_logic.specs.declared.vector.TheConstants.{MAX_WIDTH}
+use Rattle.vh_nodes.specs.declared.expr.Access.TheVariants as access
+use Rattle.vh_nodes.specs.declared.expr.Selected.{Selected}
 use Rattle.vh_nodes.specs.declared.fits.TheConstants.{MOST_UNIT}
 use Rattle.vh_nodes.specs.Fits.{IsOfKind}
 use Rattle.vh_nodes.specs.Kinds.{is_vector, is_variable, is_memory, is_forcible, is_event, is_disable_target, is_routine, is_system_task, is_system_function, is_scope}
@@ -22,13 +24,11 @@ use Rattle.vh_code.specs.declared.operation.Single.TheVariants as single
 use Rattle.vh_code.specs.declared.show.ShowCall.{ShowCall}
 use Rattle.vh_code.specs.declared.statement.StmtInfo.{StmtInfo}
 use Rattle.vh_code.specs.declared.target.Delay.{Delay}
-use Rattle.vh_code.specs.declared.target.Target.{Target}
-use Rattle.vh_code.specs.declared.target.Target.TheVariants as target
 use Rattle.vh_code.specs.declared.wait.Term.{Term}
 use Rattle.vh_code.specs.declared.wait.Term.TheVariants as term
 use Rattle.vh_code.specs.declared.wait.WaitInfo.{WaitInfo}
 use Rattle.vh_code.specs.Operations.{labels}
-use Rattle.vh_design.specs.Laws.{with_address, Read, read}
+use Rattle.vh_design.specs.Laws.{selected_exprs, Read, read, read_selected}
 use Rattle.vh_design.specs.Shape.{Shape}
 use Rattle.vh_design.specs.Validity.{CodeFits, IsValid}
 
@@ -64,16 +64,8 @@ IsPlace places goes.Back = ⊤
 IsPlace places (goes.To place) = place < places
 
 -- The object that a target changes, and the test that its kind passes.
-abbrev pub change_chosen : ℕ → Option ℕ → Read
-change_chosen o None = read o is_variable
-change_chosen o (Some at) = read o is_memory
-
-abbrev pub change_of : Target → Read
-change_of (target.Whole o) = read o is_variable
-change_of (target.Word m index) = read m is_memory
-change_of (target.Bit chosen range index) = change_chosen chosen.object chosen.word
-change_of (target.Slice chosen range lowest width) = change_chosen chosen.object chosen.word
-change_of (target.Indexed up chosen range base width) = change_chosen chosen.object chosen.word
+abbrev pub change_of : Selected → Read
+change_of t = read_selected access.Assigned t
 
 -- The objects that a statement with one label changes or names.
 abbrev pub single_changes : Single → List Read
@@ -143,14 +135,7 @@ units_of (op.Single s) = []
 units_of (op.Drive d) = delay_units d.delay
 units_of (op.Initial o value) = []
 
--- The expressions of a target, a delay, a statement that waits, a loop, and a statement with one label.
-abbrev pub target_exprs : Target → List ℕ
-target_exprs (target.Whole o) = []
-target_exprs (target.Word m index) = index ∷ []
-target_exprs (target.Bit chosen range index) = with_address chosen.word (index ∷ [])
-target_exprs (target.Slice chosen range lowest width) = with_address chosen.word []
-target_exprs (target.Indexed up chosen range base width) = with_address chosen.word (base ∷ [])
-
+-- The expressions of a delay, a statement that waits, a loop, and a statement with one label.
 abbrev pub delay_exprs : Option Delay → List ℕ
 delay_exprs None = []
 delay_exprs (Some delay) = delay.amount ∷ []
@@ -182,10 +167,10 @@ result_exprs (Some r) = r.call ∷ []
 
 -- The expressions of an operation.
 abbrev pub exprs_of : Operation → List ℕ
-exprs_of (op.Assign value targets) = value ∷ flat_map target_exprs targets
+exprs_of (op.Assign value targets) = value ∷ flat_map selected_exprs targets
 exprs_of (op.Hold value width delay) = value ∷ delay.amount ∷ []
-exprs_of (op.Store targets) = flat_map target_exprs targets
-exprs_of (op.Schedule s) = s.value ∷ (flat_map target_exprs s.targets ++ delay_exprs s.delay)
+exprs_of (op.Store targets) = flat_map selected_exprs targets
+exprs_of (op.Schedule s) = s.value ∷ (flat_map selected_exprs s.targets ++ delay_exprs s.delay)
 exprs_of (op.Pause p) = pause_exprs p
 exprs_of (op.Test condition otherwise) = condition ∷ []
 exprs_of (op.Case c) = c.subject ∷ labels c.arms
@@ -193,7 +178,7 @@ exprs_of (op.Loop t) = loop_exprs t
 exprs_of (op.Fork branches) = []
 exprs_of op.End = []
 exprs_of (op.Enter routine inputs) = map (λ i. i.value) inputs
-exprs_of (op.Leave e) = flat_map (λ o. flat_map target_exprs o.targets) e.outputs ++ result_exprs e.result
+exprs_of (op.Leave e) = flat_map (λ o. flat_map selected_exprs o.targets) e.outputs ++ result_exprs e.result
 exprs_of (op.SysCall o) = []
 exprs_of (op.SysFunc o) = []
 exprs_of (op.Single s) = single_exprs s

@@ -1,15 +1,20 @@
 -- What the rules mean for the numbers of a design, rule by rule. (own)
 use Rattle.std.specs.Prelude.{◌≡◌, ◌<◌, ◌≤◌, ℕ, Bool, List, [], ◌∷◌, All, IfSome, Option, Some, None, slice_get}
 use Rattle.vh_nodes.specs.declared.driver.DriverInfo.{DriverInfo}
+use Rattle.vh_nodes.specs.declared.expr.Access.{Access}
+use Rattle.vh_nodes.specs.declared.expr.Access.TheVariants as access
 use Rattle.vh_nodes.specs.declared.expr.ExprKind.{ExprKind}
 use Rattle.vh_nodes.specs.declared.expr.ExprKind.TheVariants as kind
 use Rattle.vh_nodes.specs.declared.expr.ExprNode.{ExprNode}
+use Rattle.vh_nodes.specs.declared.expr.Select.{Select}
+use Rattle.vh_nodes.specs.declared.expr.Select.TheVariants as select
+use Rattle.vh_nodes.specs.declared.expr.Selected.{Selected}
 use Rattle.vh_nodes.specs.declared.fits.TheConstants.{MOST_UNIT}
 use Rattle.vh_nodes.specs.declared.object.Kind.{Kind}
 use Rattle.vh_nodes.specs.declared.object.ObjectInfo.{ObjectInfo}
-use Rattle.vh_nodes.specs.Kinds.{is_vector, is_variable, is_memory, is_function, is_system_function, is_net}
+use Rattle.vh_nodes.specs.Kinds.{is_variable, is_memory, is_function, is_system_function, is_net}
 use Rattle.vh_design.specs.Shape.{Shape}
-use Rattle.vh_nodes.specs.Fits.{IsOfKind}
+use Rattle.vh_nodes.specs.Fits.{IsOfKind, may_be}
 use Rattle.vh_design.specs.Validity.{IsMeasured, IsValid}
 use Rattle.vh_nodes.specs.Widths.{operands}
 
@@ -18,14 +23,20 @@ abbrev pub with_address : Option ℕ → List ℕ → List ℕ
 with_address None parts = parts
 with_address (Some at) parts = at ∷ parts
 
+-- The expressions by which something is read or assigned to.
+abbrev pub select_exprs : Select → List ℕ
+select_exprs select.Whole = []
+select_exprs (select.Bit range index) = index ∷ []
+select_exprs (select.Slice range lowest width) = []
+select_exprs (select.Indexed up range base width) = base ∷ []
+
+abbrev pub selected_exprs : Selected → List ℕ
+selected_exprs s = with_address s.of.word (select_exprs s.select)
+
 -- The expressions that an expression is made of.
 abbrev pub parts_of : ExprKind → List ℕ
 parts_of (kind.Literal v) = []
-parts_of (kind.Whole o) = []
-parts_of (kind.Word m index) = index ∷ []
-parts_of (kind.Bit chosen range index) = with_address chosen.word (index ∷ [])
-parts_of (kind.Slice chosen range lowest width) = with_address chosen.word []
-parts_of (kind.Indexed up chosen range base width) = with_address chosen.word (base ∷ [])
+parts_of (kind.Selected s) = selected_exprs s
 parts_of (kind.Unary op part) = part ∷ []
 parts_of (kind.Arithmetic first rest) = first ∷ operands rest
 parts_of (kind.Shift first rest) = first ∷ operands rest
@@ -39,7 +50,7 @@ parts_of (kind.Time unit) = []
 parts_of (kind.Call function result arguments) = arguments
 parts_of (kind.SysCall o) = []
 
--- An object that an expression reads, and the test that its kind passes.
+-- An object that is read or changed, and the test that its kind passes.
 pub record Read : Type 0 where
   pub object : ℕ
   pub test : Kind → Bool
@@ -47,18 +58,17 @@ pub record Read : Type 0 where
 abbrev pub read : ℕ → (Kind → Bool) → Read
 read o test = record { object = o; test = test }
 
-abbrev pub read_chosen : ℕ → Option ℕ → Read
-read_chosen o None = read o is_vector
-read_chosen o (Some at) = read o is_memory
+abbrev pub read_word : Access → ℕ → Option ℕ → Read
+read_word access o None = read o (may_be access)
+read_word access o (Some at) = read o is_memory
+
+abbrev pub read_selected : Access → Selected → Read
+read_selected access s = read_word access s.of.object s.of.word
 
 -- The objects that an expression reads by itself.
 abbrev pub reads_of : ExprKind → List Read
 reads_of (kind.Literal v) = []
-reads_of (kind.Whole o) = read o is_vector ∷ []
-reads_of (kind.Word m index) = read m is_memory ∷ []
-reads_of (kind.Bit chosen range index) = read_chosen chosen.object chosen.word ∷ []
-reads_of (kind.Slice chosen range lowest width) = read_chosen chosen.object chosen.word ∷ []
-reads_of (kind.Indexed up chosen range base width) = read_chosen chosen.object chosen.word ∷ []
+reads_of (kind.Selected s) = read_selected access.Read s ∷ []
 reads_of (kind.Unary op part) = []
 reads_of (kind.Arithmetic first rest) = []
 reads_of (kind.Shift first rest) = []

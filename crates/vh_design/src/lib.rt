@@ -28,11 +28,12 @@ pub use vh_code::{
     Arm, Arms, Block, Blocks, CaseKind, CaseTest, Change, Code, Delay, Drive, DriverIds, Edge,
     Goes, Input, Inputs, Instruction, Instructions, Layer, Leave, Loop, Made, Operation, Output,
     Outputs, Pause, Places, Returned, Schedule, ShowArg, ShowArgs, ShowCall, ShowTask, Single,
-    StmtInfo, StmtKind, Target, Targets, Term, Terms, WaitInfo,
+    StmtInfo, StmtKind, Targets, Term, Terms, WaitInfo,
 };
 pub use vh_nodes::{
-    Args, Arithmetic, Chosen, Comparison, Detail, DriverInfo, ExprIds, ExprKind, ExprNode, Kind,
-    Link, Links, Logic, MOST_UNIT, Name, NetType, ObjectInfo, Range, Shift, Unary, lowest_of,
+    Access, Args, Arithmetic, Chosen, Comparison, Detail, DriverInfo, ExprIds, ExprKind, ExprNode,
+    Kind, Link, Links, Logic, MOST_UNIT, Name, NetType, ObjectInfo, Range, Select, Selected, Shift,
+    Unary, lowest_of,
 };
 
 #[cfg(test)]

@@ -1,9 +1,9 @@
 use crate::{
     Arithmetic, Arm, Block, CaseKind, CaseTest, Chosen, Code, Comparison, Counts, Delay, Design,
     Detail, Drive, DriverInfo, Edge, ExprKind, ExprNode, Goes, Input, Instruction, Kind, Leave,
-    Link, Logic, Name, NetType, ObjectInfo, Operation, Parts, Pause, Range, Schedule, Shift,
-    ShowArg, ShowCall, ShowTask, Single, StmtInfo, StmtKind, Target, Term, Unary, WaitInfo,
-    design_laws,
+    Link, Logic, Name, NetType, ObjectInfo, Operation, Parts, Pause, Range, Schedule, Select,
+    Selected, Shift, ShowArg, ShowCall, ShowTask, Single, StmtInfo, StmtKind, Term, Unary,
+    WaitInfo, design_laws,
 };
 use std::alloc::Global;
 use std::mem::size_of;
@@ -84,7 +84,7 @@ fn counter(alloc: Global) -> Result<Parts, NoMemory> {
     objects.push(object(alloc, Kind::SysTaskCall, top, 1, call)?)?;
 
     let mut exprs = Vec::new(alloc);
-    exprs.push(node(ExprKind::Whole(ObjId::new(Q)), 8, false))?;
+    exprs.push(node(ExprKind::Selected(all_of(Q, None)), 8, false))?;
     exprs.push(node(number(32, true), 32, true))?;
     exprs.push(node(chain(alloc, READ_Q, ONE)?, 32, false))?;
 
@@ -107,7 +107,7 @@ fn counter(alloc: Global) -> Result<Parts, NoMemory> {
 
 // Its code, the body of its task, a wait, a display call and a statement.
 fn add_code(alloc: Global, parts: &mut Parts) -> Result<(), NoMemory> {
-    let assignment = assign(alloc, &[Target::Whole(ObjId::new(Q))], NEXT)?;
+    let assignment = assign(alloc, &[all_of(Q, None)], NEXT)?;
     parts.codes.push(code_of(alloc, assignment)?)?;
     parts.bodies.push(code_of(alloc, leave(alloc)?)?)?;
     parts.waits.push(wait_for(alloc, digits(Q, 8))?)?;
@@ -155,7 +155,7 @@ fn code_in(
     })
 }
 
-fn assign(alloc: Global, targets: &[Target], value: u32) -> Result<Operation, NoMemory> {
+fn assign(alloc: Global, targets: &[Selected], value: u32) -> Result<Operation, NoMemory> {
     Ok(Operation::Assign {
         value: ExprId::new(value),
         targets: Sequence::from_slice(alloc, targets)?,
@@ -172,7 +172,7 @@ fn leave(alloc: Global) -> Result<Operation, NoMemory> {
 
 fn schedule(alloc: Global, unit: u8) -> Result<Operation, NoMemory> {
     let update = Schedule {
-        targets: Sequence::from_slice(alloc, &[Target::Whole(ObjId::new(Q))])?,
+        targets: Sequence::from_slice(alloc, &[all_of(Q, None)])?,
         value: ExprId::new(NEXT),
         delay: Some(delay(ONE, unit)),
     };
@@ -449,44 +449,41 @@ fn stands_in(alloc: Global, scope: u32) -> Result<bool, NoMemory> {
 
 // The forms of expressions, of objects and expressions by number.
 fn bit(object: u32, word: Option<u32>, index: u32) -> ExprKind {
-    ExprKind::Bit {
-        of: chosen(object, word),
-        range: Range { left: 7, right: 0 },
-        index: ExprId::new(index),
-    }
+    let range = Range { left: 7, right: 0 };
+    let index = ExprId::new(index);
+    ExprKind::Selected(selected(object, word, Select::Bit { range, index }))
 }
 
 fn slice(object: u32, word: Option<u32>, width: u32) -> ExprKind {
-    ExprKind::Slice {
-        of: chosen(object, word),
+    let select = Select::Slice {
         range: Range { left: 7, right: 0 },
         lowest: 0,
         width,
-    }
+    };
+    ExprKind::Selected(selected(object, word, select))
 }
 
 fn indexed(object: u32, word: Option<u32>, base: u32, width: u32) -> ExprKind {
-    ExprKind::Indexed {
+    let select = Select::Indexed {
         up: true,
-        of: chosen(object, word),
         range: Range { left: 7, right: 0 },
         base: ExprId::new(base),
         width,
-    }
+    };
+    ExprKind::Selected(selected(object, word, select))
 }
 
-fn chosen(object: u32, word: Option<u32>) -> Chosen {
-    Chosen {
+fn selected(object: u32, word: Option<u32>, select: Select) -> Selected {
+    let of = Chosen {
         object: ObjId::new(object),
         word: word.map(|at| ExprId::new(at)),
-    }
+    };
+    Selected { of, select }
 }
 
-fn word_of(memory: u32, index: u32) -> ExprKind {
-    ExprKind::Word {
-        memory: ObjId::new(memory),
-        index: ExprId::new(index),
-    }
+// A whole object, or a word of a memory.
+fn all_of(object: u32, word: Option<u32>) -> Selected {
+    selected(object, word, Select::Whole)
 }
 
 fn unary(op: Unary, part: u32) -> ExprKind {
@@ -608,9 +605,9 @@ fn a_counter_is_what_it_was_built_of(rt: HostRuntime) -> Result<(), Fail> {
 fn selects_have_their_own_width(rt: HostRuntime) -> Result<(), Fail> {
     let alloc = rt.alloc();
     assert!(rt; stands(alloc, number(64, false), 64, false)?);
-    assert!(rt; stands(alloc, ExprKind::Whole(ObjId::new(STEP)), 8, true)?);
-    assert!(rt; stands(alloc, ExprKind::Whole(ObjId::new(W)), 8, false)?);
-    assert!(rt; stands(alloc, word_of(MEM, READ_Q), 4, true)?);
+    assert!(rt; stands(alloc, ExprKind::Selected(all_of(STEP, None)), 8, true)?);
+    assert!(rt; stands(alloc, ExprKind::Selected(all_of(W, None)), 8, false)?);
+    assert!(rt; stands(alloc, ExprKind::Selected(all_of(MEM, Some(READ_Q))), 4, true)?);
     assert!(rt; stands(alloc, bit(Q, None, ONE), 1, false)?);
     assert!(rt; stands(alloc, bit(MEM, Some(READ_Q), ONE), 1, false)?);
     assert!(rt; stands(alloc, slice(W, None, 3), 3, false)?);
@@ -650,9 +647,9 @@ fn an_expression_that_breaks_a_rule_is_refused(rt: HostRuntime) -> Result<(), Fa
     assert!(rt; !stands(alloc, chain(alloc, ONE, EXPRS)?, 32, false)?);
     assert!(rt; !stands(alloc, bit(MEM, Some(EXPRS), ONE), 1, false)?);
     // An object that isn't there, or of a kind that doesn't stand there.
-    assert!(rt; !stands(alloc, ExprKind::Whole(ObjId::new(OBJECTS)), 1, false)?);
-    assert!(rt; !stands(alloc, ExprKind::Whole(ObjId::new(MEM)), 4, true)?);
-    assert!(rt; !stands(alloc, word_of(Q, READ_Q), 8, false)?);
+    assert!(rt; !stands(alloc, ExprKind::Selected(all_of(OBJECTS, None)), 1, false)?);
+    assert!(rt; !stands(alloc, ExprKind::Selected(all_of(MEM, None)), 4, true)?);
+    assert!(rt; !stands(alloc, ExprKind::Selected(all_of(Q, Some(READ_Q))), 8, false)?);
     assert!(rt; !stands(alloc, slice(MEM, None, 2), 2, false)?);
     assert!(rt; !stands(alloc, call(alloc, SUM, W, ONE)?, 8, false)?);
     assert!(rt; !stands(alloc, ExprKind::SysCall(ObjId::new(SUM)), 1, false)?);
@@ -731,12 +728,9 @@ fn an_object_or_a_driver_that_breaks_a_rule_is_refused(rt: HostRuntime) -> Resul
 fn a_code_that_breaks_a_rule_is_refused(rt: HostRuntime) -> Result<(), Fail> {
     let alloc = rt.alloc();
     // Targets: of a kind that may change, there, and together not too wide.
-    let q = Target::Whole(ObjId::new(Q));
-    let net = Target::Whole(ObjId::new(W));
-    let memory = Target::Word {
-        memory: ObjId::new(MEM),
-        index: ExprId::new(ONE),
-    };
+    let q = all_of(Q, None);
+    let net = all_of(W, None);
+    let memory = all_of(MEM, Some(ONE));
     assert!(rt; stands_doing(alloc, assign(alloc, &[q, memory], ONE)?)?);
     assert!(rt; !stands_doing(alloc, assign(alloc, &[net], ONE)?)?);
     assert!(rt; !stands_doing(alloc, assign(alloc, &[q], EXPRS)?)?);
@@ -865,6 +859,6 @@ fn a_block_a_wait_or_a_display_call_that_breaks_a_rule_is_refused(
 #[test]
 fn objects_and_expressions_are_small(rt: HostRuntime) {
     assert_eq!(rt; size_of::<ObjectInfo>(), 96);
-    assert_eq!(rt; size_of::<ExprNode>(), 40);
+    assert_eq!(rt; size_of::<ExprNode>(), 48);
     assert_eq!(rt; size_of::<DriverInfo>(), 12);
 }

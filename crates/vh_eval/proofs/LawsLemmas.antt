@@ -1,5 +1,5 @@
 -- Lemmas on `specs/Laws.antt`: the value of a kind is the same by any two ways to value the expressions before it.
-use Rattle.std.proofs.Common.{◌≡◌, ◌∙◌, ◌<◌, ◌&&◌, ℕ, List, [], ◌∷◌, length, Bool, true, false, if◌then◌else◌, max, nat_lt, pos, Option, None, Some, slice_get, refl, sym, ap, arith}
+use Rattle.std.proofs.Common.{◌≡◌, ◌∙◌, ◌<◌, ◌&&◌, ℕ, List, [], ◌∷◌, length, Bool, true, false, if◌then◌else◌, max, nat_lt, Option, None, Some, slice_get, refl, sym, ap, arith}
 use Rattle.std.proofs.lemmas.Bool.{ltb-true}
 use Rattle.std.proofs.lemmas.Option.{slice_get_within}
 use Rattle.vh_logic.specs.declared.digits.Digit.{Digit}
@@ -8,15 +8,18 @@ use Rattle.vh_logic.specs.Number.{integer_of}
 use Rattle.vh_logic.specs.Parts.{resized, concatenation}
 use Rattle.vh_logic.specs.Reduce.{truth_of}
 use Rattle.vh_nodes.specs.declared.expr.Arithmetic.{Arithmetic}
-use Rattle.vh_nodes.specs.declared.expr.Chosen.{Chosen}
+use Rattle.vh_nodes.specs.declared.expr.Access.TheVariants as access
 use Rattle.vh_nodes.specs.declared.expr.Comparison.{Comparison}
 use Rattle.vh_nodes.specs.declared.expr.ExprKind.{ExprKind}
 use Rattle.vh_nodes.specs.declared.expr.ExprKind.TheVariants as kind
 use Rattle.vh_nodes.specs.declared.expr.ExprNode.{ExprNode}
 use Rattle.vh_nodes.specs.declared.expr.Link.{Link}
 use Rattle.vh_nodes.specs.declared.expr.Logic.{Logic}
+use Rattle.vh_nodes.specs.declared.expr.Select.{Select}
+use Rattle.vh_nodes.specs.declared.expr.Select.TheVariants as select
+use Rattle.vh_nodes.specs.declared.expr.Selected.{Selected}
 use Rattle.vh_nodes.specs.declared.expr.Shift.{Shift}
-use Rattle.vh_nodes.specs.Fits.{all_before, fits_word, fits_chosen, fits_kind, has_kind}
+use Rattle.vh_nodes.specs.Fits.{all_before, fits_word, fits_select, fits_selected, fits_kind, has_kind}
 use Rattle.vh_nodes.specs.Kinds.{is_memory}
 use Rattle.vh_nodes.specs.Widths.{width_of, signed_of, operands, is_reduction}
 use Rattle.vh_nodes.proofs.FitsLemmas.{and_left, and_right}
@@ -26,8 +29,8 @@ use Rattle.vh_design.proofs.ValidityLemmas.{node_kind}
 use Rattle.vh_store.specs.Contents.{Contents}
 use Rattle.vh_eval.specs.Laws.{HasValueOfParts}
 use Rattle.vh_eval.specs.Operators.{of_digit, reduction, signed_of as sign_changed, arithmetic_of, shift_of, comparison_of, logic_of, choice_of, times}
-use Rattle.vh_eval.specs.Selects.{selected, digits_from, place_of, address_of}
-use Rattle.vh_eval.specs.Value.{Valuation, value_below, value_of, node_value, kind_value, alone, word_or_x, chosen_value, chosen_at, arithmetic_chain, shift_chain, compared, comparison_chain, compared_all, logic_chain, joined}
+use Rattle.vh_eval.specs.Selects.{selected, address_of}
+use Rattle.vh_eval.specs.Value.{Valuation, value_below, value_of, node_value, kind_value, alone, word_or_x, chosen_at, select_value, selected_value, arithmetic_chain, shift_chain, compared, comparison_chain, compared_all, logic_chain, joined}
 use Rattle.vh_eval.proofs.ValueLemmas.{value_step}
 
 -- Two ways to value agree on what stands before an expression.
@@ -96,35 +99,37 @@ joined_same p q ns e v (x ∷ xs) agree h =
     ∙ joined_same p q ns e (concatenation v (alone q ns x)) xs agree (and_right (nat_lt x e) (all_before e xs) h)
 
 chosen_at_same : (p q : Valuation) (d : Shape) (s : Contents) (e o : ℕ) (word : Option ℕ) → Agree p q e
-    → fits_word d.objects e o word ≡ true → chosen_at p d s o word ≡ chosen_at q d s o word
+    → fits_word d.objects e access.Read o word ≡ true → chosen_at p d s o word ≡ chosen_at q d s o word
 chosen_at_same p q d s e o None agree h = refl
 chosen_at_same p q d s e o (Some at) agree h =
     ap (λ (v : Vector). word_or_x (address_of (integer_of v)) d.objects s o)
     (alone_same p q d.exprs e at agree (ltb-true at e (and_right (has_kind is_memory d.objects o) (nat_lt at e) h)))
 
-chosen_same : (p q : Valuation) (d : Shape) (s : Contents) (e : ℕ) (c : Chosen) → Agree p q e
-    → fits_chosen d.objects e c ≡ true → chosen_value p d s c ≡ chosen_value q d s c
-chosen_same p q d s e c agree h = chosen_at_same p q d s e c.object c.word agree h
+select_same : (p q : Valuation) (ns : List ExprNode) (e : ℕ) (v : Vector) (x : Select) → Agree p q e
+    → fits_select e x ≡ true → select_value p ns v x ≡ select_value q ns v x
+select_same p q ns e v select.Whole agree h = refl
+select_same p q ns e v (select.Bit range index) agree h =
+    ap (λ (i : Vector). selected v.digits range true (integer_of i) 1)
+    (alone_same p q ns e index agree (ltb-true index e h))
+select_same p q ns e v (select.Slice range lowest width) agree h = refl
+select_same p q ns e v (select.Indexed up range base width) agree h =
+    ap (λ (i : Vector). selected v.digits range up (integer_of i) width)
+    (alone_same p q ns e base agree (ltb-true base e h))
+
+selected_same : (p q : Valuation) (d : Shape) (s : Contents) (e : ℕ) (x : Selected) → Agree p q e
+    → fits_selected d.objects e access.Read x ≡ true → selected_value p d s x ≡ selected_value q d s x
+selected_same p q d s e x agree h =
+    let word = fits_word d.objects e access.Read x.of.object x.of.word in
+    ap (λ (v : Vector). select_value p d.exprs v x.select)
+    (chosen_at_same p q d s e x.of.object x.of.word agree (and_left word (fits_select e x.select) h))
+    ∙ select_same p q d.exprs e (chosen_at q d s x.of.object x.of.word) x.select agree
+    (and_right word (fits_select e x.select) h)
 
 kind_same : (p q : Valuation) (d : Shape) (s : Contents) (e : ℕ) (k : ExprKind) (w : ℕ) (g : Bool) → Agree p q e
     → fits_kind d.objects d.precision e k ≡ true → kind_value p d s e k w g ≡ kind_value q d s e k w g
 kind_same p q d s e (kind.Literal v) w g agree h = refl
-kind_same p q d s e (kind.Whole o) w g agree h = refl
-kind_same p q d s e (kind.Word m index) w g agree h =
-    ap (λ (v : Vector). resized v w g) (chosen_at_same p q d s e m (Some index) agree h)
-kind_same p q d s e (kind.Bit of range index) w g agree h =
-    ap (λ (v : Vector). resized (selected v.digits range true (integer_of (alone p d.exprs index)) 1) w g)
-    (chosen_same p q d s e of agree (and_left (fits_chosen d.objects e of) (nat_lt index e) h))
-    ∙ ap (λ (v : Vector). resized (selected (chosen_value q d s of).digits range true (integer_of v) 1) w g)
-    (alone_same p q d.exprs e index agree (ltb-true index e (and_right (fits_chosen d.objects e of) (nat_lt index e) h)))
-kind_same p q d s e (kind.Slice of range lowest width) w g agree h =
-    ap (λ (v : Vector). resized (record { digits = digits_from v.digits (place_of range (pos lowest)) width; signed = false }) w g)
-    (chosen_same p q d s e of agree h)
-kind_same p q d s e (kind.Indexed up of range base width) w g agree h =
-    ap (λ (v : Vector). resized (selected v.digits range up (integer_of (alone p d.exprs base)) width) w g)
-    (chosen_same p q d s e of agree (and_left (fits_chosen d.objects e of) (nat_lt base e) h))
-    ∙ ap (λ (v : Vector). resized (selected (chosen_value q d s of).digits range up (integer_of v) width) w g)
-    (alone_same p q d.exprs e base agree (ltb-true base e (and_right (fits_chosen d.objects e of) (nat_lt base e) h)))
+kind_same p q d s e (kind.Selected x) w g agree h =
+    ap (λ (v : Vector). resized v w g) (selected_same p q d s e x agree h)
 kind_same p q d s e (kind.Unary op a) w g agree h =
     ap (λ (v : Vector). if is_reduction op then resized (of_digit (reduction op v)) w g else sign_changed op (p a w g))
     (alone_same p q d.exprs e a agree (ltb-true a e h))

@@ -7,6 +7,10 @@ use Rattle.std.proofs.Math.Seq.{take-append-add}
 use Rattle.vh_logic.specs.declared.digits.Digit.{Digit}
 use Rattle.vh_logic.specs.declared.digits.Digit.TheVariants.{Zero, One, X, Z}
 use Rattle.vh_logic.specs.Number.{number_of, digit_value, all_known, known_number}
+use Rattle.vh_logic.specs.declared.vector.TheConstants.{MAX_WIDTH}
+use Rattle.vh_nodes.specs.declared.expr.Select.{Select}
+use Rattle.vh_nodes.specs.declared.expr.Select.TheVariants as select
+use Rattle.vh_nodes.specs.Widths.{select_width}
 use Rattle.vh_eval.specs.Selects.{digits_above, digits_below}
 
 -- A number is below the power of two of its digits.
@@ -78,3 +82,16 @@ below_partly ds distance width partly =
     ap (λ (w : ℕ). take w (replicate distance X ++ (ds ++ replicate width X))) sum
     ∙ take-append-add (replicate distance X) (ds ++ replicate width X) (width - distance)
     ∙ ap (λ (t : List Digit). replicate distance X ++ t) (enough ds (width - distance) width (width - distance) (omega arith) (omega arith))
+
+-- A select of some digits names as many of any value.
+pub select_least : (w : ℕ) (x : Select) → 1 ≤ select_width w x → 1 ≤ select_width 1 x
+select_least w select.Whole h = omega arith
+select_least w (select.Bit range index) h = h
+select_least w (select.Slice range lowest width) h = h
+select_least w (select.Indexed up range base width) h = h
+
+pub select_most : (w : ℕ) (x : Select) → select_width w x ≤ MAX_WIDTH → select_width 1 x ≤ MAX_WIDTH
+select_most w select.Whole h = omega arith
+select_most w (select.Bit range index) h = h
+select_most w (select.Slice range lowest width) h = h
+select_most w (select.Indexed up range base width) h = h

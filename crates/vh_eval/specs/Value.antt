@@ -13,10 +13,12 @@ use Rattle.vh_nodes.specs.declared.expr.Shift.{Shift}
 use Rattle.vh_nodes.specs.declared.expr.Comparison.{Comparison}
 use Rattle.vh_nodes.specs.declared.expr.Logic.{Logic}
 use Rattle.vh_nodes.specs.declared.expr.Link.{Link}
-use Rattle.vh_nodes.specs.declared.expr.Chosen.{Chosen}
 use Rattle.vh_nodes.specs.declared.expr.ExprKind.{ExprKind}
 use Rattle.vh_nodes.specs.declared.expr.ExprKind.TheVariants as kind
 use Rattle.vh_nodes.specs.declared.expr.ExprNode.{ExprNode}
+use Rattle.vh_nodes.specs.declared.expr.Select.{Select}
+use Rattle.vh_nodes.specs.declared.expr.Select.TheVariants as select
+use Rattle.vh_nodes.specs.declared.expr.Selected.{Selected}
 use Rattle.vh_nodes.specs.declared.object.ObjectInfo.{ObjectInfo}
 use Rattle.vh_nodes.specs.Widths.{width_of, signed_of, object_width, object_signed, is_reduction}
 use Rattle.vh_design.specs.Shape.{Shape}
@@ -47,8 +49,18 @@ abbrev pub chosen_at : Valuation → Shape → Contents → ℕ → Option ℕ �
 chosen_at part d s o None = whole s o
 chosen_at part d s o (Some index) = word_or_x (address_of (integer_of (alone part d.exprs index))) d.objects s o
 
-abbrev pub chosen_value : Valuation → Shape → Contents → Chosen → Vector
-chosen_value part d s c = chosen_at part d s c.object c.word
+-- Digits of it, by an index that stands alone. (5.2.1)
+abbrev pub select_value : Valuation → List ExprNode → Vector → Select → Vector
+select_value part ns v select.Whole = v
+select_value part ns v (select.Bit range index) =
+    selected v.digits range true (integer_of (alone part ns index)) 1
+select_value part ns v (select.Slice range lowest width) =
+    record { digits = digits_from v.digits (place_of range (pos lowest)) width; signed = false }
+select_value part ns v (select.Indexed up range base width) =
+    selected v.digits range up (integer_of (alone part ns base)) width
+
+abbrev pub selected_value : Valuation → Shape → Contents → Selected → Vector
+selected_value part d s x = select_value part d.exprs (chosen_at part d s x.of.object x.of.word) x.select
 
 -- A chain of operators whose operands have the width and the sign around them: from the left. (5.1.5 and 5.1.10)
 abbrev pub arithmetic_chain : Valuation → ℕ → Bool → Vector → List (Link Arithmetic) → Vector
@@ -98,14 +110,7 @@ unary_value part ns op a w g =
 -- expressions before this one. (5.1.14, 5.2 and 5.4) The four kinds whose operands go by the context have none.
 abbrev pub own_value : Valuation → Shape → Contents → ℕ → ExprKind → Vector
 own_value part d s e (kind.Literal v) = v
-own_value part d s e (kind.Whole o) = whole s o
-own_value part d s e (kind.Word m index) = chosen_at part d s m (Some index)
-own_value part d s e (kind.Bit of range index) =
-    selected (chosen_value part d s of).digits range true (integer_of (alone part d.exprs index)) 1
-own_value part d s e (kind.Slice of range lowest width) =
-    record { digits = digits_from (chosen_value part d s of).digits (place_of range (pos lowest)) width; signed = false }
-own_value part d s e (kind.Indexed up of range base width) =
-    selected (chosen_value part d s of).digits range up (integer_of (alone part d.exprs base)) width
+own_value part d s e (kind.Selected x) = selected_value part d s x
 own_value part d s e (kind.Unary op a) = filled 1 X false
 own_value part d s e (kind.Arithmetic first rest) = filled 1 X false
 own_value part d s e (kind.Shift first rest) = filled 1 X false
@@ -130,13 +135,7 @@ kind_value part d s e (kind.Shift first rest) w g = shift_chain part d.exprs (pa
 kind_value part d s e (kind.Choice condition a b) w g =
     choice_of (truth_of (alone part d.exprs condition)) (part a w g) (part b w g)
 kind_value part d s e (kind.Literal v) w g = resized (own_value part d s e (kind.Literal v)) w g
-kind_value part d s e (kind.Whole o) w g = resized (own_value part d s e (kind.Whole o)) w g
-kind_value part d s e (kind.Word m index) w g = resized (own_value part d s e (kind.Word m index)) w g
-kind_value part d s e (kind.Bit of range index) w g = resized (own_value part d s e (kind.Bit of range index)) w g
-kind_value part d s e (kind.Slice of range lowest width) w g =
-    resized (own_value part d s e (kind.Slice of range lowest width)) w g
-kind_value part d s e (kind.Indexed up of range base width) w g =
-    resized (own_value part d s e (kind.Indexed up of range base width)) w g
+kind_value part d s e (kind.Selected x) w g = resized (own_value part d s e (kind.Selected x)) w g
 kind_value part d s e (kind.Comparison first rest) w g = resized (own_value part d s e (kind.Comparison first rest)) w g
 kind_value part d s e (kind.Logic first rest) w g = resized (own_value part d s e (kind.Logic first rest)) w g
 kind_value part d s e (kind.Join first rest) w g = resized (own_value part d s e (kind.Join first rest)) w g

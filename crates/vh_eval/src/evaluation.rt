@@ -3,12 +3,13 @@ ghost use Rattle.vh_logic.specs.declared.vector.TheConstants.{MAX_WIDTH};
 ghost use Rattle.vh_logic.specs.Vector.{width_of as digits_in};
 ghost use Rattle.vh_logic.specs.Number.{integer_of};
 ghost use Rattle.vh_logic.specs.Reduce.{truth_of};
-ghost use Rattle.vh_nodes.specs.Fits.{fits_kind, fits_chosen};
-ghost use Rattle.vh_nodes.specs.Widths.{width_of, signed_of, kind_width, is_reduction, operands, summed};
+ghost use Rattle.vh_nodes.specs.declared.expr.Access.{Access};
+ghost use Rattle.vh_nodes.specs.Fits.{fits_kind, fits_word, fits_select};
+ghost use Rattle.vh_nodes.specs.Widths.{width_of, signed_of, kind_width, is_reduction, operands, summed, select_width};
 ghost use Rattle.vh_eval.specs.Operators.{choice_of};
 ghost use Rattle.vh_eval.specs.Ready.{AreReady, AreBefore};
 ghost use Rattle.vh_eval.specs.Selects.{address_of};
-ghost use Rattle.vh_eval.specs.Value.{value_of, value_below, kind_value, own_value, unary_value, alone, whole, word_or_x, chosen_value, arithmetic_chain, shift_chain, comparison_chain, compared, compared_all, logic_chain, joined};
+ghost use Rattle.vh_eval.specs.Value.{value_of, value_below, kind_value, own_value, unary_value, alone, whole, word_or_x, chosen_at, select_value, arithmetic_chain, shift_chain, comparison_chain, compared, compared_all, logic_chain, joined};
 
 use crate::operators::{
     arithmetic, choice, comparison, is_reduction, logic, marked, of_digit, reduction, repeated,
@@ -16,7 +17,9 @@ use crate::operators::{
 };
 use crate::selects::{address_of, selected, sliced};
 use vh_base::{ExprId, ObjId, Object};
-use vh_design::{Arithmetic, Chosen, Comparison, Design, ExprKind, Link, Logic, Shift, Unary};
+use vh_design::{
+    Arithmetic, Chosen, Comparison, Design, ExprKind, Link, Logic, Select, Shift, Unary,
+};
 use vh_logic::{Digit, Vec4, concat, resize, truth};
 use vh_store::Store;
 
@@ -98,12 +101,38 @@ fn word(d: &Design, s: &Store, memory: ObjId, index: &Vec4) -> Vec4
 #[cycle(eval)]
 fn chosen_in(d: &Design, s: &Store, e: ExprId, of: &Chosen) -> Vec4
     requires known { e < length (d.now).exprs }
-    requires fits { fits_chosen (d.now).objects e of.now ≡ true }
-    ensures { result ≡ chosen_value (value_below e d.now s.now) d.now s.now of.now }
+    requires fits { fits_word (d.now).objects e Access.Read of.now.object of.now.word ≡ true }
+    ensures { result ≡ chosen_at (value_below e d.now s.now) d.now s.now of.now.object of.now.word }
 {
     match of.word {
         None => whole(s, of.object),
         Some(index) => word(d, s, of.object, &alone_in(d, s, index)),
+    }
+}
+
+// The digits that a select names of a value.
+#[cycle(eval)]
+fn select_in(d: &Design, s: &Store, e: ExprId, v: Vec4, select: &Select) -> Vec4
+    requires known { e < length (d.now).exprs }
+    requires fits { fits_select e select.now ≡ true }
+    requires least { 1 ≤ select_width 1 select.now }
+    requires small { select_width 1 select.now ≤ MAX_WIDTH }
+    ensures { result ≡ select_value (value_below e d.now s.now) (d.now).exprs v select.now }
+{
+    match *select {
+        Select::Whole => v,
+        Select::Bit { range, index } => selected(&v, range, true, &alone_in(d, s, index), 1),
+        Select::Slice {
+            range,
+            lowest,
+            width,
+        } => sliced(&v, range, lowest, width),
+        Select::Indexed {
+            up,
+            range,
+            base,
+            width,
+        } => selected(&v, range, up, &alone_in(d, s, base), width),
     }
 }
 
@@ -306,11 +335,7 @@ fn kind_in(d: &Design, s: &Store, e: ExprId, kind: &ExprKind, width: u32, signed
             choice_in(d, s, e, *condition, (*yes, *no), width, signed)
         }
         ExprKind::Literal(_)
-        | ExprKind::Whole(_)
-        | ExprKind::Word { .. }
-        | ExprKind::Bit { .. }
-        | ExprKind::Slice { .. }
-        | ExprKind::Indexed { .. }
+        | ExprKind::Selected(_)
         | ExprKind::Comparison { .. }
         | ExprKind::Logic { .. }
         | ExprKind::Join { .. }
@@ -333,27 +358,9 @@ fn own_in(d: &Design, s: &Store, e: ExprId, kind: &ExprKind) -> Vec4
 {
     match kind {
         ExprKind::Literal(v) => *v,
-        ExprKind::Whole(o) => whole(s, *o),
-        ExprKind::Word { memory, index } => word(d, s, *memory, &alone_in(d, s, *index)),
-        ExprKind::Bit { of, range, index } => {
-            let v = chosen_in(d, s, e, of);
-            selected(&v, *range, true, &alone_in(d, s, *index), 1)
-        }
-        ExprKind::Slice {
-            of,
-            range,
-            lowest,
-            width,
-        } => { sliced(&chosen_in(d, s, e, of), *range, *lowest, *width) }
-        ExprKind::Indexed {
-            up,
-            of,
-            range,
-            base,
-            width,
-        } => {
-            let v = chosen_in(d, s, e, of);
-            selected(&v, *range, *up, &alone_in(d, s, *base), *width)
+        ExprKind::Selected(x) => {
+            let v = chosen_in(d, s, e, &x.of);
+            select_in(d, s, e, v, &x.select)
         }
         ExprKind::Comparison { first, rest } => {
             of_digit(comparison_in(d, s, e, *first, rest.as_slice()))

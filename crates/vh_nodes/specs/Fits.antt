@@ -6,10 +6,14 @@ use Rattle.std.specs.Option.{option_map, option_and_then}
 use Rattle.vh_base.specs.declared.orders.Object.{Object}
 use Rattle.vh_logic.specs.declared.vector.TheConstants.{MAX_WIDTH}
 use Rattle.vh_nodes.specs.declared.driver.DriverInfo.{DriverInfo}
-use Rattle.vh_nodes.specs.declared.expr.Chosen.{Chosen}
+use Rattle.vh_nodes.specs.declared.expr.Access.{Access}
+use Rattle.vh_nodes.specs.declared.expr.Access.TheVariants as access
 use Rattle.vh_nodes.specs.declared.expr.ExprKind.{ExprKind}
 use Rattle.vh_nodes.specs.declared.expr.ExprKind.TheVariants as kind
 use Rattle.vh_nodes.specs.declared.expr.ExprNode.{ExprNode}
+use Rattle.vh_nodes.specs.declared.expr.Select.{Select}
+use Rattle.vh_nodes.specs.declared.expr.Select.TheVariants as select
+use Rattle.vh_nodes.specs.declared.expr.Selected.{Selected}
 use Rattle.vh_nodes.specs.declared.object.Detail.{Detail}
 use Rattle.vh_nodes.specs.declared.object.Detail.TheVariants as detail
 use Rattle.vh_nodes.specs.declared.object.Kind.{Kind}
@@ -47,22 +51,31 @@ before n (Some m) = nat_lt m n
 abbrev pub same_sign : Bool → Bool → Bool
 same_sign a b = if a then b else not b
 
--- What is selected from: a vector, or a word of a memory by an expression before this one.
-abbrev pub fits_word : List ObjectInfo → ℕ → ℕ → Option ℕ → Bool
-fits_word os e o None = has_kind is_vector os o
-fits_word os e o (Some at) = has_kind is_memory os o && nat_lt at e
+-- Which kinds may be read, and which assigned to. (IEEE 1364-2005, 5.2 and 6)
+abbrev pub may_be : Access → Kind → Bool
+may_be access.Read = is_vector
+may_be access.Assigned = is_variable
 
-abbrev pub fits_chosen : List ObjectInfo → ℕ → Chosen → Bool
-fits_chosen os e c = fits_word os e c.object c.word
+-- What is selected from: an object of such a kind, or a word of a memory by an expression before this one.
+abbrev pub fits_word : List ObjectInfo → ℕ → Access → ℕ → Option ℕ → Bool
+fits_word os e access o None = has_kind (may_be access) os o
+fits_word os e access o (Some at) = has_kind is_memory os o && nat_lt at e
+
+-- The index of a select.
+abbrev pub fits_select : ℕ → Select → Bool
+fits_select e select.Whole = true
+fits_select e (select.Bit range index) = nat_lt index e
+fits_select e (select.Slice range lowest width) = true
+fits_select e (select.Indexed up range base width) = nat_lt base e
+
+-- What is read or assigned to, by expressions before this one.
+abbrev pub fits_selected : List ObjectInfo → ℕ → Access → Selected → Bool
+fits_selected os e access s = fits_word os e access s.of.object s.of.word && fits_select e s.select
 
 -- The parts of an expression and what it reads, a row for each kind.
 abbrev pub fits_kind : List ObjectInfo → ℕ → ℕ → ExprKind → Bool
 fits_kind os precision e (kind.Literal v) = true
-fits_kind os precision e (kind.Whole o) = has_kind is_vector os o
-fits_kind os precision e (kind.Word m index) = has_kind is_memory os m && nat_lt index e
-fits_kind os precision e (kind.Bit chosen range index) = fits_chosen os e chosen && nat_lt index e
-fits_kind os precision e (kind.Slice chosen range lowest width) = fits_chosen os e chosen
-fits_kind os precision e (kind.Indexed up chosen range base width) = fits_chosen os e chosen && nat_lt base e
+fits_kind os precision e (kind.Selected s) = fits_selected os e access.Read s
 fits_kind os precision e (kind.Unary op part) = nat_lt part e
 fits_kind os precision e (kind.Arithmetic first rest) = nat_lt first e && all_before e (operands rest)
 fits_kind os precision e (kind.Shift first rest) = nat_lt first e && all_before e (operands rest)

@@ -10,6 +10,9 @@ use Rattle.vh_nodes.specs.declared.expr.ExprKind.{ExprKind}
 use Rattle.vh_nodes.specs.declared.expr.ExprKind.TheVariants as kind
 use Rattle.vh_nodes.specs.declared.expr.ExprNode.{ExprNode}
 use Rattle.vh_nodes.specs.declared.expr.Link.{Link}
+use Rattle.vh_nodes.specs.declared.expr.Select.{Select}
+use Rattle.vh_nodes.specs.declared.expr.Select.TheVariants as select
+use Rattle.vh_nodes.specs.declared.expr.Selected.{Selected}
 use Rattle.vh_nodes.specs.declared.expr.Unary.{Unary}
 use Rattle.vh_nodes.specs.declared.expr.Unary.TheVariants as unary
 use Rattle.vh_nodes.specs.declared.object.ObjectInfo.{ObjectInfo}
@@ -60,16 +63,30 @@ is_reduction unary.Nor = true
 is_reduction unary.Xor = true
 is_reduction unary.Xnor = true
 
+-- How many digits a select names of so many.
+abbrev pub select_width : ℕ → Select → ℕ
+select_width all select.Whole = all
+select_width all (select.Bit range index) = 1
+select_width all (select.Slice range lowest width) = width
+select_width all (select.Indexed up range base width) = width
+
+-- Does it name all digits, so that the sign stays?
+abbrev pub is_whole : Select → Bool
+is_whole select.Whole = true
+is_whole (select.Bit range index) = false
+is_whole (select.Slice range lowest width) = false
+is_whole (select.Indexed up range base width) = false
+
+-- The width of what is read or assigned to.
+abbrev pub selected_width : List ObjectInfo → Selected → ℕ
+selected_width os s = select_width (object_width os s.of.object) s.select
+
 -- The width, a row for each kind: arithmetic and bitwise operators have the greatest of their operands, a shift
 -- and a power the left one's, a choice the greater of its branches, a concatenation the sum; comparisons,
 -- logical operators and reductions 1.
 abbrev pub kind_width : List ExprNode → List ObjectInfo → ExprKind → ℕ
 kind_width ns os (kind.Literal v) = vector_width v
-kind_width ns os (kind.Whole o) = object_width os o
-kind_width ns os (kind.Word m index) = object_width os m
-kind_width ns os (kind.Bit chosen range index) = 1
-kind_width ns os (kind.Slice chosen range lowest width) = width
-kind_width ns os (kind.Indexed up chosen range base width) = width
+kind_width ns os (kind.Selected s) = selected_width os s
 kind_width ns os (kind.Unary op e) = if is_reduction op then 1 else width_of ns e
 kind_width ns os (kind.Arithmetic first rest) = widest ns (width_of ns first) (operands rest)
 kind_width ns os (kind.Shift first rest) = width_of ns first
@@ -87,11 +104,7 @@ kind_width ns os (kind.SysCall o) = object_width os o
 -- results are unsigned.
 abbrev pub kind_signed : List ExprNode → List ObjectInfo → ExprKind → Bool
 kind_signed ns os (kind.Literal v) = v.signed
-kind_signed ns os (kind.Whole o) = object_signed os o
-kind_signed ns os (kind.Word m index) = object_signed os m
-kind_signed ns os (kind.Bit chosen range index) = false
-kind_signed ns os (kind.Slice chosen range lowest width) = false
-kind_signed ns os (kind.Indexed up chosen range base width) = false
+kind_signed ns os (kind.Selected s) = is_whole s.select && object_signed os s.of.object
 kind_signed ns os (kind.Unary op e) = if is_reduction op then false else signed_of ns e
 kind_signed ns os (kind.Arithmetic first rest) = signed_of ns first && all_signed ns (operands rest)
 kind_signed ns os (kind.Shift first rest) = signed_of ns first

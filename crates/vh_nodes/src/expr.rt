@@ -74,7 +74,7 @@ pub type Links<Op> = Sequence<Link<Op>>;
 /// Some expressions, which contracts see as the list of their numbers.
 pub type ExprIds = Sequence<ExprId>;
 
-/// What is selected from: an object, or a word of a memory by its address.
+/// What is selected from: an object, or a word of a memory by its address (IEEE 1364-2005, 5.2.2).
 #[derive(Clone, Copy, Debug, PartialEq, Eq)]
 pub struct Chosen {
     pub object: ObjId,
@@ -89,39 +89,52 @@ pub struct Range {
     pub right: u32,
 }
 
+/// Which digits of it (IEEE 1364-2005, 5.2.1).
+#[derive(Clone, Copy, Debug, PartialEq, Eq)]
+pub enum Select {
+    /// All of them.
+    Whole,
+    /// One, by an index.
+    Bit {
+        range: Range,
+        index: ExprId,
+    },
+    /// So many from the one of this index up.
+    Slice {
+        range: Range,
+        lowest: u32,
+        width: u32,
+    },
+    /// So many from an index on, upwards (`+:`) or downwards (`-:`) by index.
+    Indexed {
+        up: bool,
+        range: Range,
+        base: ExprId,
+        width: u32,
+    },
+}
+
+/// What an expression reads of one object, or an assignment changes of it.
+#[derive(Clone, Copy, Debug, PartialEq, Eq)]
+pub struct Selected {
+    pub of: Chosen,
+    pub select: Select,
+}
+
+/// What is done to what is selected: a net or a parameter may be read, and not be assigned to.
+#[derive(Clone, Copy, Debug, PartialEq, Eq)]
+pub enum Access {
+    Read,
+    Assigned,
+}
+
 /// An expression, whose parts are expressions with lesser numbers.
 #[derive(Drop)]
 pub enum ExprKind {
     /// A number, or a string of at most 8 bytes.
     Literal(Vec4),
-    /// A whole net, variable or parameter.
-    Whole(ObjId),
-    /// A word of a memory.
-    Word {
-        memory: ObjId,
-        index: ExprId,
-    },
-    /// One digit, by an index.
-    Bit {
-        of: Chosen,
-        range: Range,
-        index: ExprId,
-    },
-    /// So many digits from the one of this index up.
-    Slice {
-        of: Chosen,
-        range: Range,
-        lowest: u32,
-        width: u32,
-    },
-    /// So many digits from an index on, upwards (`+:`) or downwards (`-:`) by index.
-    Indexed {
-        up: bool,
-        of: Chosen,
-        range: Range,
-        base: ExprId,
-        width: u32,
-    },
+    /// A net, a variable, a parameter or a word of a memory, or digits of one.
+    Selected(Selected),
     Unary {
         op: Unary,
         part: ExprId,

@@ -2,10 +2,10 @@ ghost use Rattle.std.specs.Prelude.{◌≡◌, nat_lt, length};
 ghost use Rattle.std.specs.List.{list_all};
 ghost use Rattle.vh_nodes.specs.Kinds.{is_vector, is_variable, is_memory, is_function, is_system_function, is_net, is_forcible, is_event, is_named_block, is_disable_target, is_routine, is_system_task, is_scope};
 ghost use Rattle.vh_nodes.specs.Widths.{operands};
-ghost use Rattle.vh_nodes.specs.Fits.{has_kind, is_width, is_unit, all_before, before, same_sign, fits_word, fits_chosen, fits_kind, fits_node, has_word, body_number, has_body, fits_detail, fits_object, fits_driver, lowest_of, is_address};
+ghost use Rattle.vh_nodes.specs.Fits.{has_kind, is_width, is_unit, all_before, before, same_sign, may_be, fits_word, fits_select, fits_selected, fits_kind, fits_node, has_word, body_number, has_body, fits_detail, fits_object, fits_driver, lowest_of, is_address};
 
 use crate::driver::DriverInfo;
-use crate::expr::{Chosen, ExprKind, ExprNode, Link};
+use crate::expr::{Access, Chosen, ExprKind, ExprNode, Link, Select, Selected};
 use crate::object::{Detail, ObjectInfo};
 use crate::widths::{kind_signed, kind_width};
 use vh_base::{ExprId, ObjId, Object};
@@ -211,14 +211,42 @@ pub fn same_sign(a: bool, b: bool) -> bool
     if a { b } else { !b }
 }
 
-// Whether a part of the expression `e` may be selected from this.
-fn fits_chosen(objects: &[ObjectInfo], e: usize, chosen: Chosen) -> bool
-    ensures { result ≡ fits_chosen objects.now e chosen }
+// Whether an object may be read, or assigned to.
+fn may_be(objects: &[ObjectInfo], access: Access, object: ObjId) -> bool
+    ensures { result ≡ has_kind (may_be access) objects.now object }
+{
+    match access {
+        Access::Read => is_vector_at(objects, object),
+        Access::Assigned => is_variable_at(objects, object),
+    }
+}
+
+// Whether digits may be selected from this.
+fn fits_chosen(objects: &[ObjectInfo], e: usize, access: Access, chosen: Chosen) -> bool
+    ensures { result ≡ fits_word objects.now e access chosen.object chosen.word }
 {
     match chosen.word {
-        None => is_vector_at(objects, chosen.object),
+        None => may_be(objects, access, chosen.object),
         Some(at) => is_memory_at(objects, chosen.object) && is_before(e, at),
     }
+}
+
+// Whether the index of a select is an expression before this one.
+fn fits_select(e: usize, select: Select) -> bool
+    ensures { result ≡ fits_select e select }
+{
+    match select {
+        Select::Whole | Select::Slice { .. } => true,
+        Select::Bit { index, .. } => is_before(e, index),
+        Select::Indexed { base, .. } => is_before(e, base),
+    }
+}
+
+/// Whether this may be read or assigned to, by expressions whose numbers are below `e`.
+pub fn fits_selected(objects: &[ObjectInfo], e: usize, access: Access, selected: &Selected) -> bool
+    ensures { result ≡ fits_selected objects.now e access selected.now }
+{
+    fits_chosen(objects, e, access, selected.of) && fits_select(e, selected.select)
 }
 
 // Whether the parts of the expression `e` and what it reads may stand there.
@@ -227,11 +255,7 @@ fn fits_kind(objects: &[ObjectInfo], precision: u8, e: usize, kind: &ExprKind) -
 {
     match kind {
         ExprKind::Literal(_) => true,
-        ExprKind::Whole(object) => is_vector_at(objects, *object),
-        ExprKind::Word { memory, index } => is_memory_at(objects, *memory) && is_before(e, *index),
-        ExprKind::Bit { of, index, .. } => fits_chosen(objects, e, *of) && is_before(e, *index),
-        ExprKind::Slice { of, .. } => fits_chosen(objects, e, *of),
-        ExprKind::Indexed { of, base, .. } => fits_chosen(objects, e, *of) && is_before(e, *base),
+        ExprKind::Selected(selected) => fits_selected(objects, e, Access::Read, selected),
         ExprKind::Unary { part, .. } => is_before(e, *part),
         ExprKind::Arithmetic { first, rest } => {
             is_before(e, *first) && all_linked_before(e, rest.as_slice())

@@ -20,16 +20,17 @@ mod widths;
 
 pub use driver::DriverInfo;
 pub use expr::{
-    Arithmetic, Chosen, Comparison, ExprIds, ExprKind, ExprNode, Link, Links, Logic, Range, Shift,
-    Unary,
+    Access, Arithmetic, Chosen, Comparison, ExprIds, ExprKind, ExprNode, Link, Links, Logic, Range,
+    Select, Selected, Shift, Unary,
 };
 pub use fits::{
-    MOST_UNIT, body_number, fits_driver, fits_node, fits_object, has_body, is_before,
+    MOST_UNIT, body_number, fits_driver, fits_node, fits_object, fits_selected, has_body, is_before,
     is_disable_target_at, is_event_at, is_forcible_at, is_memory_at, is_named_block_at,
     is_routine_at, is_scope_at, is_system_function_at, is_system_task_at, is_unit, is_variable_at,
     is_vector_at, is_width, lowest_of, same_sign,
 };
 pub use object::{Args, Detail, Kind, Name, NetType, ObjectInfo};
 pub use widths::{
-    driver_width, kind_signed, kind_width, object_width, side_by_side, signed_of, width_of,
+    driver_width, kind_signed, kind_width, object_width, selected_width, side_by_side, signed_of,
+    width_of,
 };

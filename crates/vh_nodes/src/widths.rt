@@ -1,9 +1,9 @@
-ghost use Rattle.std.specs.Prelude.{◌≡◌, ◌+◌, ◌*◌, min, if◌then◌else◌};
+ghost use Rattle.std.specs.Prelude.{◌≡◌, ◌+◌, ◌*◌, ◌&&◌, min, if◌then◌else◌};
 ghost use Rattle.vh_logic.specs.declared.vector.TheConstants.{MAX_WIDTH};
-ghost use Rattle.vh_nodes.specs.Widths.{width_of, signed_of, object_width, object_signed, driver_width, widest, summed, all_signed, operands, is_reduction, kind_width, kind_signed};
+ghost use Rattle.vh_nodes.specs.Widths.{width_of, signed_of, object_width, object_signed, driver_width, widest, summed, all_signed, operands, is_reduction, select_width, is_whole, selected_width, kind_width, kind_signed};
 
 use crate::driver::DriverInfo;
-use crate::expr::{Arithmetic, ExprKind, ExprNode, Link, Unary};
+use crate::expr::{Arithmetic, ExprKind, ExprNode, Link, Select, Selected, Unary};
 use crate::object::ObjectInfo;
 use vh_base::{DriverId, ExprId, ObjId};
 use vh_logic::MAX_WIDTH;
@@ -109,17 +109,38 @@ fn unary_width(exprs: &[ExprNode], op: Unary, part: ExprId) -> u32
     }
 }
 
+// How many digits a select names of so many.
+fn select_width(all: u32, select: Select) -> u32
+    ensures { result ≡ select_width all select }
+{
+    match select {
+        Select::Whole => all,
+        Select::Bit { .. } => 1,
+        Select::Slice { width, .. } | Select::Indexed { width, .. } => width,
+    }
+}
+
+/// The width of what is read or assigned to.
+pub fn selected_width(objects: &[ObjectInfo], selected: &Selected) -> u32
+    ensures { result ≡ selected_width objects.now selected.now }
+{
+    select_width(object_width(objects, selected.of.object), selected.select)
+}
+
+// Whether it is signed: a select of digits isn't.
+fn selected_signed(objects: &[ObjectInfo], selected: &Selected) -> bool
+    ensures { result ≡ (is_whole selected.now.select && object_signed objects.now selected.now.of.object) }
+{
+    matches!(selected.select, Select::Whole) && object_signed(objects, selected.of.object)
+}
+
 /// The width that the parts of an expression give, one above the greatest where it is more.
 pub fn kind_width(exprs: &[ExprNode], objects: &[ObjectInfo], kind: &ExprKind) -> u32
     ensures { result ≡ kind_width exprs.now objects.now kind.now }
 {
     match kind {
         ExprKind::Literal(value) => value.width(),
-        ExprKind::Whole(object) => object_width(objects, *object),
-        ExprKind::Word { memory, .. } => object_width(objects, *memory),
-        ExprKind::Bit { .. } => 1,
-        ExprKind::Slice { width, .. } => *width,
-        ExprKind::Indexed { width, .. } => *width,
+        ExprKind::Selected(selected) => selected_width(objects, selected),
         ExprKind::Unary { op, part } => unary_width(exprs, *op, *part),
         ExprKind::Arithmetic { first, rest } => {
             widest(exprs, width_of(exprs, *first), rest.as_slice())
@@ -143,11 +164,7 @@ pub fn kind_signed(exprs: &[ExprNode], objects: &[ObjectInfo], kind: &ExprKind) 
 {
     match kind {
         ExprKind::Literal(value) => value.is_signed(),
-        ExprKind::Whole(object) => object_signed(objects, *object),
-        ExprKind::Word { memory, .. } => object_signed(objects, *memory),
-        ExprKind::Bit { .. } => false,
-        ExprKind::Slice { .. } => false,
-        ExprKind::Indexed { .. } => false,
+        ExprKind::Selected(selected) => selected_signed(objects, selected),
         ExprKind::Unary { op, part } => !is_reduction(*op) && signed_of(exprs, *part),
         ExprKind::Arithmetic { first, rest } => {
             signed_of(exprs, *first) && all_signed(exprs, rest.as_slice())

@@ -8,8 +8,10 @@ use Rattle.vh_nodes.specs.declared.expr.Link.{Link}
 use Rattle.vh_nodes.specs.declared.expr.ExprNode.{ExprNode}
 use Rattle.vh_nodes.specs.declared.expr.Logic.{Logic}
 use Rattle.vh_nodes.specs.declared.expr.Shift.{Shift}
-use Rattle.vh_nodes.specs.Fits.{fits_kind}
-use Rattle.vh_nodes.specs.Widths.{width_of, widest, summed, operands, kind_width}
+use Rattle.vh_nodes.specs.declared.expr.Access.TheVariants as access
+use Rattle.vh_nodes.specs.Fits.{fits_kind, fits_word, fits_select}
+use Rattle.vh_nodes.proofs.FitsLemmas.{and_left, and_right}
+use Rattle.vh_nodes.specs.Widths.{width_of, widest, summed, operands, kind_width, object_width}
 use Rattle.vh_nodes.proofs.WidthsLemmas.{widest-first}
 use Rattle.vh_logic.specs.declared.vector.TheConstants.{MAX_WIDTH}
 use Rattle.vh_logic.specs.Parts.{resized, concatenation}
@@ -18,6 +20,7 @@ use Rattle.vh_eval.specs.Operators.{of_digit, arithmetic_of, shift_of, compariso
 use Rattle.vh_eval.specs.Value.{Valuation, value_below, node_value, alone}
 use Rattle.vh_eval.specs.Ready.{AreBefore}
 use Rattle.vh_eval.proofs.ReadyLemmas.{before_at, ready_before, ready_wide, number_before, before_behind, all_behind, first_before, rest_before, are_ready, summed_next, summed_behind, arithmetic_turn, shift_turn, comparison_turn, logic_turn, joined_turn}
+use Rattle.vh_eval.proofs.SelectsLemmas.{select_least, select_most}
 use Rattle.vh_eval.proofs.ValueLemmas.{value_step}
 use Rattle.vh_eval.proofs.evaluation.+eval.Goals as goal
 
@@ -131,6 +134,29 @@ own_in-logic_in-requires t c =
         c.requires.known,
         rw c.as_slice-in-Logic.ensures
             (rest_before c.args.e c.in-Logic.first (operands c.in-Logic.rest) fits),
+      ),
+    )
+
+pub own_in-chosen_in-v-requires : goal.own_in-chosen_in-v-requires
+own_in-chosen_in-v-requires t c =
+    let fits = subst (λ (k : ExprKind). fits_kind c.args.d.now.objects c.args.d.now.precision c.args.e k ≡ true) c.in-Selected.is c.requires.fits in
+    let x = c.in-Selected.x in
+    (omega arith, (c.requires.known, and_left (fits_word c.args.d.now.objects c.args.e access.Read x.of.object x.of.word) (fits_select c.args.e x.select) fits))
+
+pub own_in-select_in-requires : goal.own_in-select_in-requires
+own_in-select_in-requires t c =
+    let fits = subst (λ (k : ExprKind). fits_kind c.args.d.now.objects c.args.d.now.precision c.args.e k ≡ true) c.in-Selected.is c.requires.fits in
+    let least = subst (λ (k : ExprKind). 1 ≤ kind_width c.args.d.now.exprs c.args.d.now.objects k) c.in-Selected.is c.requires.least in
+    let small = subst (λ (k : ExprKind). kind_width c.args.d.now.exprs c.args.d.now.objects k ≤ MAX_WIDTH) c.in-Selected.is c.requires.small in
+    let x = c.in-Selected.x in
+    let width = object_width c.args.d.now.objects x.of.object in (
+      omega arith,
+      (
+        c.requires.known,
+        (
+          and_right (fits_word c.args.d.now.objects c.args.e access.Read x.of.object x.of.word) (fits_select c.args.e x.select) fits,
+          (select_least width x.select least, select_most width x.select small),
+        ),
       ),
     )
 

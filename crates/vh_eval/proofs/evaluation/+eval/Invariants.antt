@@ -18,6 +18,9 @@ decreases-truth_in l = 8 * l.e + 6
 abbrev pub decreases-chosen_in : goal.decreases-chosen_in
 decreases-chosen_in l = 8 * l.e
 
+abbrev pub decreases-select_in : goal.decreases-select_in
+decreases-select_in l = 8 * l.e
+
 abbrev pub decreases-arithmetic_in : goal.decreases-arithmetic_in
 decreases-arithmetic_in l = 8 * l.e
 
