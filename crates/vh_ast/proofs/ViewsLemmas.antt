@@ -12,7 +12,7 @@ use Rattle.vh_ast.specs.declared.name.Part.TheVariants as part
 use Rattle.vh_ast.specs.declared.name.Esel.{Esel}
 use Rattle.vh_ast.specs.declared.name.Sel.{Sel}
 use Rattle.vh_ast.specs.declared.name.Sel.TheVariants as sel
-use Rattle.vh_ast.specs.declared.expr.Prim.TheVariants as prim
+use Rattle.vh_ast.specs.declared.expr.Primary.TheVariants as prim
 use Rattle.vh_ast.specs.declared.expr.Link.{Link}
 use Rattle.vh_ast.specs.declared.expr.ExprForm.{ExprForm}
 use Rattle.vh_ast.specs.declared.expr.ExprForm.TheVariants as form
@@ -110,7 +110,7 @@ place_of-expr_tree e = rw fold_out-Expr refl
 
 -- a name with a select behind it
 pub expr_tree-Name : (place : Place) (n : Name Expr) (s : Option (Sel Expr)) →
-    expr_tree (at_place place (form.Prim (prim.Name n s))) ≡ expr place (named (name_tree n) (sel_tree s))
+    expr_tree (at_place place (form.Primary (prim.Name n s))) ≡ expr place (named (name_tree n) (sel_tree s))
 expr_tree-Name place =
     by_parts (λ a b. expr place (named a b)) (λ n s. fold-roll-Expr _ _ _)
     (by_name _ _
@@ -124,7 +124,7 @@ expr_tree-Name place =
 
 -- a call
 pub expr_tree-Call : (place : Place) (n : Name Expr) (arguments : List Expr) →
-    expr_tree (at_place place (form.Prim (prim.Call n arguments)))
+    expr_tree (at_place place (form.Primary (prim.Call n arguments)))
     ≡ expr place (call (name_tree n) (exprs (map expr_tree arguments)))
 expr_tree-Call place =
     by_parts (λ a b. expr place (call a (exprs b))) (λ n s. fold-roll-Expr _ _ _)

@@ -8,8 +8,8 @@ use Rattle.vh_ast.specs.declared.name.Part.{Part}
 use Rattle.vh_ast.specs.declared.name.Part.TheVariants as part
 use Rattle.vh_ast.specs.declared.name.Sel.{Sel}
 use Rattle.vh_ast.specs.declared.name.Sel.TheVariants as sel
-use Rattle.vh_ast.specs.declared.expr.Prim.{Prim}
-use Rattle.vh_ast.specs.declared.expr.Prim.TheVariants as prim
+use Rattle.vh_ast.specs.declared.expr.Primary.{Primary}
+use Rattle.vh_ast.specs.declared.expr.Primary.TheVariants as prim
 use Rattle.vh_ast.specs.declared.expr.Link.{Link}
 use Rattle.vh_ast.specs.declared.expr.ExprForm.{ExprForm}
 use Rattle.vh_ast.specs.declared.expr.ExprForm.TheVariants as form
@@ -107,7 +107,7 @@ abbrev pub link_layer : Link ExprTree → Binary × ExprTree
 link_layer l = (l.operator, l.operand)
 
 -- One layer of an expression of the code (own).
-abbrev pub prim_layer : Prim ExprTree → ExprFormTree
+abbrev pub prim_layer : Primary ExprTree → ExprFormTree
 prim_layer (prim.Number n) = number n
 prim_layer (prim.Text bytes) = text bytes
 prim_layer (prim.Name n s) = named (name_by same n) (sel_by same s)
@@ -118,7 +118,7 @@ prim_layer (prim.Concat parts) = concat (exprs parts)
 prim_layer (prim.Repeat count parts) = repeat count (exprs parts)
 
 abbrev pub form_layer : ExprForm ExprTree → ExprFormTree
-form_layer (form.Prim p) = prim_layer p
+form_layer (form.Primary p) = prim_layer p
 form_layer (form.Unary operator operand) = unary operator operand
 form_layer (form.Chain first more) = chain first (links (map link_layer more))
 form_layer (form.Choice test holds fails) = choice test holds fails

@@ -9,7 +9,7 @@ use vh_base::{Bytes, NoMemory, Place};
 
 /// `prim`, over expressions `E` (IEEE 1364-2005, 5.2 and Annex A.8.4).
 #[derive(Drop)]
-pub enum Prim<E> {
+pub enum Primary<E> {
     /// `NUMBER`
     Number(Number),
     /// `STRING`, after its escapes.
@@ -38,7 +38,7 @@ pub struct Link<E> {
 /// What an expression is.
 #[derive(Drop)]
 pub enum ExprForm<E> {
-    Prim(Prim<E>),
+    Primary(Primary<E>),
     /// A unary operator before its operand.
     Unary(Unary, Boxed<E>),
     /// Operators of one precedence, which group to the left: the first operand, and each operator
@@ -70,7 +70,7 @@ impl Expr {
         ensures { expr_tree result ≡ named_at (name_tree name) (sel_tree sel) }
     {
         let place = name.first.id.place;
-        let form = ExprForm::Prim(Prim::Name(name, sel));
+        let form = ExprForm::Primary(Primary::Name(name, sel));
         Expr { place, form }
     }
 
@@ -79,7 +79,7 @@ impl Expr {
         ensures { expr_tree result ≡ Expressions.called (name_tree name) (map expr_tree arguments) }
     {
         let place = name.first.id.place;
-        let form = ExprForm::Prim(Prim::Call(name, arguments));
+        let form = ExprForm::Primary(Primary::Call(name, arguments));
         Expr { place, form }
     }
 

@@ -30,7 +30,7 @@ mod token;
 
 pub use data_type::{DataType, NetType, Range, Variable};
 pub use declared::{Assigned, Decl, Init, Net, Var, VarPart};
-pub use expr::{Expr, ExprForm, Link, Prim};
+pub use expr::{Expr, ExprForm, Link, Primary};
 pub use instance::{Conn, Conns, Gate, GateType, Inst};
 pub use item::{Gblock, Item, ItemForm, ParameterWord, Plain, ProcessWord};
 pub use module::{Module, Source};

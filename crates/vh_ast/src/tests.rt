@@ -7,7 +7,7 @@ ghost use Rattle.vh_ast.specs.Views.{expr_tree, stmt_tree, else_tree, item_tree,
 
 use crate::{
     Assigned, Binary, CaseWord, Citem, Expr, ExprForm, Gblock, Id, Item, ItemForm, Labels, Link,
-    Lv, LvPart, Name, Number, Prim, Simple, Step, Stmt, StmtForm, Unary,
+    Lv, LvPart, Name, Number, Primary, Simple, Step, Stmt, StmtForm, Unary,
 };
 use sqlite_items::{Boxed, Items};
 use std::alloc::Global;
@@ -53,7 +53,7 @@ fn zero(column: u32) -> Expr {
     };
     Expr {
         place: at(column),
-        form: ExprForm::Prim(Prim::Number(number)),
+        form: ExprForm::Primary(Primary::Number(number)),
     }
 }
 
@@ -118,7 +118,7 @@ fn a_sum_of_a_million_operands(rt: HostRuntime) -> Result<(), Fail> {
 #[test]
 fn one_operand_is_no_chain(rt: HostRuntime) -> Result<(), Fail> {
     let sum = sum_of(rt.alloc(), 1)?;
-    assert!(rt; matches!(sum.form, ExprForm::Prim(_)));
+    assert!(rt; matches!(sum.form, ExprForm::Primary(_)));
     Ok(())
 }
 
@@ -176,7 +176,7 @@ fn bracketed(alloc: Global, depth: u32) -> Result<Expr, NoMemory> {
     for _ in 0..depth {
         inner = Expr {
             place: at(1),
-            form: ExprForm::Prim(Prim::Paren(Boxed::new(alloc, inner)?)),
+            form: ExprForm::Primary(Primary::Paren(Boxed::new(alloc, inner)?)),
         };
     }
     Ok(inner)
