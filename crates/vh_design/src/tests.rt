@@ -607,7 +607,14 @@ fn selects_have_their_own_width(rt: HostRuntime) -> Result<(), Fail> {
     assert!(rt; stands(alloc, number(64, false), 64, false)?);
     assert!(rt; stands(alloc, ExprKind::Selected(all_of(STEP, None)), 8, true)?);
     assert!(rt; stands(alloc, ExprKind::Selected(all_of(W, None)), 8, false)?);
-    assert!(rt; stands(alloc, ExprKind::Selected(all_of(MEM, Some(READ_Q))), 4, true)?);
+    assert!(rt;
+        stands(
+            alloc,
+            ExprKind::Selected(all_of(MEM, Some(READ_Q))),
+            4,
+            true
+        )?
+    );
     assert!(rt; stands(alloc, bit(Q, None, ONE), 1, false)?);
     assert!(rt; stands(alloc, bit(MEM, Some(READ_Q), ONE), 1, false)?);
     assert!(rt; stands(alloc, slice(W, None, 3), 3, false)?);

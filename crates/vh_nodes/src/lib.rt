@@ -24,8 +24,8 @@ pub use expr::{
     Select, Selected, Shift, Unary,
 };
 pub use fits::{
-    MOST_UNIT, body_number, fits_driver, fits_node, fits_object, fits_selected, has_body, is_before,
-    is_disable_target_at, is_event_at, is_forcible_at, is_memory_at, is_named_block_at,
+    MOST_UNIT, body_number, fits_driver, fits_node, fits_object, fits_selected, has_body,
+    is_before, is_disable_target_at, is_event_at, is_forcible_at, is_memory_at, is_named_block_at,
     is_routine_at, is_scope_at, is_system_function_at, is_system_task_at, is_unit, is_variable_at,
     is_vector_at, is_width, lowest_of, same_sign,
 };
