@@ -4,12 +4,12 @@ ghost use Rattle.vh_logic.specs.Vector.{width_of as digits_in};
 ghost use Rattle.vh_logic.specs.Number.{integer_of};
 ghost use Rattle.vh_logic.specs.Reduce.{truth_of};
 ghost use Rattle.vh_nodes.specs.declared.expr.Access.{Access};
-ghost use Rattle.vh_nodes.specs.Fits.{fits_kind, fits_word, fits_select};
-ghost use Rattle.vh_nodes.specs.Widths.{width_of, signed_of, kind_width, is_reduction, operands, summed, select_width};
+ghost use Rattle.vh_nodes.specs.Fits.{fits_kind, fits_word, fits_select, fits_selected};
+ghost use Rattle.vh_nodes.specs.Widths.{width_of, signed_of, kind_width, is_reduction, operands, summed, select_width, selected_width};
 ghost use Rattle.vh_eval.specs.Operators.{choice_of};
 ghost use Rattle.vh_eval.specs.Ready.{AreReady, AreBefore};
 ghost use Rattle.vh_eval.specs.Selects.{address_of};
-ghost use Rattle.vh_eval.specs.Value.{value_of, value_below, kind_value, own_value, unary_value, alone, whole, word_or_x, chosen_at, select_value, arithmetic_chain, shift_chain, comparison_chain, compared, compared_all, logic_chain, joined};
+ghost use Rattle.vh_eval.specs.Value.{value_of, value_below, kind_value, own_value, unary_value, alone, whole, word_or_x, chosen_at, select_value, selected_value, arithmetic_chain, shift_chain, comparison_chain, compared, compared_all, logic_chain, joined};
 
 use crate::operators::{
     arithmetic, choice, comparison, is_reduction, logic, marked, of_digit, reduction, repeated,
@@ -18,7 +18,7 @@ use crate::operators::{
 use crate::selects::{address_of, selected, sliced};
 use vh_base::{ExprId, ObjId, Object};
 use vh_design::{
-    Arithmetic, Chosen, Comparison, Design, ExprKind, Link, Logic, Select, Shift, Unary,
+    Arithmetic, Chosen, Comparison, Design, ExprKind, Link, Logic, Select, Selected, Shift, Unary,
 };
 use vh_logic::{Digit, Vec4, concat, resize, truth};
 use vh_store::Store;
@@ -38,6 +38,7 @@ pub fn eval(d: &Design, s: &Store, e: ExprId, width: u32, signed: bool) -> Vec4
 
 // The same, by the expressions below any number that is greater.
 #[cycle(eval)]
+#[inline(always)]
 fn value_in(d: &Design, s: &Store, e: ExprId, width: u32, signed: bool) -> Vec4
     requires known { e < length (d.now).exprs }
     requires wide { width_of (d.now).exprs e ≤ width }
@@ -71,6 +72,7 @@ fn truth_in(d: &Design, s: &Store, e: ExprId) -> Digit
 }
 
 // A whole object.
+#[inline(always)]
 fn whole(s: &Store, object: ObjId) -> Vec4
     ensures { result ≡ whole s.now object }
 {
@@ -81,6 +83,7 @@ fn whole(s: &Store, object: ObjId) -> Vec4
 }
 
 // The word of a memory at an index; x where it has none there.
+#[inline(never)]
 fn word(d: &Design, s: &Store, memory: ObjId, index: &Vec4) -> Vec4
     requires { memory < length (d.now).objects }
     ensures { result ≡ word_or_x (address_of (integer_of index.now)) (d.now).objects s.now memory }
@@ -136,6 +139,19 @@ fn select_in(d: &Design, s: &Store, e: ExprId, v: Vec4, select: &Select) -> Vec4
     }
 }
 
+// What an expression reads of an object or a word.
+#[cycle(eval)]
+fn selected_in(d: &Design, s: &Store, e: ExprId, x: &Selected) -> Vec4
+    requires known { e < length (d.now).exprs }
+    requires fits { fits_selected (d.now).objects e Access.Read x.now ≡ true }
+    requires least { 1 ≤ selected_width (d.now).objects x.now }
+    requires small { selected_width (d.now).objects x.now ≤ MAX_WIDTH }
+    ensures { result ≡ selected_value (value_below e d.now s.now) d.now s.now x.now }
+{
+    let v = chosen_in(d, s, e, &x.of);
+    select_in(d, s, e, v, &x.select)
+}
+
 // Operators whose operands have the width and the sign around them, on a value.
 #[cycle(eval)]
 fn arithmetic_in(d: &Design, s: &Store, e: ExprId, v: Vec4, rest: &[Link<Arithmetic>]) -> Vec4
@@ -157,6 +173,7 @@ fn arithmetic_in(d: &Design, s: &Store, e: ExprId, v: Vec4, rest: &[Link<Arithme
 
 // Shifts and powers of a value; each operand stands alone.
 #[cycle(eval)]
+#[inline(never)]
 fn shift_in(d: &Design, s: &Store, e: ExprId, v: Vec4, rest: &[Link<Shift>]) -> Vec4
     requires known { e < length (d.now).exprs }
     requires parts { AreBefore e (operands rest.now) }
@@ -212,6 +229,7 @@ fn compared_further(
 
 // A chain of comparisons.
 #[cycle(eval)]
+#[inline(never)]
 fn comparison_in(
     d: &Design,
     s: &Store,
@@ -234,6 +252,7 @@ fn comparison_in(
 
 // Whether operands are true, from a digit on.
 #[cycle(eval)]
+#[inline(never)]
 fn logic_in(d: &Design, s: &Store, e: ExprId, digit: Digit, rest: &[Link<Logic>]) -> Digit
     requires known { e < length (d.now).exprs }
     requires parts { AreBefore e (operands rest.now) }
@@ -248,6 +267,7 @@ fn logic_in(d: &Design, s: &Store, e: ExprId, digit: Digit, rest: &[Link<Logic>]
 
 // A concatenation: a value with further parts below it.
 #[cycle(eval)]
+#[inline(never)]
 fn joined_in(d: &Design, s: &Store, e: ExprId, v: Vec4, rest: &[ExprId]) -> Vec4
     requires known { e < length (d.now).exprs }
     requires parts { AreBefore e rest.now }
@@ -263,6 +283,7 @@ fn joined_in(d: &Design, s: &Store, e: ExprId, v: Vec4, rest: &[ExprId]) -> Vec4
 
 // An operator on one operand.
 #[cycle(eval)]
+#[inline(never)]
 fn unary_in(d: &Design, s: &Store, op: Unary, part: ExprId, width: u32, signed: bool) -> Vec4
     requires known { part < length (d.now).exprs }
     requires wide { is_reduction op ≡ false → width_of (d.now).exprs part ≤ width }
@@ -282,6 +303,7 @@ fn unary_in(d: &Design, s: &Store, op: Unary, part: ExprId, width: u32, signed: 
 
 // `?:`.
 #[cycle(eval)]
+#[inline(never)]
 fn choice_in(
     d: &Design,
     s: &Store,
@@ -311,7 +333,8 @@ fn choice_in(
 
 // The value of a kind of expression, by those of its parts.
 #[cycle(eval)]
-fn kind_in(d: &Design, s: &Store, e: ExprId, kind: &ExprKind, width: u32, signed: bool) -> Vec4
+#[inline(never)]
+fn composed_in(d: &Design, s: &Store, e: ExprId, kind: &ExprKind, width: u32, signed: bool) -> Vec4
     requires known { e < length (d.now).exprs }
     requires fits { fits_kind (d.now).objects (d.now).precision e kind.now ≡ true }
     requires least { 1 ≤ kind_width (d.now).exprs (d.now).objects kind.now }
@@ -347,8 +370,34 @@ fn kind_in(d: &Design, s: &Store, e: ExprId, kind: &ExprKind, width: u32, signed
     }
 }
 
+// The same; a literal and a whole object without a further call.
+#[cycle(eval)]
+#[inline(always)]
+fn kind_in(d: &Design, s: &Store, e: ExprId, kind: &ExprKind, width: u32, signed: bool) -> Vec4
+    requires known { e < length (d.now).exprs }
+    requires fits { fits_kind (d.now).objects (d.now).precision e kind.now ≡ true }
+    requires least { 1 ≤ kind_width (d.now).exprs (d.now).objects kind.now }
+    requires wide { kind_width (d.now).exprs (d.now).objects kind.now ≤ width }
+    requires small { width ≤ MAX_WIDTH }
+    ensures value { result ≡ kind_value (value_below e d.now s.now) d.now s.now e kind.now width signed }
+    ensures width { digits_in result ≡ width }
+    ensures signed { result.signed ≡ signed }
+{
+    match kind {
+        ExprKind::Literal(v) => resize(v, width, signed),
+        ExprKind::Selected(
+            Selected {
+                of: Chosen { object, word: None },
+                select: Select::Whole,
+            },
+        ) => resize(&whole(s, *object), width, signed),
+        _ => composed_in(d, s, e, kind, width, signed),
+    }
+}
+
 // The value of a kind that the context only widens.
 #[cycle(eval)]
+#[inline(never)]
 fn own_in(d: &Design, s: &Store, e: ExprId, kind: &ExprKind) -> Vec4
     requires known { e < length (d.now).exprs }
     requires fits { fits_kind (d.now).objects (d.now).precision e kind.now ≡ true }
@@ -358,10 +407,7 @@ fn own_in(d: &Design, s: &Store, e: ExprId, kind: &ExprKind) -> Vec4
 {
     match kind {
         ExprKind::Literal(v) => *v,
-        ExprKind::Selected(x) => {
-            let v = chosen_in(d, s, e, &x.of);
-            select_in(d, s, e, v, &x.select)
-        }
+        ExprKind::Selected(x) => selected_in(d, s, e, x),
         ExprKind::Comparison { first, rest } => {
             of_digit(comparison_in(d, s, e, *first, rest.as_slice()))
         }

@@ -79,8 +79,8 @@ joined_in-concat-v-requires t c =
     let is = ap (width_of c.args.d.now.exprs) c.part-item.is in
     omega (arith, fits, is, c.alone_in.ensures.width)
 
-pub kind_in-value_in-v-requires : goal.kind_in-value_in-v-requires
-kind_in-value_in-v-requires t c =
+pub composed_in-value_in-v-requires : goal.composed_in-value_in-v-requires
+composed_in-value_in-v-requires t c =
     let fits = subst (λ (k : ExprKind). fits_kind c.args.d.now.objects c.args.d.now.precision c.args.e k ≡ true) c.in-Arithmetic.is c.requires.fits in
     let wide : widest c.args.d.now.exprs (width_of c.args.d.now.exprs c.in-Arithmetic.first) (operands c.in-Arithmetic.rest) ≤ c.args.width =
     subst (λ (k : ExprKind). kind_width c.args.d.now.exprs c.args.d.now.objects k ≤ c.args.width) c.in-Arithmetic.is c.requires.wide in
@@ -88,8 +88,8 @@ kind_in-value_in-v-requires t c =
     let before = first_before c.args.e c.in-Arithmetic.first _ fits in
     (omega arith, (omega arith, (omega (arith, first, wide), c.requires.small)))
 
-pub kind_in-arithmetic_in-requires : goal.kind_in-arithmetic_in-requires
-kind_in-arithmetic_in-requires t c =
+pub composed_in-arithmetic_in-requires : goal.composed_in-arithmetic_in-requires
+composed_in-arithmetic_in-requires t c =
     let fits = subst (λ (k : ExprKind). fits_kind c.args.d.now.objects c.args.d.now.precision c.args.e k ≡ true) c.in-Arithmetic.is c.requires.fits in
     let wide : widest c.args.d.now.exprs (width_of c.args.d.now.exprs c.in-Arithmetic.first) (operands c.in-Arithmetic.rest) ≤ c.args.width =
     subst (λ (k : ExprKind). kind_width c.args.d.now.exprs c.args.d.now.objects k ≤ c.args.width) c.in-Arithmetic.is c.requires.wide in (
@@ -101,8 +101,8 @@ kind_in-arithmetic_in-requires t c =
       ),
     )
 
-pub kind_in-shift_in-requires : goal.kind_in-shift_in-requires
-kind_in-shift_in-requires t c =
+pub composed_in-shift_in-requires : goal.composed_in-shift_in-requires
+composed_in-shift_in-requires t c =
     let fits = subst (λ (k : ExprKind). fits_kind c.args.d.now.objects c.args.d.now.precision c.args.e k ≡ true) c.in-Shift.is c.requires.fits in (
       omega arith,
       (
@@ -137,25 +137,21 @@ own_in-logic_in-requires t c =
       ),
     )
 
-pub own_in-chosen_in-v-requires : goal.own_in-chosen_in-v-requires
-own_in-chosen_in-v-requires t c =
-    let fits = subst (λ (k : ExprKind). fits_kind c.args.d.now.objects c.args.d.now.precision c.args.e k ≡ true) c.in-Selected.is c.requires.fits in
-    let x = c.in-Selected.x in
-    (omega arith, (c.requires.known, and_left (fits_word c.args.d.now.objects c.args.e access.Read x.of.object x.of.word) (fits_select c.args.e x.select) fits))
+pub selected_in-chosen_in-v-requires : goal.selected_in-chosen_in-v-requires
+selected_in-chosen_in-v-requires t c =
+    let x = c.args.x.now in
+    (omega arith, (c.requires.known, and_left (fits_word c.args.d.now.objects c.args.e access.Read x.of.object x.of.word) (fits_select c.args.e x.select) c.requires.fits))
 
-pub own_in-select_in-requires : goal.own_in-select_in-requires
-own_in-select_in-requires t c =
-    let fits = subst (λ (k : ExprKind). fits_kind c.args.d.now.objects c.args.d.now.precision c.args.e k ≡ true) c.in-Selected.is c.requires.fits in
-    let least = subst (λ (k : ExprKind). 1 ≤ kind_width c.args.d.now.exprs c.args.d.now.objects k) c.in-Selected.is c.requires.least in
-    let small = subst (λ (k : ExprKind). kind_width c.args.d.now.exprs c.args.d.now.objects k ≤ MAX_WIDTH) c.in-Selected.is c.requires.small in
-    let x = c.in-Selected.x in
+pub selected_in-select_in-requires : goal.selected_in-select_in-requires
+selected_in-select_in-requires t c =
+    let x = c.args.x.now in
     let width = object_width c.args.d.now.objects x.of.object in (
       omega arith,
       (
         c.requires.known,
         (
-          and_right (fits_word c.args.d.now.objects c.args.e access.Read x.of.object x.of.word) (fits_select c.args.e x.select) fits,
-          (select_least width x.select least, select_most width x.select small),
+          and_right (fits_word c.args.d.now.objects c.args.e access.Read x.of.object x.of.word) (fits_select c.args.e x.select) c.requires.fits,
+          (select_least width x.select c.requires.least, select_most width x.select c.requires.small),
         ),
       ),
     )
