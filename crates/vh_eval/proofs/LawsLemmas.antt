@@ -1,5 +1,5 @@
 -- Lemmas on `specs/Laws.antt`: the value of a kind is the same by any two ways to value the expressions before it.
-use Rattle.std.proofs.Common.{◌≡◌, ◌∙◌, ◌<◌, ◌&&◌, ℕ, List, [], ◌∷◌, length, Bool, true, false, if◌then◌else◌, max, nat_lt, Option, None, Some, slice_get, refl, sym, ap, arith}
+use Rattle.std.proofs.Common.{◌≡◌, ◌∙◌, ◌<◌, ◌&&◌, ℕ, List, [], ◌∷◌, length, Bool, true, false, if◌then◌else◌, max, nat_lt, Option, None, Some, refl, sym, ap, arith}
 use Rattle.std.proofs.lemmas.Bool.{ltb-true}
 use Rattle.std.proofs.lemmas.Option.{slice_get_within}
 use Rattle.vh_logic.specs.declared.digits.Digit.{Digit}
@@ -24,7 +24,6 @@ use Rattle.vh_nodes.specs.Kinds.{is_memory}
 use Rattle.vh_nodes.specs.Widths.{width_of, signed_of, operands, is_reduction}
 use Rattle.vh_nodes.proofs.FitsLemmas.{and_left, and_right}
 use Rattle.vh_design.specs.Shape.{Shape}
-use Rattle.vh_design.specs.Validity.{IsValid}
 use Rattle.vh_design.proofs.ValidityLemmas.{node_kind}
 use Rattle.vh_store.specs.Contents.{Contents}
 use Rattle.vh_eval.specs.Laws.{HasValueOfParts}

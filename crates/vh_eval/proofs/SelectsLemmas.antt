@@ -14,7 +14,7 @@ use Rattle.vh_nodes.specs.Widths.{select_width}
 use Rattle.vh_eval.specs.Selects.{digits_above, digits_below}
 
 -- A number is below the power of two of its digits.
-value_most : (d : Digit) → digit_value d ≤ 1
+pub value_most : (d : Digit) → digit_value d ≤ 1
 value_most Zero = omega arith
 value_most One = omega arith
 value_most X = omega arith

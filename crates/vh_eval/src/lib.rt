@@ -16,6 +16,7 @@ mod selects;
 
 pub use evaluation::eval;
 pub use laws::eval_laws;
+pub use selects::integer;
 
 #[cfg(test)]
 mod tests;

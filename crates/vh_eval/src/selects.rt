@@ -25,8 +25,8 @@ fn integer_at(number: Plane, width: u32, signed: bool) -> i128
     size
 }
 
-// The integer of an index, by its sign.
-fn index_of(v: &Vec4) -> Option<i128>
+/// The integer that a value stands for, by its sign; none where a digit is x or z (IEEE 1364-2005, 4.3).
+pub fn integer(v: &Vec4) -> Option<i128>
     ensures value { result ≡ integer_of v.now }
     ensures below { IfSome result (λ z. z <ℤ pos (2 ^ 64)) }
     ensures above { IfSome result (λ z. neg_ℤ (pos (2 ^ 64)) <ℤ z) }
@@ -39,7 +39,7 @@ fn index_of(v: &Vec4) -> Option<i128>
 pub(crate) fn address_of(index: &Vec4) -> Option<u32>
     ensures { result ≡ address_of (integer_of index.now) }
 {
-    u32::try_from(index_of(index)?).ok()
+    u32::try_from(integer(index)?).ok()
 }
 
 // The place of an index.
@@ -137,7 +137,7 @@ pub(crate) fn selected(v: &Vec4, range: Range, up: bool, index: &Vec4, width: u3
     ensures value { result ≡ selected (v.now).digits range up (integer_of index.now) width }
     ensures width { width_of result ≡ width }
 {
-    let Some(index) = index_of(index) else {
+    let Some(index) = integer(index) else {
         return unknown(width);
     };
     let lowest = lowest_index(range, up, index, width);

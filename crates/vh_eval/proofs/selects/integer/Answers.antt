@@ -1,6 +1,6 @@
 use Rattle.std.proofs.Common.{◌∙◌, sym}
 use Rattle.vh_eval.proofs.SelectsLemmas.{known_below}
-use Rattle.vh_eval.proofs.selects.index_of.Goals as goal
+use Rattle.vh_eval.proofs.selects.integer.Goals as goal
 
 pub integer_at-requires-clause-bound : goal.integer_at-requires-clause-bound
 integer_at-requires-clause-bound c =

@@ -1,0 +1,6 @@
+-- What each conversion of a format shows of a value
+pub mod Texts
+-- Which conversions a format has, and what stands between them
+pub mod Formats
+-- The text of a display call
+pub mod Calls

@@ -1,0 +1,2 @@
+-- The scopes around an object
+pub mod NamesLemmas
