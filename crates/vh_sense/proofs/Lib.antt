@@ -1,0 +1,4 @@
+pub mod EdgesLemmas
+pub mod FollowsLemmas
+pub mod ReadsLemmas
+pub mod ViewsLemmas

@@ -1,0 +1,2 @@
+-- What the definitions mean.
+use Rattle.std.specs.Prelude.{◌≡◌, ℕ, true, Some}
