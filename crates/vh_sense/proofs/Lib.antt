@@ -2,3 +2,4 @@ pub mod EdgesLemmas
 pub mod FollowsLemmas
 pub mod ReadsLemmas
 pub mod ViewsLemmas
+pub mod SensitivityLemmas

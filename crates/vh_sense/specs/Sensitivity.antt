@@ -39,13 +39,13 @@ is_above (Some a) p = nat_lt a p
 abbrev pub next_woken : Sensitivity → Change → Option ℕ → Option ℕ
 next_woken s c after = find (is_above after) (woken s c)
 
--- A process waits, for nothing else any more.
-abbrev pub with_wait : ℕ → ℕ → Sensitivity → Sensitivity
-with_wait p w s = record s { waiting = insert_entry nat_cmp s.waiting p w }
-
 -- A process waits for nothing any more.
 abbrev pub without_wait : ℕ → Sensitivity → Sensitivity
 without_wait p s = record s { waiting = remove_entry (is_at (nat_cmp p)) s.waiting }
+
+-- A process waits for this, and for nothing else any more.
+abbrev pub with_wait : ℕ → ℕ → Sensitivity → Sensitivity
+with_wait p w s = record s { waiting = insert_entry nat_cmp (without_wait p s).waiting p w }
 
 -- Nor does one that was woken.
 abbrev pub after_woken : Option ℕ → Sensitivity → Sensitivity

@@ -134,10 +134,9 @@ fn watch(watchers: &mut [Watchers], terms: &[Term], p: u64) -> Result<(), NoMemo
     ensures none { OnErr result (SetsTo false (names terms.now) p watchers.old watchers.new) }
 {
     for term in terms {
-        let put = put_process(watchers, object_of(term), p);
-        if put.is_err() {
+        if let Err(fault) = put_process(watchers, object_of(term), p) {
             unwatch(watchers, terms, p);
-            return put;
+            return Err(fault);
         }
     }
     Ok(())
@@ -161,11 +160,13 @@ pub(crate) fn enter(
 {
     let terms = waits[number as usize].terms.as_slice();
     watch(watchers, terms, p)?;
-    if waiting.insert(p, number).is_err() {
-        unwatch(watchers, terms, p);
-        return Err(NoMemory);
+    match waiting.insert(p, number) {
+        Ok(_) => Ok(()),
+        Err(_) => {
+            unwatch(watchers, terms, p);
+            Err(NoMemory)
+        }
     }
-    Ok(())
 }
 
 // A process waits for nothing any more.
