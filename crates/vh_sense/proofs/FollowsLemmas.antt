@@ -141,8 +141,12 @@ other_more ns o before is i x within same gives =
 pub code_more : (cs : List Code) (i : ℕ) (c : Code) → slice_get cs i ≡ Some c
     → flat_map statements_in (take (i + 1) cs) ≡ flat_map statements_in (take i cs) ++ statements_in c
 code_more cs i c at =
-    rw (take_more cs i c (slice_get_within cs i c at), get_or_from_slice_get cs i c c at,
-      flat_map-append statements_in (take i cs) (c ∷ []), append-nil (statements_in c)) refl
+    rw (
+      take_more cs i c (slice_get_within cs i c at),
+      get_or_from_slice_get cs i c c at,
+      flat_map-append statements_in (take i cs) (c ∷ []),
+      append-nil (statements_in c),
+    ) refl
 
 numbers_more : (n : ℕ) → range_with_len 0 (n + 1) ≡ range_with_len 0 n ++ n ∷ []
 numbers_more n =
@@ -176,7 +180,7 @@ statement_there os ns ds l c i x f fits at is =
     let places = length c.instructions in
     let each = list_all (fits_instruction os ns ds l places (length c.blocks)) c.instructions in
     let instructions : each ≡ true =
-        and_right (fits_goes places c.start) each (and_left (fits_goes places c.start && each) (fits_blocks os places c.blocks) fits) in
+    and_right (fits_goes places c.start) each (and_left (fits_goes places c.start && each) (fits_blocks os places c.blocks) fits) in
     let one = all_at (fits_instruction os ns ds l places (length c.blocks)) c.instructions i x instructions at in
     let a = fits_operation os ns ds l places x.operation in let b = fits_goes places x.next in
     let d = before l.stmts x.stmt in let e = before (length c.blocks) x.block in

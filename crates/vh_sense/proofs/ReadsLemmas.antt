@@ -48,7 +48,7 @@ parts_fit os precision e (kind.Logic first rest) fits = fits
 parts_fit os precision e (kind.Choice condition a b) fits =
     both_true (and_left (nat_lt condition e) (nat_lt a e) (and_left (nat_lt condition e && nat_lt a e) (nat_lt b e) fits))
     (both_true (and_right (nat_lt condition e) (nat_lt a e) (and_left (nat_lt condition e && nat_lt a e) (nat_lt b e) fits))
-      (only (nat_lt b e) (and_right (nat_lt condition e && nat_lt a e) (nat_lt b e) fits)))
+    (only (nat_lt b e) (and_right (nat_lt condition e && nat_lt a e) (nat_lt b e) fits)))
 parts_fit os precision e (kind.Join first rest) fits = fits
 parts_fit os precision e (kind.Repeat count part) fits = only (nat_lt part e) fits
 parts_fit os precision e (kind.Marked part signed) fits = only (nat_lt part e) fits
@@ -66,8 +66,11 @@ part_before os precision e k i part fits at =
 pub one_part_more : (test : ℕ → Bool) (own : Bool) (parts : List ℕ) (i part : ℕ) → slice_get parts i ≡ Some part
     → (own || list_any test (take (i + 1) parts)) ≡ ((own || list_any test (take i parts)) || test part)
 one_part_more test own parts i part at =
-    rw (take_more parts i part (slice_get_within parts i part at), get_or_from_slice_get parts i part part at,
-      list_any-append test (take i parts) (part ∷ [])) (grouped own (list_any test (take i parts)) (test part))
+    rw (
+      take_more parts i part (slice_get_within parts i part at),
+      get_or_from_slice_get parts i part part at,
+      list_any-append test (take i parts) (part ∷ []),
+    ) (grouped own (list_any test (take i parts)) (test part))
   where
     grouped : (a b c : Bool) → (a || (b || (c || false))) ≡ ((a || b) || c)
     grouped true b c = refl

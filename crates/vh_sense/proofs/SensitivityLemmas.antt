@@ -120,17 +120,17 @@ least_woken waits sets es ks c after holds sorted there =
     let left = filter met (filter range ks) in
     let right = filter (is_above after) (filter met (keys_of es)) in
     let same : (q : ℕ) → contains nat_cmp (set_of left) q ≡ contains nat_cmp (set_of right) q = λ q.
-        passes met q (filter range ks) ∙ ap (λ (b : Bool). b && met q) (passes range q ks)
-        ∙ ap (λ (b : Bool). (list_any (is_at (nat_cmp q)) ks && b) && met q) (above_is after q)
-        ∙ same_by (list_any (is_at (nat_cmp q)) ks) (list_any (is_at (nat_cmp q)) (keys_of es)) (is_above after q) (met q)
-          (λ h. sym (there q) ∙ holds.watched c.object.id q ∙ met_names waits (lookup (is_at (nat_cmp q)) es) c h)
-          (λ h. sym (is_some-lookup (is_at (nat_cmp q)) es) ∙ met_waits waits (lookup (is_at (nat_cmp q)) es) c h)
-        ∙ ap (λ (b : Bool). b && is_above after q) (sym (passes met q (keys_of es)))
-        ∙ sym (passes (is_above after) q (filter met (keys_of es))) in
+    passes met q (filter range ks) ∙ ap (λ (b : Bool). b && met q) (passes range q ks)
+    ∙ ap (λ (b : Bool). (list_any (is_at (nat_cmp q)) ks && b) && met q) (above_is after q)
+    ∙ same_by (list_any (is_at (nat_cmp q)) ks) (list_any (is_at (nat_cmp q)) (keys_of es)) (is_above after q) (met q)
+    (λ h. sym (there q) ∙ holds.watched c.object.id q ∙ met_names waits (lookup (is_at (nat_cmp q)) es) c h)
+    (λ h. sym (is_some-lookup (is_at (nat_cmp q)) es) ∙ met_waits waits (lookup (is_at (nat_cmp q)) es) c h)
+    ∙ ap (λ (b : Bool). b && is_above after q) (sym (passes met q (keys_of es)))
+    ∙ sym (passes (is_above after) q (filter met (keys_of es))) in
     let both : left ≡ right = btree_set_from_contains nat_cmp_total (set_of left) (set_of right)
-        (IsStrictlySortedBy-filter nat_cmp met (filter range ks) (IsStrictlySortedBy-filter nat_cmp range ks sorted))
-        (IsStrictlySortedBy-filter nat_cmp (is_above after) (filter met (keys_of es)) (IsStrictlySortedBy-filter nat_cmp met (keys_of es) holds.sorted))
-        same exact_unsigned in
+    (IsStrictlySortedBy-filter nat_cmp met (filter range ks) (IsStrictlySortedBy-filter nat_cmp range ks sorted))
+    (IsStrictlySortedBy-filter nat_cmp (is_above after) (filter met (keys_of es)) (IsStrictlySortedBy-filter nat_cmp met (keys_of es) holds.sorted))
+    same exact_unsigned in
     find_first met (filter range ks) ∙ ap (λ (t : List ℕ). slice_get t 0) both
     ∙ sym (find_first (is_above after) (filter met (keys_of es)))
 
@@ -166,7 +166,7 @@ woken_there now waits ws readers sets given es o s c after answer is holds same 
     found
     ∙ ap (λ (l : List WaitInfo). find (λ (p : ℕ). is_met_at l (lookup (is_at (nat_cmp p)) es) c) (keys_between nat_cmp (above after) Unbounded s)) same
     ∙ least_woken waits sets es s.keys c after holds sorted
-      (λ p. ap (λ (f : Option (BTreeSet ℕ)). is_in f p) (set_there sets given o c.object.id s sames there within at))
+    (λ p. ap (λ (f : Option (BTreeSet ℕ)). is_in f p) (set_there sets given o c.object.id s sames there within at))
     ∙ ap (λ (n : Sensitivity). next_woken n c after) is
 
 pub woken_past : (now : Sensitivity) (waits : List WaitInfo) (readers : List (List Follow)) (sets given : List (BTreeSet ℕ)) (es : List (ℕ × ℕ))

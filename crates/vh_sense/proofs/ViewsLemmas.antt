@@ -133,9 +133,9 @@ names_of_wait waits number w ts o within is =
 -- A process is found by its own number.
 pub at_is : (p q : ℕ) → is_at (nat_cmp p) q ≡ (p == q)
 at_is p q = elim (eqb_tells p q) [
-    | inl e ↦ ap is_eq (sym (nat_cmp_is p q Equal e.1)) ∙ sym e.0
-    | inr e ↦ rw e.0 (by_order (nat_lt p q))
-  ]
+  | inl e ↦ ap is_eq (sym (nat_cmp_is p q Equal e.1)) ∙ sym e.0
+  | inr e ↦ rw e.0 (by_order (nat_lt p q))
+]
   where
     by_order : (b : Bool) → is_eq (cond b Less (cond false Equal Greater)) ≡ false
     by_order true = refl
@@ -172,18 +172,18 @@ pub holds-entered : (waits : List WaitInfo) (old new : List (BTreeSet ℕ)) (es 
     → ((q : ℕ) → lookup (is_at (nat_cmp q)) fs ≡ cond (is_at (nat_cmp p) q) (Some number) (lookup (is_at (nat_cmp q)) es))
     → IsStrictlySortedBy nat_cmp (keys_of fs) → Holds waits new fs
 holds-entered waits old new es fs p number ts holds there same sets size free updates sorted = record {
-    sorted = sorted;
-    placed = λ w o h. rw size (holds.placed w o h);
-    known = λ q w h. known_by (is_at (nat_cmp p) q) q w (sym (updates q) ∙ h);
-    watched = λ o q.
-        sets o q ∙ ap (λ (x : Bool). set_to true (names ts o) p q x) (holds.watched o q)
-        ∙ put_by (p == q) (names ts o) (names_at waits (lookup (is_at (nat_cmp q)) es) o)
-          (λ e. ap (λ (n : ℕ). names_at waits (lookup (is_at (nat_cmp n)) es) o) (sym (eqb-true p q e)) ∙ ap (λ (l : Option ℕ). names_at waits l o) free)
-        ∙ ap (λ (x : Bool). if p == q then x else names_at waits (lookup (is_at (nat_cmp q)) es) o) (sym (same o))
-        ∙ sym (names_by waits o (p == q) (Some number) (lookup (is_at (nat_cmp q)) es))
-        ∙ ap (λ (b : Bool). names_at waits (cond b (Some number) (lookup (is_at (nat_cmp q)) es)) o) (sym (at_is p q))
-        ∙ ap (λ (l : Option ℕ). names_at waits l o) (sym (updates q));
-  }
+  sorted = sorted;
+  placed = λ w o h. rw size (holds.placed w o h);
+  known = λ q w h. known_by (is_at (nat_cmp p) q) q w (sym (updates q) ∙ h);
+  watched = λ o q.
+      sets o q ∙ ap (λ (x : Bool). set_to true (names ts o) p q x) (holds.watched o q)
+      ∙ put_by (p == q) (names ts o) (names_at waits (lookup (is_at (nat_cmp q)) es) o)
+      (λ e. ap (λ (n : ℕ). names_at waits (lookup (is_at (nat_cmp n)) es) o) (sym (eqb-true p q e)) ∙ ap (λ (l : Option ℕ). names_at waits l o) free)
+      ∙ ap (λ (x : Bool). if p == q then x else names_at waits (lookup (is_at (nat_cmp q)) es) o) (sym (same o))
+      ∙ sym (names_by waits o (p == q) (Some number) (lookup (is_at (nat_cmp q)) es))
+      ∙ ap (λ (b : Bool). names_at waits (cond b (Some number) (lookup (is_at (nat_cmp q)) es)) o) (sym (at_is p q))
+      ∙ ap (λ (l : Option ℕ). names_at waits l o) (sym (updates q));
+}
   where
     known_by : (b : Bool) (q w : ℕ) → cond b (Some number) (lookup (is_at (nat_cmp q)) es) ≡ Some w → w < length waits
     known_by true q w h = let e : number ≡ w = cc in omega (arith, there, e)
@@ -196,17 +196,17 @@ pub holds-left : (waits : List WaitInfo) (old new : List (BTreeSet ℕ)) (es fs 
     → ((q : ℕ) → lookup (is_at (nat_cmp q)) fs ≡ cond (is_at (nat_cmp p) q) None (lookup (is_at (nat_cmp q)) es))
     → IsStrictlySortedBy nat_cmp (keys_of fs) → Holds waits new fs
 holds-left waits old new es fs p number ts holds waited same sets size updates sorted = record {
-    sorted = sorted;
-    placed = λ w o h. rw size (holds.placed w o h);
-    known = λ q w h. known_by (is_at (nat_cmp p) q) q w (sym (updates q) ∙ h);
-    watched = λ o q.
-        sets o q ∙ ap (λ (x : Bool). set_to false (names ts o) p q x) (holds.watched o q)
-        ∙ taken_by (p == q) (names ts o) (names_at waits (lookup (is_at (nat_cmp q)) es) o)
-          (λ e. ap (λ (n : ℕ). names_at waits (lookup (is_at (nat_cmp n)) es) o) (sym (eqb-true p q e)) ∙ ap (λ (l : Option ℕ). names_at waits l o) waited ∙ same o)
-        ∙ sym (names_by waits o (p == q) None (lookup (is_at (nat_cmp q)) es))
-        ∙ ap (λ (b : Bool). names_at waits (cond b None (lookup (is_at (nat_cmp q)) es)) o) (sym (at_is p q))
-        ∙ ap (λ (l : Option ℕ). names_at waits l o) (sym (updates q));
-  }
+  sorted = sorted;
+  placed = λ w o h. rw size (holds.placed w o h);
+  known = λ q w h. known_by (is_at (nat_cmp p) q) q w (sym (updates q) ∙ h);
+  watched = λ o q.
+      sets o q ∙ ap (λ (x : Bool). set_to false (names ts o) p q x) (holds.watched o q)
+      ∙ taken_by (p == q) (names ts o) (names_at waits (lookup (is_at (nat_cmp q)) es) o)
+      (λ e. ap (λ (n : ℕ). names_at waits (lookup (is_at (nat_cmp n)) es) o) (sym (eqb-true p q e)) ∙ ap (λ (l : Option ℕ). names_at waits l o) waited ∙ same o)
+      ∙ sym (names_by waits o (p == q) None (lookup (is_at (nat_cmp q)) es))
+      ∙ ap (λ (b : Bool). names_at waits (cond b None (lookup (is_at (nat_cmp q)) es)) o) (sym (at_is p q))
+      ∙ ap (λ (l : Option ℕ). names_at waits l o) (sym (updates q));
+}
   where
     known_by : (b : Bool) (q w : ℕ) → cond b None (lookup (is_at (nat_cmp q)) es) ≡ Some w → w < length waits
     known_by true q w h = cc
@@ -217,14 +217,14 @@ pub holds-free : (waits : List WaitInfo) (old new : List (BTreeSet ℕ)) (es : L
     → Holds waits old es → SetsTo false (names ts) p old new → length new ≡ length old → lookup (is_at (nat_cmp p)) es ≡ None
     → Holds waits new es
 holds-free waits old new es p ts holds sets size free = record {
-    sorted = holds.sorted;
-    placed = λ w o h. rw size (holds.placed w o h);
-    known = holds.known;
-    watched = λ o q.
-        sets o q ∙ ap (λ (x : Bool). set_to false (names ts o) p q x) (holds.watched o q)
-        ∙ free_by (p == q) (names ts o) (names_at waits (lookup (is_at (nat_cmp q)) es) o)
-          (λ e. ap (λ (n : ℕ). names_at waits (lookup (is_at (nat_cmp n)) es) o) (sym (eqb-true p q e)) ∙ ap (λ (l : Option ℕ). names_at waits l o) free);
-  }
+  sorted = holds.sorted;
+  placed = λ w o h. rw size (holds.placed w o h);
+  known = holds.known;
+  watched = λ o q.
+      sets o q ∙ ap (λ (x : Bool). set_to false (names ts o) p q x) (holds.watched o q)
+      ∙ free_by (p == q) (names ts o) (names_at waits (lookup (is_at (nat_cmp q)) es) o)
+      (λ e. ap (λ (n : ℕ). names_at waits (lookup (is_at (nat_cmp n)) es) o) (sym (eqb-true p q e)) ∙ ap (λ (l : Option ℕ). names_at waits l o) free);
+}
 
 -- Nobody waits before all.
 empty_in : (found : Option (BTreeSet ℕ)) (p : ℕ) → ((s : BTreeSet ℕ) → found ≡ Some s → s.keys ≡ []) → is_in found p ≡ false
@@ -235,13 +235,13 @@ pub holds-nobody : (waits : List WaitInfo) (sets : List (BTreeSet ℕ)) (es : Li
     → ((w o : ℕ) → names_at waits (Some w) o ≡ true → o < length sets) → IsStrictlySortedBy nat_cmp (keys_of es)
     → Holds waits sets es
 holds-nobody waits sets es empty none placed sorted = record {
-    sorted = sorted;
-    placed = placed;
-    known = λ p w h. absurd (let e : None ≡ Some w = ap (λ (l : List (ℕ × ℕ)). lookup (is_at (nat_cmp p)) l) (sym none) ∙ h in cc);
-    watched = λ o p.
-        empty_in (slice_get sets o) p (empty o)
-        ∙ ap (λ (l : List (ℕ × ℕ)). names_at waits (lookup (is_at (nat_cmp p)) l) o) (sym none);
-  }
+  sorted = sorted;
+  placed = placed;
+  known = λ p w h. absurd (let e : None ≡ Some w = ap (λ (l : List (ℕ × ℕ)). lookup (is_at (nat_cmp p)) l) (sym none) ∙ h in cc);
+  watched = λ o p.
+      empty_in (slice_get sets o) p (empty o)
+      ∙ ap (λ (l : List (ℕ × ℕ)). names_at waits (lookup (is_at (nat_cmp p)) l) o) (sym none);
+}
 
 -- The waits of a valid design name its objects.
 term_inside : (os : List ObjectInfo) (t : Term) → fits_term os t ≡ true → object_of t < length os

@@ -35,22 +35,13 @@ fn count_parts(kind: &ExprKind) -> usize
     ensures { result ≡ length (parts_of kind.now) }
 {
     match kind {
-        ExprKind::Literal(_) | ExprKind::Whole(_) | ExprKind::Time { .. } | ExprKind::SysCall(_) => 0,
+        ExprKind::Literal(_) | ExprKind::Whole(_) | ExprKind::Time { .. } | ExprKind::SysCall(_) =>
+            0,
         ExprKind::Word { .. } => 1,
         ExprKind::Bit { of, .. } | ExprKind::Indexed { of, .. } => {
-            if of.word.is_some() {
-                2
-            } else {
-                1
-            }
+            if of.word.is_some() { 2 } else { 1 }
         }
-        ExprKind::Slice { of, .. } => {
-            if of.word.is_some() {
-                1
-            } else {
-                0
-            }
-        }
+        ExprKind::Slice { of, .. } => { if of.word.is_some() { 1 } else { 0 } }
         ExprKind::Unary { .. } | ExprKind::Repeat { .. } | ExprKind::Marked { .. } => 1,
         ExprKind::Arithmetic { rest, .. } => rest.as_slice().len() + 1,
         ExprKind::Shift { rest, .. } => rest.as_slice().len() + 1,
@@ -67,14 +58,15 @@ fn part_at(kind: &ExprKind, k: usize) -> Option<ExprId>
     ensures { result ≡ slice_get (parts_of kind.now) k }
 {
     match kind {
-        ExprKind::Literal(_) | ExprKind::Whole(_) | ExprKind::Time { .. } | ExprKind::SysCall(_) => None,
+        ExprKind::Literal(_) | ExprKind::Whole(_) | ExprKind::Time { .. } | ExprKind::SysCall(_) =>
+            None,
         ExprKind::Word { index, .. } => one_at(*index, None, k),
         ExprKind::Bit { of, index, .. } => one_at(*index, of.word, k),
         ExprKind::Indexed { of, base, .. } => one_at(*base, of.word, k),
         ExprKind::Slice { of, .. } => first_at(of.word, k),
-        ExprKind::Unary { part, .. } | ExprKind::Repeat { part, .. } | ExprKind::Marked { part, .. } => {
-            one_at(*part, None, k)
-        }
+        ExprKind::Unary { part, .. }
+        | ExprKind::Repeat { part, .. }
+        | ExprKind::Marked { part, .. } => { one_at(*part, None, k) }
         ExprKind::Arithmetic { first, rest } => linked_at(*first, rest.as_slice(), k),
         ExprKind::Shift { first, rest } => linked_at(*first, rest.as_slice(), k),
         ExprKind::Comparison { first, rest } => linked_at(*first, rest.as_slice(), k),

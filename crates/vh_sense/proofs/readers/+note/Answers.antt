@@ -15,17 +15,17 @@ loop-k-init t c = λ o below.
       | in-Some+in_ok-put w ↦
           ap (λ rs. follows_at rs o) w.readers-is ∙ w.in_ok-put.ensures o (omega (arith, below, same))
           ∙ ap (λ b. noted b (follow_at c.args.key) (follows_at c.args.readers.now o))
-            (own_object o (object_in c.expr.result.now.kind) w.in-Some.object (sym c.object_in.ensures ∙ w.in-Some.is))
+          (own_object o (object_in c.expr.result.now.kind) w.in-Some.object (sym c.object_in.ensures ∙ w.in-Some.is))
       | in_default w ↦
           ap (λ rs. follows_at rs o) w.readers-is
           ∙ ap (λ b. noted b (follow_at c.args.key) (follows_at c.args.readers.now o))
-            (no_object o (object_in c.expr.result.now.kind) (sym c.object_in.ensures ∙ w.in_default.is))
+          (no_object o (object_in c.expr.result.now.kind) (sym c.object_in.ensures ∙ w.in_default.is))
     ]
 
 pub note-requires : goal.note-requires
 note-requires t c =
     let before : c.in-Some-part_at.part < c.args.e = part_before c.args.d.now.objects c.args.d.now.precision c.args.e c.expr.result.now.kind c.loop-k.k c.in-Some-part_at.part
-        c.expr.ensures.fits (sym c.part_at.ensures ∙ c.in-Some-part_at.is) in
+    c.expr.ensures.fits (sym c.part_at.ensures ∙ c.in-Some-part_at.is) in
     let r : c.args.e < length c.args.d.now.exprs = c.requires in
     (omega (arith, before, c.decreases), omega (arith, before, r))
 
@@ -42,12 +42,12 @@ loop-k-preserved t c = λ o below.
           ap (λ rs. follows_at rs o) w.readers-is ∙ w.in_ok-note.ensures e o before inside
           ∙ ap (λ fs. noted (reads_below e ns o part) (follow_at c.args.key) fs) (c.loop-k.invariant o inside)
           ∙ noted_twice (is_the o (object_in k) || list_any (reads_below e ns o) (take c.loop-k.k (parts_of k))) (reads_below e ns o part)
-            (follow_at c.args.key) (follows_at c.args.readers.now o)
+          (follow_at c.args.key) (follows_at c.args.readers.now o)
           ∙ ap (λ b. noted b (follow_at c.args.key) (follows_at c.args.readers.now o))
-            (sym (one_part_more (reads_below e ns o) (is_the o (object_in k)) (parts_of k) c.loop-k.k part at))
+          (sym (one_part_more (reads_below e ns o) (is_the o (object_in k)) (parts_of k) c.loop-k.k part at))
       | in_default-part_at w ↦
           absurd (part_there (parts_of k) c.loop-k.k (c.count_parts-k-end.result) c.count_parts-k-end.ensures c.loop-k-test.true
-            (sym c.part_at.ensures ∙ w.in_default-part_at.is))
+          (sym c.part_at.ensures ∙ w.in_default-part_at.is))
     ]
 
 pub returns : goal.returns
@@ -56,5 +56,5 @@ returns t c = λ k o above below.
     let kept : length c.loop-k.readers ≡ length c.match-object_in.readers = c.loop-k.auto.readers in
     c.loop-k.invariant o (omega (arith, below, same, kept))
     ∙ ap (λ b. noted b (follow_at c.args.key) (follows_at c.args.readers.now o))
-      (all_parts k c.args.d.now.exprs o c.args.e c.expr.result.now c.loop-k.k above c.expr.ensures.value
-        (rw (← c.count_parts-k-end.ensures) c.loop-k-test.false))
+    (all_parts k c.args.d.now.exprs o c.args.e c.expr.result.now c.loop-k.k above c.expr.ensures.value
+    (rw (← c.count_parts-k-end.ensures) c.loop-k-test.false))

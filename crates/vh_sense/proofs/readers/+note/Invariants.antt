@@ -13,4 +13,4 @@ invariant-loop-k l =
     (o : ℕ) → o < length l.readers
     → follows_at l.readers o
     ≡ noted (is_the o (object_in l.kind) || list_any (reads_below l.fn.e l.d.exprs o) (take l.k (parts_of l.kind)))
-      (follow_at l.key) (follows_at l.fn.readers o)
+    (follow_at l.key) (follows_at l.fn.readers o)

@@ -11,7 +11,7 @@ watch-requires c = λ o h.
 pub unwatch-requires : goal.unwatch-requires
 unwatch-requires c = λ o h.
     let below : o < length c.args.watchers.now = c.requires.holds.placed c.args.number o
-        (names_of_wait c.args.waits.now c.args.number c.index-waits-number.result c.as_slice-terms.result.now o c.requires.there c.as_slice-terms.ensures ∙ h) in
+    (names_of_wait c.args.waits.now c.args.number c.index-waits-number.result c.as_slice-terms.result.now o c.requires.there c.as_slice-terms.ensures ∙ h) in
     let kept : length c.watch.new.watchers ≡ length c.args.watchers.now = c.watch.auto.watchers in omega (arith, below, kept)
 
 pub returns-in-Ok-clause-holds : goal.returns-in-Ok-clause-holds
@@ -27,6 +27,6 @@ returns-in-Err-clause-holds c =
     let kept : length c.watch.new.watchers ≡ length old = c.watch.auto.watchers in
     let again : length c.unwatch.new.watchers ≡ length c.watch.new.watchers = c.unwatch.auto.watchers in
     let sets : SetsTo false (names ts) p old c.unwatch.new.watchers = λ o q.
-        c.unwatch.ensures o q ∙ ap (λ x. set_to false (names ts o) p q x) (c.in_ok-watch.ensures.added o q)
-        ∙ set_back (names ts o) (names ts o) p q (watches old o q) (λ h. h) in
+    c.unwatch.ensures o q ∙ ap (λ x. set_to false (names ts o) p q x) (c.in_ok-watch.ensures.added o q)
+    ∙ set_back (names ts o) (names ts o) p q (watches old o q) (λ h. h) in
     rw c.in-Err.ensures.err (holds-free c.args.waits.now old c.unwatch.new.watchers c.args.waiting.now.entries p ts c.requires.holds sets (omega (arith, kept, again)) c.requires.free)
