@@ -6,16 +6,17 @@ use Rattle.std.proofs.lemmas.List.Folds.{list_any-append}
 use Rattle.std.proofs.lemmas.Option.{get_or_from_slice_get, slice_get_within, slice_get-get_or}
 use Rattle.std.specs.Cmp.Derive.{both_true}
 use Rattle.std.specs.List.{list_all, list_any}
-use Rattle.vh_nodes.specs.declared.expr.Chosen.{Chosen}
+use Rattle.vh_nodes.specs.declared.expr.Access.TheVariants as access
 use Rattle.vh_nodes.specs.declared.expr.ExprKind.{ExprKind}
 use Rattle.vh_nodes.specs.declared.expr.ExprKind.TheVariants as kind
 use Rattle.vh_nodes.specs.declared.expr.ExprNode.{ExprNode}
 use Rattle.vh_nodes.specs.declared.object.ObjectInfo.{ObjectInfo}
-use Rattle.vh_nodes.specs.Fits.{fits_kind, fits_word, all_before, has_kind}
-use Rattle.vh_nodes.specs.Kinds.{is_memory, is_vector, is_function, is_variable}
-use Rattle.vh_nodes.specs.Widths.{operands}
+use Rattle.vh_nodes.specs.Fits.{fits_kind, all_before, has_kind}
+use Rattle.vh_nodes.specs.Kinds.{is_function, is_variable}
 use Rattle.vh_nodes.proofs.FitsLemmas.{and_left, and_right, only}
-use Rattle.vh_sense.specs.Reads.{object_in, address_in, parts_of, is_the, kind_reads, node_reads, reads_below}
+use Rattle.vh_design.specs.Laws.{parts_of}
+use Rattle.vh_design.proofs.LawsLemmas.{selected_before}
+use Rattle.vh_sense.specs.Reads.{object_in, is_the, node_reads, reads_below}
 
 -- Each element passes a test that all pass.
 pub all_at : {X : Type 0} (test : X → Bool) (xs : List X) (i : ℕ) (x : X) → list_all test xs ≡ true → slice_get xs i ≡ Some x → test x ≡ true
@@ -24,30 +25,19 @@ all_at {X} test (y ∷ ys) zero x all at =
     let same : y ≡ x = cc in ap test (sym same) ∙ and_left (test y) (list_all test ys) all
 all_at test (y ∷ ys) (suc i) x all at = all_at test ys i x (and_right (test y) (list_all test ys) all) at
 
--- The address of a word comes before.
-address_fits : (os : List ObjectInfo) (e o : ℕ) (at : Option ℕ) → fits_word os e o at ≡ true → all_before e (address_in at) ≡ true
-address_fits os e o None fits = refl
-address_fits os e o (Some at) fits = only (nat_lt at e) (and_right (has_kind is_memory os o) (nat_lt at e) fits)
-
+-- The parts come before.
 parts_fit : (os : List ObjectInfo) (precision e : ℕ) (k : ExprKind) → fits_kind os precision e k ≡ true → all_before e (parts_of k) ≡ true
 parts_fit os precision e (kind.Literal v) fits = refl
-parts_fit os precision e (kind.Whole o) fits = refl
-parts_fit os precision e (kind.Word m index) fits = only (nat_lt index e) (and_right (has_kind is_memory os m) (nat_lt index e) fits)
-parts_fit os precision e (kind.Bit of range index) fits =
-    both_true (and_right (fits_word os e of.object of.word) (nat_lt index e) fits)
-    (address_fits os e of.object of.word (and_left (fits_word os e of.object of.word) (nat_lt index e) fits))
-parts_fit os precision e (kind.Slice of range lowest width) fits = address_fits os e of.object of.word fits
-parts_fit os precision e (kind.Indexed up of range base width) fits =
-    both_true (and_right (fits_word os e of.object of.word) (nat_lt base e) fits)
-    (address_fits os e of.object of.word (and_left (fits_word os e of.object of.word) (nat_lt base e) fits))
+parts_fit os precision e (kind.Selected s) fits = selected_before os e access.Read s fits
 parts_fit os precision e (kind.Unary op part) fits = only (nat_lt part e) fits
 parts_fit os precision e (kind.Arithmetic first rest) fits = fits
 parts_fit os precision e (kind.Shift first rest) fits = fits
 parts_fit os precision e (kind.Comparison first rest) fits = fits
 parts_fit os precision e (kind.Logic first rest) fits = fits
 parts_fit os precision e (kind.Choice condition a b) fits =
-    both_true (and_left (nat_lt condition e) (nat_lt a e) (and_left (nat_lt condition e && nat_lt a e) (nat_lt b e) fits))
-    (both_true (and_right (nat_lt condition e) (nat_lt a e) (and_left (nat_lt condition e && nat_lt a e) (nat_lt b e) fits))
+    let both = and_left (nat_lt condition e && nat_lt a e) (nat_lt b e) fits in
+    both_true (and_left (nat_lt condition e) (nat_lt a e) both)
+    (both_true (and_right (nat_lt condition e) (nat_lt a e) both)
     (only (nat_lt b e) (and_right (nat_lt condition e && nat_lt a e) (nat_lt b e) fits)))
 parts_fit os precision e (kind.Join first rest) fits = fits
 parts_fit os precision e (kind.Repeat count part) fits = only (nat_lt part e) fits

@@ -1,21 +1,16 @@
 -- Which objects an expression reads; a memory counts with all its words. (IEEE 1364-2005, 5.2 and 9.3.2)
-use Rattle.std.specs.Prelude.{ℕ, zero, suc, Bool, true, false, ◌||◌, ◌==◌, List, [], ◌∷◌, Option, Some, None, length, slice_get}
+use Rattle.std.specs.Prelude.{ℕ, zero, suc, Bool, true, false, ◌||◌, ◌==◌, List, Option, Some, None, length, slice_get}
 use Rattle.std.specs.List.{list_any}
-use Rattle.vh_nodes.specs.declared.expr.Chosen.{Chosen}
 use Rattle.vh_nodes.specs.declared.expr.ExprKind.{ExprKind}
 use Rattle.vh_nodes.specs.declared.expr.ExprKind.TheVariants as kind
 use Rattle.vh_nodes.specs.declared.expr.ExprNode.{ExprNode}
-use Rattle.vh_nodes.specs.Widths.{operands}
+use Rattle.vh_design.specs.Laws.{parts_of}
 
--- The object that an expression itself reads, where it reads one: selects and words do. A call of a function
--- reads none beside its arguments; one of a user system function can't stand in a force or an assign.
+-- The object whose value an expression itself reads, where it reads one: whole, in part, or a word of it. A call of a
+-- function reads none beside its arguments; one of a user system function can't stand in a force or an assign.
 abbrev pub object_in : ExprKind → Option ℕ
 object_in (kind.Literal v) = None
-object_in (kind.Whole o) = Some o
-object_in (kind.Word memory index) = Some memory
-object_in (kind.Bit of range index) = Some of.object
-object_in (kind.Slice of range lowest width) = Some of.object
-object_in (kind.Indexed up of range base width) = Some of.object
+object_in (kind.Selected s) = Some s.of.object
 object_in (kind.Unary op e) = None
 object_in (kind.Arithmetic first rest) = None
 object_in (kind.Shift first rest) = None
@@ -28,32 +23,6 @@ object_in (kind.Marked e signed) = None
 object_in (kind.Time unit) = None
 object_in (kind.Call function result arguments) = None
 object_in (kind.SysCall o) = None
-
--- The address of the word that is selected from, where one is.
-abbrev pub address_in : Option ℕ → List ℕ
-address_in None = []
-address_in (Some at) = at ∷ []
-
--- The parts of an expression, a row for each kind.
-abbrev pub parts_of : ExprKind → List ℕ
-parts_of (kind.Literal v) = []
-parts_of (kind.Whole o) = []
-parts_of (kind.Word memory index) = index ∷ []
-parts_of (kind.Bit of range index) = index ∷ address_in of.word
-parts_of (kind.Slice of range lowest width) = address_in of.word
-parts_of (kind.Indexed up of range base width) = base ∷ address_in of.word
-parts_of (kind.Unary op e) = e ∷ []
-parts_of (kind.Arithmetic first rest) = first ∷ operands rest
-parts_of (kind.Shift first rest) = first ∷ operands rest
-parts_of (kind.Comparison first rest) = first ∷ operands rest
-parts_of (kind.Logic first rest) = first ∷ operands rest
-parts_of (kind.Choice condition a b) = condition ∷ a ∷ b ∷ []
-parts_of (kind.Join first rest) = first ∷ rest
-parts_of (kind.Repeat count e) = e ∷ []
-parts_of (kind.Marked e signed) = e ∷ []
-parts_of (kind.Time unit) = []
-parts_of (kind.Call function result arguments) = arguments
-parts_of (kind.SysCall o) = []
 
 -- Is the object this one?
 abbrev pub is_the : ℕ → Option ℕ → Bool

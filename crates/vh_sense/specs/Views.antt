@@ -1,6 +1,6 @@
 -- How contracts see what is inside: for each object the set of the statements that read it, and the set of the
 -- processes that wait on it. (own)
-use Rattle.std.specs.Prelude.{◌≡◌, ◌<◌, ℕ, Bool, true, false, not, ◌&&◌, ◌||◌, ◌==◌, if◌then◌else◌, List, [], map, filter, length, Option, Some, None, slice_get}
+use Rattle.std.specs.Prelude.{◌≡◌, ◌<◌, ℕ, Bool, true, false, not, ◌&&◌, ◌||◌, ◌==◌, if◌then◌else◌, List, [], ◌∷◌, map, filter, length, Option, Some, None, slice_get}
 use Rattle.std.specs.BTreeMap.{is_at}
 use Rattle.std.specs.BTreeSet.{BTreeSet, contains, insert_key}
 use Rattle.std.specs.List.{list_any, fold}
@@ -26,6 +26,11 @@ follow_at k = record { object = k.object; force = not k.assign; expr = k.expr }
 -- The statements in a set.
 abbrev pub follows_in : BTreeSet Key → List Follow
 follows_in s = map follow_at s.keys
+
+-- What is there of something that may be missing.
+abbrev pub one_of : Option ℕ → List ℕ
+one_of None = []
+one_of (Some e) = e ∷ []
 
 -- Does a term name the object?
 abbrev pub names : List Term → ℕ → Bool

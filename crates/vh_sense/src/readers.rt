@@ -2,16 +2,17 @@ ghost use Rattle.std.specs.Prelude.{◌≡◌, ◌<◌, ◌==◌, ℕ, List, [],
 ghost use Rattle.std.specs.List.{flat_map, range_with_len};
 ghost use Rattle.vh_nodes.specs.Widths.{operands};
 ghost use Rattle.vh_design.specs.Validity.{CodeFits, body_at};
-ghost use Rattle.vh_sense.specs.Reads.{object_in, address_in, parts_of, reads_below};
+ghost use Rattle.vh_design.specs.Laws.{select_exprs, selected_exprs, parts_of};
+ghost use Rattle.vh_sense.specs.Reads.{object_in, reads_below};
 ghost use Rattle.vh_sense.specs.Follows.{statements_in, statements_of_body, followers};
-ghost use Rattle.vh_sense.specs.Views.{follow_at, noted, follows_at, Gathers};
+ghost use Rattle.vh_sense.specs.Views.{one_of, follow_at, noted, follows_at, Gathers};
 
 use crate::follow::{Key, follow_of};
 use crate::sets::empty_sets;
 use std::alloc::Global;
 use std::collections::BTreeSet;
 use vh_base::{ExprId, NoMemory, ObjId, ProcId};
-use vh_design::{Code, Design, ExprKind, Link};
+use vh_design::{Code, Design, ExprKind, Link, Select, Selected};
 
 // The force and assign statements that read an object.
 pub(crate) type Readers = BTreeSet<Key, Global>;
@@ -21,12 +22,31 @@ fn object_in(kind: &ExprKind) -> Option<ObjId>
     ensures { result ≡ object_in kind.now }
 {
     match kind {
-        ExprKind::Whole(object) => Some(*object),
-        ExprKind::Word { memory, .. } => Some(*memory),
-        ExprKind::Bit { of, .. } | ExprKind::Slice { of, .. } | ExprKind::Indexed { of, .. } => {
-            Some(of.object)
-        }
+        ExprKind::Selected(selected) => Some(selected.of.object),
         _ => None,
+    }
+}
+
+// The index of a select, where it has one.
+fn index_of(select: &Select) -> Option<ExprId>
+    ensures { select_exprs select.now ≡ one_of result }
+{
+    match select {
+        Select::Bit { index, .. } => Some(*index),
+        Select::Indexed { base, .. } => Some(*base),
+        Select::Whole | Select::Slice { .. } => None,
+    }
+}
+
+// How many parts a select has.
+fn count_selected(selected: &Selected) -> usize
+    ensures { result ≡ length (selected_exprs selected.now) }
+{
+    let index = index_of(&selected.select);
+    match (selected.of.word, index) {
+        (None, None) => 0,
+        (Some(_), None) | (None, Some(_)) => 1,
+        (Some(_), Some(_)) => 2,
     }
 }
 
@@ -35,13 +55,8 @@ fn count_parts(kind: &ExprKind) -> usize
     ensures { result ≡ length (parts_of kind.now) }
 {
     match kind {
-        ExprKind::Literal(_) | ExprKind::Whole(_) | ExprKind::Time { .. } | ExprKind::SysCall(_) =>
-            0,
-        ExprKind::Word { .. } => 1,
-        ExprKind::Bit { of, .. } | ExprKind::Indexed { of, .. } => {
-            if of.word.is_some() { 2 } else { 1 }
-        }
-        ExprKind::Slice { of, .. } => { if of.word.is_some() { 1 } else { 0 } }
+        ExprKind::Literal(_) | ExprKind::Time { .. } | ExprKind::SysCall(_) => 0,
+        ExprKind::Selected(selected) => count_selected(selected),
         ExprKind::Unary { .. } | ExprKind::Repeat { .. } | ExprKind::Marked { .. } => 1,
         ExprKind::Arithmetic { rest, .. } => rest.as_slice().len() + 1,
         ExprKind::Shift { rest, .. } => rest.as_slice().len() + 1,
@@ -53,20 +68,27 @@ fn count_parts(kind: &ExprKind) -> usize
     }
 }
 
+// A part of a select.
+fn selected_at(selected: &Selected, k: usize) -> Option<ExprId>
+    ensures { result ≡ slice_get (selected_exprs selected.now) k }
+{
+    let index = index_of(&selected.select);
+    match selected.of.word {
+        Some(at) => one_at(at, index, k),
+        None => first_at(index, k),
+    }
+}
+
 // The part at a place.
 fn part_at(kind: &ExprKind, k: usize) -> Option<ExprId>
     ensures { result ≡ slice_get (parts_of kind.now) k }
 {
     match kind {
-        ExprKind::Literal(_) | ExprKind::Whole(_) | ExprKind::Time { .. } | ExprKind::SysCall(_) =>
-            None,
-        ExprKind::Word { index, .. } => one_at(*index, None, k),
-        ExprKind::Bit { of, index, .. } => one_at(*index, of.word, k),
-        ExprKind::Indexed { of, base, .. } => one_at(*base, of.word, k),
-        ExprKind::Slice { of, .. } => first_at(of.word, k),
+        ExprKind::Literal(_) | ExprKind::Time { .. } | ExprKind::SysCall(_) => None,
+        ExprKind::Selected(selected) => selected_at(selected, k),
         ExprKind::Unary { part, .. }
         | ExprKind::Repeat { part, .. }
-        | ExprKind::Marked { part, .. } => { one_at(*part, None, k) }
+        | ExprKind::Marked { part, .. } => one_at(*part, None, k),
         ExprKind::Arithmetic { first, rest } => linked_at(*first, rest.as_slice(), k),
         ExprKind::Shift { first, rest } => linked_at(*first, rest.as_slice(), k),
         ExprKind::Comparison { first, rest } => linked_at(*first, rest.as_slice(), k),
@@ -91,14 +113,14 @@ fn part_at(kind: &ExprKind, k: usize) -> Option<ExprId>
 
 // The only one of a part that may be missing.
 fn first_at(part: Option<ExprId>, k: usize) -> Option<ExprId>
-    ensures { result ≡ slice_get (address_in part) k }
+    ensures { result ≡ slice_get (one_of part) k }
 {
     if k == 0 { part } else { None }
 }
 
 // One of two parts, of which the second may be missing.
 fn one_at(first: ExprId, second: Option<ExprId>, k: usize) -> Option<ExprId>
-    ensures { result ≡ slice_get (first ∷ address_in second) k }
+    ensures { result ≡ slice_get (first ∷ one_of second) k }
 {
     if k == 0 {
         Some(first)

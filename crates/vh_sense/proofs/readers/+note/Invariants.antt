@@ -1,6 +1,7 @@
 use Rattle.std.proofs.Common.{◌≡◌, ◌<◌, ◌||◌, ℕ, length, take}
 use Rattle.std.specs.List.{list_any}
-use Rattle.vh_sense.specs.Reads.{object_in, parts_of, is_the, reads_below}
+use Rattle.vh_sense.specs.Reads.{object_in, is_the, reads_below}
+use Rattle.vh_design.specs.Laws.{parts_of}
 use Rattle.vh_sense.specs.Views.{follow_at, noted, follows_at}
 use Rattle.vh_sense.proofs.readers.+note.Given as goal
 
