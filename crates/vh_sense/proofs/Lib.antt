@@ -3,3 +3,4 @@ pub mod FollowsLemmas
 pub mod ReadsLemmas
 pub mod ViewsLemmas
 pub mod SensitivityLemmas
+pub mod LawsLemmas

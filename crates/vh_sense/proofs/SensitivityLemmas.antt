@@ -65,7 +65,7 @@ find_first {X} test (x ∷ xs) = by_test (find_first test xs) (test x)
     by_test rest false = rest
 
 -- The processes above one.
-less_is : (a q : ℕ) → is_lt (nat_cmp a q) ≡ nat_lt a q
+pub less_is : (a q : ℕ) → is_lt (nat_cmp a q) ≡ nat_lt a q
 less_is a q = by_test (nat_lt a q) (a == q)
   where
     by_test : (b e : Bool) → is_lt (cond b Less (cond e Equal Greater)) ≡ b
@@ -85,7 +85,7 @@ above_is (Some a) q = only_one (is_lt (nat_cmp a q)) ∙ less_is a q
 member : List ℕ → ℕ → Bool
 member xs q = is_member (eq_by_cmp nat_cmp) xs q
 
-passes : (test : ℕ → Bool) (q : ℕ) (xs : List ℕ) → list_any (is_at (nat_cmp q)) (filter test xs) ≡ (list_any (is_at (nat_cmp q)) xs && test q)
+pub passes : (test : ℕ → Bool) (q : ℕ) (xs : List ℕ) → list_any (is_at (nat_cmp q)) (filter test xs) ≡ (list_any (is_at (nat_cmp q)) xs && test q)
 passes test q xs =
     is_member-filter (eq_by_cmp_equiv nat_cmp_total) test q
     (λ x e. ap test (tells_apart exact_unsigned q x e)) xs
@@ -106,7 +106,7 @@ same_by false true false false some here = refl
 same_by false false true false some here = refl
 same_by false false false false some here = refl
 
-abbrev set_of : List ℕ → BTreeSet ℕ
+abbrev pub set_of : List ℕ → BTreeSet ℕ
 set_of ks = record { keys = ks }
 
 pub least_woken : (waits : List WaitInfo) (sets : List (BTreeSet ℕ)) (es : List (ℕ × ℕ)) (ks : List ℕ) (c : Change) (after : Option ℕ)

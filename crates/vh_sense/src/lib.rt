@@ -11,10 +11,15 @@
 
 mod edges;
 mod follow;
+mod laws;
 mod readers;
 mod sense;
 mod sets;
 mod watchers;
 
 pub use follow::Follow;
+pub use laws::sense_laws;
 pub use sense::Sense;
+
+#[cfg(test)]
+mod tests;
