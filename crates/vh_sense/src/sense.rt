@@ -81,13 +81,13 @@ impl Sense {
         ensures waits { OnOk result (self.new ≡ with_wait p terms self.old) }
         ensures none { OnErr result (self.new ≡ without_wait p self.old) }
     {
-        let p = p.number();
-        leave(&self.waits, &mut self.watchers, &mut self.waiting, p);
+        let process = p.number();
+        leave(&self.waits, &mut self.watchers, &mut self.waiting, process);
         enter(
             &self.waits,
             &mut self.watchers,
             &mut self.waiting,
-            p,
+            process,
             terms.number(),
         )
     }

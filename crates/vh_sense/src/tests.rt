@@ -317,6 +317,7 @@ fn waits_come_and_go(rt: HostRuntime) -> Result<(), Fail> {
     let edge = change(Q, None, [O, O, O, O], [O, O, O, I]);
     assert!(rt; woken(&mut sense, &edge) == 4);
     assert!(rt; woken(&mut sense, &event) == 1);
+    let mut sense = Sense::new(alloc, &d)?;
     waits_for(&mut sense, 9, 0)?;
     waits_for(&mut sense, 8, 0)?;
     let first = sense.next_woken(&edge, Some(ProcId::new(8)));

@@ -8,6 +8,6 @@ pub returns-clause-waits : goal.returns-clause-waits
 returns-clause-waits c =
     on_ok_weaker c.enter.result
     (λ h. wait_is c.args.self.now c.self.inside.waits.items (map follows_in c.self.inside.readers.items) c.self.inside.waiting.entries
-    c.leave.new.waiting.entries c.enter.new.waiting.entries c.args.p c.number-p.result c.args.terms c.number.result
-    c.self.view_is c.leave.ensures.gone h c.number-p.ensures c.number.ensures)
+    c.leave.new.waiting.entries c.enter.new.waiting.entries c.args.p c.number-process.result c.args.terms c.number.result
+    c.self.view_is c.leave.ensures.gone h c.number-process.ensures c.number.ensures)
     c.enter.ensures.added
