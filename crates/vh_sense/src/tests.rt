@@ -1,4 +1,4 @@
-ghost use Rattle.std.specs.Prelude.{◌≤◌, ◌<◌, length};
+ghost use Rattle.std.specs.Prelude.{◌≤◌, ◌<◌, length, IfOk};
 
 use crate::{Follow, Sense, sense_laws};
 use std::alloc::Global;
@@ -249,12 +249,19 @@ fn all_wait(sense: &mut Sense) -> Result<(), NoMemory>
     waits_for(sense, 1, 0)
 }
 
+fn opened(alloc: Global, d: &Design) -> Result<Sense, NoMemory>
+    requires { 7 ≤ length d.now.waits }
+    ensures { IfOk result (λ s. 7 ≤ length s.waits) }
+{
+    Sense::new(alloc, d)
+}
+
 // Whom a change wakes of the seven processes; then nobody is left that it meets.
 fn wakes(alloc: Global, d: &Design, c: &Change) -> Result<Option<u64>, NoMemory> {
     if d.counts().waits < 7 {
         return Ok(None);
     }
-    let mut sense = Sense::new(alloc, d)?;
+    let mut sense = opened(alloc, d)?;
     all_wait(&mut sense)?;
     let all = woken(&mut sense, c);
     if sense.next_woken(c, None).is_some() {
@@ -309,7 +316,7 @@ fn waits_come_and_go(rt: HostRuntime) -> Result<(), Fail> {
     if d.counts().waits < 7 {
         rt.abort();
     }
-    let mut sense = Sense::new(alloc, &d)?;
+    let mut sense = opened(alloc, &d)?;
     all_wait(&mut sense)?;
     waits_for(&mut sense, 1, 5)?;
     sense.forget(ProcId::new(6));
@@ -317,7 +324,7 @@ fn waits_come_and_go(rt: HostRuntime) -> Result<(), Fail> {
     let edge = change(Q, None, [O, O, O, O], [O, O, O, I]);
     assert!(rt; woken(&mut sense, &edge) == 4);
     assert!(rt; woken(&mut sense, &event) == 1);
-    let mut sense = Sense::new(alloc, &d)?;
+    let mut sense = opened(alloc, &d)?;
     waits_for(&mut sense, 9, 0)?;
     waits_for(&mut sense, 8, 0)?;
     let first = sense.next_woken(&edge, Some(ProcId::new(8)));
