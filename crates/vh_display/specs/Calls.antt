@@ -1,12 +1,15 @@
 -- The text of a display call. (IEEE 1364-2005, 17.1)
-use Rattle.std.specs.Prelude.{ℕ, ◌-◌, ◌^◌, ◌++◌, List, [], ◌∷◌, Option, Some, None, slice_get}
+use Rattle.std.specs.Prelude.{ℕ, ◌-◌, ◌^◌, ◌++◌, List, [], ◌∷◌, Bool, false, Option, Some, None, slice_get}
+use Rattle.std.specs.List.{list_any}
 use Rattle.vh_text.specs.declared.radix.Radix.TheVariants as radix
 use Rattle.vh_code.specs.declared.show.ShowArg.{ShowArg}
 use Rattle.vh_code.specs.declared.show.ShowArg.TheVariants as arg
 use Rattle.vh_code.specs.declared.show.ShowCall.{ShowCall}
 use Rattle.vh_code.specs.declared.show.ShowTask.{ShowTask}
 use Rattle.vh_code.specs.declared.show.ShowTask.TheVariants as task
+use Rattle.vh_nodes.specs.declared.expr.ExprNode.{ExprNode}
 use Rattle.vh_design.specs.Shape.{Shape}
+use Rattle.vh_sense.specs.Reads.{reads}
 use Rattle.vh_store.specs.Contents.{Contents}
 use Rattle.vh_eval.specs.Value.{value_of, alone}
 use Rattle.vh_names.specs.Names.{full_name}
@@ -62,3 +65,12 @@ call_text d s c =
 
 abbrev pub shown_text : Shape → Contents → ℕ → List ℕ
 shown_text d s n = elim (slice_get d.shows n) [ None ↦ [] | Some c ↦ call_text d s c ]
+
+-- Does an argument of a display call read an object, or a word of it? (17.1.3)
+abbrev pub argument_reads : List ExprNode → ℕ → ShowArg → Bool
+argument_reads ns o arg.Empty = false
+argument_reads ns o (arg.Format format) = false
+argument_reads ns o (arg.Value e) = reads ns o e
+
+abbrev pub call_reads : Shape → ℕ → ℕ → Bool
+call_reads d n o = elim (slice_get d.shows n) [ None ↦ false | Some c ↦ list_any (argument_reads d.exprs o) c.args ]

@@ -1,15 +1,15 @@
 ghost use Rattle.std.specs.Prelude.{◌≡◌, ◌<◌, ◌≤◌, ◌++◌, ◌^◌, ◌-◌, [], ℕ, List, true, length, IfOk, OnOk};
-ghost use Rattle.std.specs.List.{list_all};
+ghost use Rattle.std.specs.List.{list_all, list_any};
 ghost use Rattle.std.specs.Option.{option_map};
 ghost use Rattle.vh_code.specs.Codes.{fits_arg};
 ghost use Rattle.vh_nodes.specs.declared.fits.TheConstants.{MOST_UNIT};
-ghost use Rattle.vh_display.specs.Calls.{shown_text, arguments_text, with_argument, converted, line_end};
+ghost use Rattle.vh_display.specs.Calls.{shown_text, arguments_text, with_argument, converted, line_end, argument_reads, call_reads};
 
 use crate::conversion::{Conversion, Form};
 use crate::format::front;
 use crate::texts::push_value;
 use std::alloc::Global;
-use vh_base::{Bytes, ExprId, NoMemory, ShowId};
+use vh_base::{Bytes, ExprId, NoMemory, ObjId, ShowId};
 use vh_design::{Design, ShowArg, ShowTask};
 use vh_eval::eval;
 use vh_names::full_name;
@@ -42,6 +42,39 @@ pub fn show(alloc: Global, d: &Design, s: &Store, call: ShowId) -> Result<Bytes,
     )?;
     push_line_end(&mut out, call.task)?;
     Ok(Bytes::new(out))
+}
+
+/// Whether an argument of a display call reads an object, or a word of it (IEEE 1364-2005, 17.1.3). It goes
+/// once over the arguments' expressions.
+pub fn reads(d: &Design, call: ShowId, o: ObjId) -> bool
+    requires { call < length (d.now).shows }
+    ensures { result ≡ call_reads d.now call o }
+{
+    one_reads(d, d.show_call(call).args.as_slice(), o)
+}
+
+// Whether one of these arguments does.
+fn one_reads(d: &Design, args: &[ShowArg], o: ObjId) -> bool
+    requires { list_all (fits_arg (length (d.now).exprs)) args.now ≡ true }
+    ensures { result ≡ list_any (argument_reads (d.now).exprs o) args.now }
+{
+    for arg in args {
+        if argument_reads(d, arg, o) {
+            return true;
+        }
+    }
+    false
+}
+
+// Whether this one does.
+fn argument_reads(d: &Design, arg: &ShowArg, o: ObjId) -> bool
+    requires { fits_arg (length (d.now).exprs) arg.now ≡ true }
+    ensures { result ≡ argument_reads (d.now).exprs o arg.now }
+{
+    match arg {
+        ShowArg::Value(e) => vh_sense::reads(d, *e, o),
+        ShowArg::Empty | ShowArg::Format(_) => false,
+    }
 }
 
 // How many times the precision a unit is.

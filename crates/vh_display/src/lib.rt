@@ -5,7 +5,8 @@
 //! them, other arguments as `%d`, and the end of the line. [`reads`] tells whether an argument reads
 //! an object. Want of memory is the one free answer.
 //!
-//! It stands on `vh_eval` for values, on `vh_text` for numbers, and on `vh_names` for `%m`.
+//! It stands on `vh_eval` for values, on `vh_text` for numbers, on `vh_names` for `%m`,
+//! and on `vh_sense` for what an expression reads.
 #![tactic(auto)]
 
 mod call;
@@ -15,4 +16,4 @@ mod format;
 mod tests;
 mod texts;
 
-pub use call::show;
+pub use call::{reads, show};

@@ -1,21 +1,26 @@
-use crate::show;
+use crate::{reads, show};
 use std::alloc::Global;
 use std::test::Fail;
 use vh_base::{Bytes, ExprId, NoMemory, ObjId, Sequence, ShowId};
 use vh_design::{
-    Design, Detail, ExprKind, ExprNode, Kind, Name, ObjectInfo, Parts, ShowArg, ShowCall, ShowTask,
+    Chosen, Design, Detail, ExprKind, ExprNode, Kind, Name, ObjectInfo, Parts, Select, Selected,
+    ShowArg, ShowCall, ShowTask,
 };
 use vh_logic::{Digit, Vec4};
 use vh_store::Store;
 use vh_text::read_literal;
 
-// A module `top` and a block `blk` in it, in units of 1,000 times the precision.
+// The register `q`.
+const Q: u32 = 2;
+
+// A module `top` with a block `blk` and a register, in units of 1,000 times the precision.
 fn objects(alloc: Global) -> Result<Vec<ObjectInfo>, NoMemory> {
     let mut all = Vec::new(alloc);
     let detail = Detail::Module(Name::from_slice(alloc, b"top")?);
     all.push(object(alloc, Kind::Module, b"top", None, detail)?)?;
     let scope = Some(ObjId::new(0));
     all.push(object(alloc, Kind::NamedBegin, b"blk", scope, Detail::Plain)?)?;
+    all.push(object(alloc, Kind::Reg, b"q", scope, Detail::Plain)?)?;
     Ok(all)
 }
 
@@ -46,19 +51,36 @@ fn literal(bytes: &[u8]) -> Vec4 {
     }
 }
 
-// An argument: a format in quotes, none for a point, or a number.
+// A number, or the register.
+fn node(field: &[u8]) -> ExprNode {
+    if field == b"q".as_slice() {
+        let of = Chosen {
+            object: ObjId::new(Q),
+            word: None,
+        };
+        let select = Select::Whole;
+        return ExprNode {
+            kind: ExprKind::Selected(Selected { of, select }),
+            width: 1,
+            signed: false,
+        };
+    }
+    let v = literal(field);
+    ExprNode {
+        width: v.width(),
+        signed: v.is_signed(),
+        kind: ExprKind::Literal(v),
+    }
+}
+
+// An argument: a format in quotes, none for a point, or a value.
 fn argument(alloc: Global, exprs: &mut Vec<ExprNode>, field: &[u8]) -> Result<ShowArg, NoMemory> {
     match field {
         [b'.'] => Ok(ShowArg::Empty),
         [b'"', format @ .., b'"'] => Ok(ShowArg::Format(Bytes::from_slice(alloc, format)?)),
         _ => {
-            let v = literal(field);
             let e = ExprId::new(u32::try_from(exprs.len()).unwrap_or(0));
-            exprs.push(ExprNode {
-                width: v.width(),
-                signed: v.is_signed(),
-                kind: ExprKind::Literal(v),
-            })?;
+            exprs.push(node(field))?;
             Ok(ShowArg::Value(e))
         }
     }
@@ -329,5 +351,22 @@ fn texts_of_calls(rt: HostRuntime) -> Result<(), Fail> {
         let shown = text(alloc, task, "\"a%0d\"\t3'd5")?.expect(&rt, "every rule is kept");
         assert!(rt; shown.as_slice() == wanted);
     }
+    Ok(())
+}
+
+// Whether a call reads an object.
+fn is_read(alloc: Global, fields: &str, o: u32) -> Result<bool, NoMemory> {
+    let Some(d) = design(alloc, ShowTask::Monitor, fields)? else {
+        return Ok(false);
+    };
+    Ok(d.counts().shows > 0 && reads(&d, ShowId::new(0), ObjId::new(o)))
+}
+
+#[test]
+fn a_call_reads_what_its_arguments_read(rt: HostRuntime) -> Result<(), Fail> {
+    let alloc = rt.alloc();
+    assert!(rt; is_read(alloc, "\"%b %b\"\t3'd5\tq", Q)?);
+    assert!(rt; !is_read(alloc, "\"%b %b\"\t3'd5\tq", 1)?);
+    assert!(rt; !is_read(alloc, "\"q\"\t.\t3'd5", Q)?);
     Ok(())
 }

@@ -18,6 +18,7 @@ mod sets;
 mod watchers;
 
 pub use follow::Follow;
+pub use readers::reads;
 pub use laws::sense_laws;
 pub use sense::Sense;
 

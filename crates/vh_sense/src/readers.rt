@@ -3,7 +3,7 @@ ghost use Rattle.std.specs.List.{flat_map, range_with_len};
 ghost use Rattle.vh_nodes.specs.Widths.{operands};
 ghost use Rattle.vh_design.specs.Validity.{CodeFits, body_at};
 ghost use Rattle.vh_design.specs.Laws.{select_exprs, selected_exprs, parts_of};
-ghost use Rattle.vh_sense.specs.Reads.{object_in, reads_below};
+ghost use Rattle.vh_sense.specs.Reads.{object_in, is_the, reads_below, reads};
 ghost use Rattle.vh_sense.specs.Follows.{statements_in, statements_of_body, followers};
 ghost use Rattle.vh_sense.specs.Views.{one_of, follow_at, noted, follows_at, Gathers};
 
@@ -155,6 +155,40 @@ fn part_of<Op: Copy>(link: &Link<Op>) -> ExprId
     ensures { result ≡ link.now.part }
 {
     link.part
+}
+
+// Is the object this one?
+fn is_the(o: ObjId, object: Option<ObjId>) -> bool
+    ensures { result ≡ is_the o object }
+{
+    match object {
+        None => false,
+        Some(object) => object.number() == o.number(),
+    }
+}
+
+/// Whether an expression reads an object, or a word of it (IEEE 1364-2005, 5.2). It goes once over the
+/// expression, and is as deep as the expression.
+pub fn reads(d: &Design, e: ExprId, o: ObjId) -> bool
+    requires { e < length d.now.exprs }
+    ensures { result ≡ reads d.now.exprs o e }
+{
+    reads_in(d, e, o)
+}
+
+// The same, by the expressions below any number that is greater.
+fn reads_in(d: &Design, e: ExprId, o: ObjId) -> bool
+    requires { e < length d.now.exprs }
+    ensures { (k : ℕ) → e < k → result ≡ reads_below k d.now.exprs o e }
+{
+    let kind = &d.expr(e).kind;
+    let mut found = is_the(o, object_in(kind));
+    for k in 0..count_parts(kind) {
+        if let Some(part) = part_at(kind, k) {
+            found |= reads_in(d, part, o);
+        }
+    }
+    found
 }
 
 // Puts a statement into the set of an object.
