@@ -39,7 +39,8 @@ wanted show rest how behind arg.Empty = rest behind
 wanted show rest how behind (arg.Format format) = rest behind
 wanted show rest how behind (arg.Value e) = show how e ++ rest behind
 
-abbrev pub with_argument : (Conversion → ℕ → List ℕ) → (List ℕ → List ℕ) → Option (Conversion × List ℕ) → ShowArg → List ℕ
+abbrev pub with_argument : (Conversion → ℕ → List ℕ) → (List ℕ → List ℕ) → Option (Conversion × List ℕ) → ShowArg
+    → List ℕ
 with_argument show rest None a = argument show rest a
 with_argument show rest (Some w) a = wanted show rest w.0 w.1 a
 

@@ -124,7 +124,8 @@ fn with_argument<'a>(
     requires known { fits_arg (length (d.now).exprs) arg.now ≡ true }
     requires unit { ratio ≤ 10 ^ 17 }
     ensures { IfOk result (λ rest. (go : List ℕ → List ℕ) → out.new.items ++ go rest.now
-        ≡ out.old.items ++ with_argument (converted d.now s.now ratio) go (option_map (λ p. (p.0, (p.1).now)) wanted.entry) arg.now) }
+        ≡ out.old.items ++ with_argument (converted d.now s.now ratio) go
+        (option_map (λ p. (p.0, (p.1).now)) wanted.entry) arg.now) }
 {
     match (wanted, arg) {
         (None, ShowArg::Empty) => {

@@ -54,7 +54,8 @@ fn at_letter(
     places: Option<u32>,
     letter: Option<Letter>,
 ) -> Result<Next, NoMemory>
-    ensures text { IfOk result (λ n. out.new.items ≡ out.old.items ++ (at_letter name.now places letter).text) }
+    ensures text { IfOk result (λ n.
+        out.new.items ≡ out.old.items ++ (at_letter name.now places letter).text) }
     ensures next { IfOk result (λ n. n ≡ (at_letter name.now places letter).next) }
 {
     match letter {
@@ -68,7 +69,8 @@ fn at_letter(
 
 // A byte, by what stands before it.
 fn step(out: &mut Vec<u8>, name: &[u8], mode: Mode, byte: u8) -> Result<Next, NoMemory>
-    ensures text { IfOk result (λ n. out.new.items ≡ out.old.items ++ (step_of name.now mode byte).text) }
+    ensures text { IfOk result (λ n.
+        out.new.items ≡ out.old.items ++ (step_of name.now mode byte).text) }
     ensures next { IfOk result (λ n. n ≡ (step_of name.now mode byte).next) }
 {
     match mode {
@@ -95,8 +97,10 @@ pub(crate) fn front<'a>(
     name: &[u8],
     format: &'a [u8],
 ) -> Result<Option<(Conversion, &'a [u8])>, NoMemory>
-    ensures text { IfOk result (λ w. out.new.items ≡ out.old.items ++ (front name.now Mode.Plain format.now).text) }
-    ensures wants { IfOk result (λ w. option_map (λ p. (p.0, (p.1).now)) w ≡ (front name.now Mode.Plain format.now).wants) }
+    ensures text { IfOk result (λ w.
+        out.new.items ≡ out.old.items ++ (front name.now Mode.Plain format.now).text) }
+    ensures wants { IfOk result (λ w. option_map (λ p. (p.0, (p.1).now)) w
+        ≡ (front name.now Mode.Plain format.now).wants) }
 {
     let mut mode = Mode::Plain;
     for (i, byte) in format.iter().enumerate() {

@@ -145,7 +145,8 @@ pub(crate) fn push_value(
     v: &Vec4,
 ) -> Result<(), NoMemory>
     requires { ratio ≤ 10 ^ 17 }
-    ensures { OnOk result (out.new.items ≡ out.old.items ++ value_text ratio how.form how.places v.now) }
+    ensures { OnOk result (out.new.items
+        ≡ out.old.items ++ value_text ratio how.form how.places v.now) }
 {
     let text = plain_text(alloc, ratio, how.form, v)?;
     match how.places {
