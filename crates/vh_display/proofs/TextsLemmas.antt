@@ -31,14 +31,14 @@ test_below (suc n) test k h lt =
 has_places : ℕ → Bool
 has_places w = (w * 1233 / 4096 + 1) == length (decimal (2 ^ w - 1))
 
-all_have_places : all_below 65 has_places ≡ true
+all_have_places : all_below (MAX_WIDTH + 1) has_places ≡ true
 unfolding all_below has_places digits
 all_have_places = refl
 
 -- The greatest number of a width has so many places.
 pub places_are : (w : ℕ) → w ≤ MAX_WIDTH → w * 1233 / 4096 + 1 ≡ length (decimal (2 ^ w - 1))
 unfolding has_places
-places_are w most = eqb-true (w * 1233 / 4096 + 1) (length (decimal (2 ^ w - 1))) (test_below 65 has_places w all_have_places (omega arith))
+places_are w most = eqb-true (w * 1233 / 4096 + 1) (length (decimal (2 ^ w - 1))) (test_below (MAX_WIDTH + 1) has_places w all_have_places (omega arith))
 
 -- The number of the digits from a place on.
 known_below : (ds : List Digit) (k n : ℕ) → 1 ≤ k → length ds ≤ MAX_WIDTH → n ≡ number_of (drop k ds) → n < 2 ^ 63

@@ -7,7 +7,7 @@ use crate::conversion::{Conversion, Form};
 use std::alloc::Global;
 use vh_base::NoMemory;
 use vh_eval::integer;
-use vh_logic::{Digit, Vec4};
+use vh_logic::{Digit, Plane, Vec4};
 use vh_text::{Radix, text_of};
 
 /// The places of `%t` (IEEE 1364-2005, 17.1.1.5).
@@ -57,7 +57,7 @@ fn decimal_places(v: &Vec4) -> u32
 }
 
 // A digit's number; x and z count as 0.
-fn digit_value(d: Digit) -> u64
+fn digit_value(d: Digit) -> Plane
     ensures { result ≡ digit_value d }
 {
     match d {
@@ -67,7 +67,7 @@ fn digit_value(d: Digit) -> u64
 }
 
 // The number of a value whose x and z count as 0.
-fn known_part(v: &Vec4) -> u64
+fn known_part(v: &Vec4) -> Plane
     ensures { result ≡ number_of v.now.digits }
 {
     let mut number = 0;
