@@ -4,3 +4,5 @@ pub mod TextsLemmas
 pub mod FormatsLemmas
 -- The text of a call, argument by argument
 pub mod CallsLemmas
+-- Formats, piece by piece
+pub mod LawsLemmas

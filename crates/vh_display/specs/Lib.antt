@@ -4,3 +4,5 @@ pub mod Texts
 pub mod Formats
 -- The text of a display call
 pub mod Calls
+-- What the reading of formats means
+pub mod Laws
