@@ -18,8 +18,8 @@ mod sets;
 mod watchers;
 
 pub use follow::Follow;
-pub use readers::reads;
 pub use laws::sense_laws;
+pub use readers::reads;
 pub use sense::Sense;
 
 #[cfg(test)]
