@@ -1,0 +1,138 @@
+-- Depth falls first, and then what a construct is made of. What a loop has read stands in front of
+-- what is left.
+use Rattle.std.proofs.Common.{◌≡◌, ℕ, length, ◌+◌, ◌*◌}
+use Rattle.vh_grammar.specs.Marking.{joined_marks}
+use Rattle.vh_syntax.specs.Parts.{comma_more}
+use Rattle.vh_parse_expr.specs.declared.expr.Standing.{Standing}
+use Rattle.vh_parse_expr.specs.declared.expr.Standing.TheVariants as standing
+use Rattle.vh_parse_expr.specs.Pieces.{expr_at, steps_of, links_part}
+use Rattle.vh_parse_expr.specs.Views.{read_from, exprs_seen, links_seen, path_tree}
+use Rattle.vh_parse_expr.proofs.expr.+expression.Given as goal
+
+-- An expression inside another one is a level deeper.
+abbrev weight : Standing → ℕ
+weight standing.Inner = 1
+weight standing.Outermost = 120
+
+abbrev pub decreases-inner : goal.decreases-inner
+decreases-inner l = 256 * l.depth
+
+abbrev pub decreases-inner_operand : goal.decreases-inner_operand
+decreases-inner_operand l = 256 * l.depth
+
+abbrev pub decreases-expression_at : goal.decreases-expression_at
+decreases-expression_at l = 256 * l.depth + weight l.standing
+
+abbrev pub decreases-behind : goal.decreases-behind
+decreases-behind l = 256 * l.depth + (weight l.standing + 1)
+
+abbrev pub decreases-esel_end : goal.decreases-esel_end
+decreases-esel_end l = 256 * l.depth + (weight l.standing + 2)
+
+abbrev pub decreases-esel : goal.decreases-esel
+decreases-esel l = 256 * l.depth + (weight l.standing + 3)
+
+abbrev pub decreases-index_bracket : goal.decreases-index_bracket
+decreases-index_bracket l = 256 * l.depth + (weight l.standing + 1)
+
+abbrev pub decreases-esel_bracket : goal.decreases-esel_bracket
+decreases-esel_bracket l = 256 * l.depth + (weight l.standing + 4)
+
+abbrev pub decreases-plain_turn : goal.decreases-plain_turn
+decreases-plain_turn l = 256 * l.depth + (weight l.standing + 5)
+
+abbrev pub decreases-indexed_turn : goal.decreases-indexed_turn
+decreases-indexed_turn l = 256 * l.depth + (weight l.standing + 5)
+
+abbrev pub decreases-path_turn : goal.decreases-path_turn
+decreases-path_turn l = 256 * l.depth + (weight l.standing + 6)
+
+abbrev pub decreases-path_rest : goal.decreases-path_rest
+decreases-path_rest l = 256 * l.depth + (weight l.standing + 7)
+
+abbrev pub decreases-path : goal.decreases-path
+decreases-path l = 256 * l.depth + (weight l.standing + 8)
+
+abbrev pub decreases-more : goal.decreases-more
+decreases-more l = 256 * l.depth + (weight l.standing + 2)
+
+abbrev pub decreases-list : goal.decreases-list
+decreases-list l = 256 * l.depth + (weight l.standing + 3)
+
+abbrev pub decreases-arguments : goal.decreases-arguments
+decreases-arguments l = 256 * l.depth + 5
+
+abbrev pub decreases-name_in : goal.decreases-name_in
+decreases-name_in l = 256 * l.depth + 10
+
+abbrev pub decreases-name_end : goal.decreases-name_end
+decreases-name_end l = 256 * l.depth + 6
+
+abbrev pub decreases-by_name : goal.decreases-by_name
+decreases-by_name l = 256 * l.depth + 11
+
+abbrev pub decreases-system_end : goal.decreases-system_end
+decreases-system_end l = 256 * l.depth + 6
+
+abbrev pub decreases-by_system : goal.decreases-by_system
+decreases-by_system l = 256 * l.depth + 7
+
+abbrev pub decreases-parens : goal.decreases-parens
+decreases-parens l = 256 * l.depth + 1
+
+abbrev pub decreases-repeated : goal.decreases-repeated
+decreases-repeated l = 256 * l.depth + 5
+
+abbrev pub decreases-braces_end : goal.decreases-braces_end
+decreases-braces_end l = 256 * l.depth + 6
+
+abbrev pub decreases-braces : goal.decreases-braces
+decreases-braces l = 256 * l.depth + 7
+
+abbrev pub decreases-prim : goal.decreases-prim
+decreases-prim l = 256 * l.depth + 12
+
+abbrev pub decreases-unary : goal.decreases-unary
+decreases-unary l = 256 * l.depth + 1
+
+abbrev pub decreases-operand : goal.decreases-operand
+decreases-operand l = 256 * l.depth + 13
+
+abbrev pub decreases-link : goal.decreases-link
+decreases-link l = 256 * l.depth + (8 * l.level + 15)
+
+abbrev pub decreases-links : goal.decreases-links
+decreases-links l = 256 * l.depth + (8 * l.level + 16)
+
+abbrev pub decreases-chained : goal.decreases-chained
+decreases-chained l = 256 * l.depth + (8 * l.level + 17)
+
+abbrev pub decreases-chain : goal.decreases-chain
+decreases-chain l = 256 * l.depth + (8 * l.level + 14)
+
+abbrev pub decreases-choice : goal.decreases-choice
+decreases-choice l = 256 * l.depth + 4
+
+abbrev pub decreases-branches : goal.decreases-branches
+decreases-branches l = 256 * l.depth + 3
+
+abbrev pub decreases-expression : goal.decreases-expression
+decreases-expression l = 256 * l.depth + 110
+
+abbrev pub invariant-path_rest-path : goal.invariant-path_rest-path
+invariant-path_rest-path l = read_from l.depth (steps_of (expr_at l.standing l.calls) l.sel (path_tree l.initial.path)) l.initial.rest ≡ read_from l.depth (steps_of (expr_at l.standing l.calls) l.sel (path_tree l.path)) l.rest
+
+abbrev pub decreases-path_rest-path : goal.decreases-path_rest-path
+decreases-path_rest-path l = length l.rest.tokens.now
+
+abbrev pub invariant-more-all : goal.invariant-more-all
+invariant-more-all l = joined_marks (exprs_seen l.initial.all) (read_from l.depth (comma_more (expr_at l.standing l.calls)) l.initial.rest) ≡ joined_marks (exprs_seen l.all) (read_from l.depth (comma_more (expr_at l.standing l.calls)) l.rest)
+
+abbrev pub decreases-more-all : goal.decreases-more-all
+decreases-more-all l = length l.rest.tokens.now
+
+abbrev pub invariant-links-all : goal.invariant-links-all
+invariant-links-all l = read_from l.depth (links_part l.level l.calls) l.initial.rest ≡ joined_marks (links_seen l.all) (read_from l.depth (links_part l.level l.calls) l.rest)
+
+abbrev pub decreases-links-all : goal.decreases-links-all
+decreases-links-all l = length l.rest.tokens.now

@@ -1,0 +1,151 @@
+//! The words that a parser reads, one at a time.
+
+ghost use Rattle.std.specs.Prelude.{◌≡◌, IfOk, MatchResult, map};
+ghost use Rattle.vh_base.specs.declared.place.Place.{Place};
+ghost use Rattle.vh_grammar.specs.declared.stop.Stop.TheVariants.{Memory};
+ghost use Rattle.vh_grammar.specs.Part.{act, tok};
+ghost use Rattle.vh_syntax.specs.Tokens.{token_seen, operator_at, unary_rows};
+ghost use Rattle.vh_syntax.specs.Parts.{an_id, a_system, a_text, a_number, at_the, placed_row};
+ghost use Rattle.vh_ast.specs.Views.{expr_tree};
+ghost use Rattle.vh_syntax.specs.Expressions.{number_expr, text_expr};
+ghost use Rattle.vh_parse_expr.specs.Views.{Reads, IsId, tokens_seen};
+
+use std::alloc::Global;
+use vh_ast::{Binary, Expr, ExprForm, Id, Number, Primary, Unary};
+use vh_base::{Bytes, NoMemory, Place};
+use vh_grammar::{Cursor, Stop};
+use vh_lex::{Kind, Token};
+use vh_syntax::{Class, Sign, Word};
+
+/// The words before a parser, and what was shown to be left out.
+pub type At<'t> = Cursor<'t, Word<'t>>;
+
+/// What a parser reads, and where it goes on.
+pub type Read<'t, T> = Result<(T, At<'t>), Stop>;
+
+/// The tokens as a parser reads them. It takes time and memory in their number.
+pub fn words(alloc: Global, tokens: &[Token]) -> Result<Vec<Word<'_>>, NoMemory>
+    ensures { IfOk result (λ all. tokens_seen all.items ≡ map token_seen tokens.now) }
+{
+    let mut all = Vec::new(alloc);
+    for token in tokens {
+        all.push(Word { token })?;
+    }
+    Ok(all)
+}
+
+/// What was made, where memory was had for it.
+pub fn kept<T>(made: Result<T, NoMemory>) -> Result<T, Stop>
+    ensures { MatchResult result (λ t. made ≡ Ok t) (λ stop. stop ≡ Memory) }
+{
+    match made {
+        Ok(t) => Ok(t),
+        Err(NoMemory) => Err(Stop::Memory),
+    }
+}
+
+// A name with its place.
+fn named(alloc: Global, place: Place, name: &Bytes) -> Result<Id, Stop>
+    ensures { MatchResult result (λ id. IsId id place name.now) (λ stop. stop ≡ Memory) }
+{
+    let name = kept(Bytes::from_slice(alloc, name.as_slice()))?;
+    Ok(Id { place, name })
+}
+
+/// `ID`
+pub fn id<'t>(alloc: Global, at: At<'t>) -> Read<'t, Id>
+    ensures { Reads (λ i. i) 0 an_id at.entry result }
+{
+    let [first, rest @ ..] = at.tokens else {
+        return Err(at.lost());
+    };
+    match &first.token.kind {
+        Kind::Name(name) => Ok((named(alloc, first.token.place, name)?, at.before(rest))),
+        _ => Err(at.lost()),
+    }
+}
+
+/// `SYS`
+pub fn system_name<'t>(alloc: Global, at: At<'t>) -> Read<'t, Id>
+    ensures { Reads (λ i. i) 0 a_system at.entry result }
+{
+    let [first, rest @ ..] = at.tokens else {
+        return Err(at.lost());
+    };
+    match &first.token.kind {
+        Kind::SysName(name) => Ok((named(alloc, first.token.place, name)?, at.before(rest))),
+        _ => Err(at.lost()),
+    }
+}
+
+// `STRING`, as an expression.
+pub(crate) fn text<'t>(alloc: Global, at: At<'t>) -> Read<'t, Expr>
+    ensures { Reads expr_tree 0 (act text_expr a_text) at.entry result }
+{
+    let [first, rest @ ..] = at.tokens else {
+        return Err(at.lost());
+    };
+    match &first.token.kind {
+        Kind::Text(text) => {
+            let text = kept(Bytes::from_slice(alloc, text.as_slice()))?;
+            let place = first.token.place;
+            let form = ExprForm::Primary(Primary::Text(text));
+            Ok((Expr { place, form }, at.before(rest)))
+        }
+        _ => Err(at.lost()),
+    }
+}
+
+// `NUMBER`, as an expression.
+pub(crate) fn number<'t>(at: At<'t>) -> Read<'t, Expr>
+    ensures { Reads expr_tree 0 (act number_expr a_number) at.entry result }
+{
+    let [first, rest @ ..] = at.tokens else {
+        return Err(at.lost());
+    };
+    match first.token.kind {
+        Kind::Number(value, sized) => {
+            let place = first.token.place;
+            let form = ExprForm::Primary(Primary::Number(Number { value, sized }));
+            Ok((Expr { place, form }, at.before(rest)))
+        }
+        _ => Err(at.lost()),
+    }
+}
+
+/// The sign, and where it stands.
+pub fn sign<'t>(sign: Sign, at: At<'t>) -> Read<'t, Place>
+    ensures { Reads (λ p. p) 0 (at_the sign) at.entry result }
+{
+    let behind = at.take(Class::Is(sign))?;
+    let [first, ..] = at.tokens else {
+        return Err(at.lost());
+    };
+    Ok((first.token.place, behind))
+}
+
+// A unary operator, and where it stands.
+pub(crate) fn unary_sign<'t>(at: At<'t>) -> Read<'t, (Place, Unary)>
+    ensures { Reads (λ o. o) 0 (placed_row unary_rows) at.entry result }
+{
+    let [first, rest @ ..] = at.tokens else {
+        return Err(at.lost());
+    };
+    match first.unary() {
+        Some(operator) => Ok(((first.token.place, operator), at.before(rest))),
+        None => Err(at.lost()),
+    }
+}
+
+// A binary operator of the level.
+pub(crate) fn operator<'t>(level: usize, at: At<'t>) -> Read<'t, Binary>
+    ensures { Reads (λ o. o) 0 (tok (operator_at level)) at.entry result }
+{
+    let [first, rest @ ..] = at.tokens else {
+        return Err(at.lost());
+    };
+    match first.operator(level) {
+        Some(operator) => Ok((operator, at.before(rest))),
+        None => Err(at.lost()),
+    }
+}
