@@ -1,10 +1,10 @@
 -- What is answered for the tokens of an expression.
-use Rattle.std.proofs.Common.{◌≡◌, ◌≤◌, ◌+◌, ◌-◌, ℕ, suc, Bool, List, ◌++◌, length, map, drop, refl, sym, ap, ◌∙◌, subst, Result, Ok, Err, arith, length-append}
+use Rattle.std.proofs.Common.{◌≡◌, ◌≤◌, ◌+◌, ◌-◌, ℕ, suc, Bool, List, ◌++◌, length, map, drop, refl, sym, ap, ◌∙◌, subst, Ok, Err, arith, length-append}
 use Rattle.std.proofs.lemmas.List.{length-map, length-drop, drop_at, drop-drop, drop-map}
 use Rattle.vh_base.specs.declared.place.Place.{Place}
 use Rattle.vh_grammar.specs.declared.stop.Stop.{Stop}
 use Rattle.vh_grammar.specs.declared.stop.Stop.TheVariants as stops
-use Rattle.vh_grammar.specs.Reading.{Out, got, reader}
+use Rattle.vh_grammar.specs.Reading.{got}
 use Rattle.vh_grammar.specs.Says.{Stops}
 use Rattle.vh_grammar.specs.Sentences.{ReadsAt}
 use Rattle.vh_grammar.specs.Laws.{LawsOfProductions}

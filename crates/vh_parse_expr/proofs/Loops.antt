@@ -1,21 +1,25 @@
 -- A turn of each loop of the parser.
-use Rattle.std.proofs.Common.{◌≡◌, ℕ, ◌<◌, Bool, true, List, [], ◌∷◌, ◌++◌, length, is_some, refl, arith}
-use Rattle.std.proofs.lemmas.List.{length-map}
-use Rattle.vh_grammar.specs.Part.{rep, after}
+use Rattle.std.proofs.Common.{◌≡◌, ◌≢◌, ◌⊎◌, inl, inr, ℕ, zero, suc, ◌<◌, ◌≤◌, eqb, Bool, true, false, List, [], ◌∷◌, ◌++◌, length, is_some, refl, ap, subst, ◌∙◌, arith}
+use Rattle.std.proofs.lemmas.Bool.Decides.{eqb_tells}
+use Rattle.std.proofs.lemmas.List.{length-map, append-nil}
+use Rattle.vh_grammar.specs.declared.stop.Stop.{Stop}
+use Rattle.vh_grammar.specs.declared.stop.Stop.TheVariants as stops
+use Rattle.vh_grammar.specs.Part.{act, after}
 use Rattle.vh_grammar.specs.Conditions.{Advances}
 use Rattle.vh_grammar.specs.Nest.{Row}
-use Rattle.vh_grammar.specs.Reading.{got, next_is}
+use Rattle.vh_grammar.specs.Reading.{Fault, lost, deep, left_out, Out, got, stop, then_, next_is}
+use Rattle.vh_grammar.specs.Says.{Stops}
 use Rattle.vh_grammar.specs.Marking.{marks, joined_marks}
-use Rattle.vh_grammar.proofs.MarkTurns.{marks_less, joined_marks_turn, iter_marks_turn}
+use Rattle.vh_grammar.proofs.MarkTurns.{marks_less, marks_end, joined_marks_turn, iter_marks_turn}
 use Rattle.vh_ast.specs.declared.operator.Binary.{Binary}
-use Rattle.vh_ast.specs.Expressions.{ExprTree}
+use Rattle.vh_ast.specs.Expressions.{ExprTree, chained}
 use Rattle.vh_syntax.specs.declared.sign.Sign.TheVariants as sign
 use Rattle.vh_syntax.specs.declared.token.Word.{Word}
 use Rattle.vh_syntax.specs.Tokens.{Token, is, is_unused, operator_at}
 use Rattle.vh_syntax.specs.Classes.{word_seen}
-use Rattle.vh_syntax.specs.Parts.{G, the, comma_more}
+use Rattle.vh_syntax.specs.Parts.{the, comma_more}
 use Rattle.vh_syntax.specs.Names.{Path, Target, path_goes, path_turn, row_goes, row_turn}
-use Rattle.vh_syntax.specs.Expressions.{any_operand, chain_tail, expression}
+use Rattle.vh_syntax.specs.Expressions.{chain_tail, expression}
 use Rattle.vh_syntax.specs.Grammar.{grammar}
 use Rattle.vh_syntax.specs.NameConditions.{path_turn_advances, row_turn_advances}
 use Rattle.vh_syntax.specs.ExpressionConditions.{operand_advances, chain_advances, expression_advances}
@@ -72,6 +76,65 @@ links_go_on depth level calls front l ts mid m k c r =
 pub link_less : (depth level : ℕ) (calls : Bool) (l : (Binary × ExprTree) × ℕ) (ts mid : List Token) (m : ℕ) →
     marks is_unused grammar depth (link_part level calls) ts m ≡ got l mid → length mid < length ts
 link_less depth level calls l ts mid m r = marks_less is_unused grammar eating advancing depth (link_part level calls) (link_advances level calls) refl ts m l mid r
+
+-- the chain of a level is one of the level below with the operators of the level behind it
+pub chain_ends : (depth level : ℕ) (calls : Bool) (e a : ExprTree) (ts mid rest : List Token) (m k mark : ℕ) (front : List (Binary × ExprTree)) →
+    marks is_unused grammar depth (chain_tail level calls e) ts m ≡ got (a, k) mid →
+    marks is_unused grammar depth (links_part level calls) mid k ≡ joined_marks front (marks is_unused grammar depth (links_part level calls) rest mark) →
+    next_is (λ t. is_some (operator_at level t)) rest ≡ false →
+    marks is_unused grammar depth (chain_tail (suc level) calls e) ts m ≡ got (chained a front, mark) rest
+unfolding chain_tail
+chain_ends depth level calls e a ts mid rest m k mark front below links none =
+    let chains : ExprTree × ℕ → List Token → Out Token (ExprTree × ℕ) = λ x r. marks is_unused grammar depth (act (chained x.0) (links_part level calls)) r x.1 in
+    let puts : List (Binary × ExprTree) × ℕ → List Token → Out Token (ExprTree × ℕ) = λ x r. got (chained a x.0, x.1) r in
+    let end : marks is_unused grammar depth (links_part level calls) rest mark ≡ got ([], mark) rest = marks_end is_unused grammar eating advancing depth (λ t. is_some (operator_at level t)) (link_part level calls) rest mark none in
+    ap (λ o. then_ o chains) below
+    ∙ ap (λ o. then_ o puts) (links ∙ ap (λ o. joined_marks front o) end)
+    ∙ ap (λ l. got (chained a l, mark) rest) (append-nil front)
+
+-- where a chain of a level stops, all chains above it do
+stops-above : (depth low level : ℕ) (calls : Bool) (e : ExprTree) (ts : List Token) (m : ℕ) (fault : Fault) (left : ℕ) → low ≤ level →
+    marks is_unused grammar depth (chain_tail low calls e) ts m ≡ stop fault left → marks is_unused grammar depth (chain_tail level calls e) ts m ≡ stop fault left
+unfolding chain_tail
+stops-above depth low zero calls e ts m fault left h r = let same : low ≡ zero = omega arith in subst (λ k. marks is_unused grammar depth (chain_tail k calls e) ts m ≡ stop fault left) same r
+stops-above depth low (suc level) calls e ts m fault left h r = decide (eqb_tells low (suc level)) (λ below. stops-above depth low level calls e ts m fault left below r)
+  where
+    decide : ((eqb low (suc level) ≡ true) × (low ≡ suc level)) ⊎ ((eqb low (suc level) ≡ false) × (low ≢ suc level)) → (low ≤ level → marks is_unused grammar depth (chain_tail level calls e) ts m ≡ stop fault left) →
+        marks is_unused grammar depth (chain_tail (suc level) calls e) ts m ≡ stop fault left
+    decide (inl same) before = subst (λ k. marks is_unused grammar depth (chain_tail k calls e) ts m ≡ stop fault left) same.1 r
+    decide (inr other) before =
+        let chains : ExprTree × ℕ → List Token → Out Token (ExprTree × ℕ) = λ x r. marks is_unused grammar depth (act (chained x.0) (links_part level calls)) r x.1 in
+        let differ : low ≢ suc level = other.1 in
+        ap (λ o. then_ o chains) (before (omega arith))
+
+turn-stops : (depth level : ℕ) (calls : Bool) (ts : List Token) (m : ℕ) (fault : Fault) (left : ℕ) → next_is (λ t. is_some (operator_at level t)) ts ≡ true →
+    marks is_unused grammar depth (link_part level calls) ts m ≡ stop fault left → marks is_unused grammar depth (links_part level calls) ts m ≡ stop fault left
+turn-stops depth level calls [] m fault left c r = cc
+turn-stops depth level calls (t ∷ ts) m fault left c r = rw (c, r) refl
+
+chain-fault : (depth low level : ℕ) (calls : Bool) (e a : ExprTree) (ts mid rest : List Token) (m k mark : ℕ) (front : List (Binary × ExprTree)) (fault : Fault) (left : ℕ) → low < level →
+    marks is_unused grammar depth (chain_tail low calls e) ts m ≡ got (a, k) mid →
+    marks is_unused grammar depth (links_part low calls) mid k ≡ joined_marks front (marks is_unused grammar depth (links_part low calls) rest mark) →
+    next_is (λ t. is_some (operator_at low t)) rest ≡ true →
+    marks is_unused grammar depth (link_part low calls) rest mark ≡ stop fault left → marks is_unused grammar depth (chain_tail level calls e) ts m ≡ stop fault left
+unfolding chain_tail
+chain-fault depth low level calls e a ts mid rest m k mark front fault left h below links next r =
+    let chains : ExprTree × ℕ → List Token → Out Token (ExprTree × ℕ) = λ x r. marks is_unused grammar depth (act (chained x.0) (links_part low calls)) r x.1 in
+    let puts : List (Binary × ExprTree) × ℕ → List Token → Out Token (ExprTree × ℕ) = λ x r. got (chained a x.0, x.1) r in
+    let one : marks is_unused grammar depth (chain_tail (suc low) calls e) ts m ≡ stop fault left =
+    ap (λ o. then_ o chains) below ∙ ap (λ o. then_ o puts) (links ∙ ap (λ o. joined_marks front o) (turn-stops depth low calls rest mark fault left next r)) in
+    stops-above depth (suc low) level calls e ts m fault left (omega arith) one
+
+-- where an operator with what stands behind it is refused, so is the chain
+pub chain_stops : (depth low level : ℕ) (calls : Bool) (e a : ExprTree) (ts mid rest : List Token) (m k mark : ℕ) (front : List (Binary × ExprTree)) (why : Stop) → low < level →
+    marks is_unused grammar depth (chain_tail low calls e) ts m ≡ got (a, k) mid →
+    marks is_unused grammar depth (links_part low calls) mid k ≡ joined_marks front (marks is_unused grammar depth (links_part low calls) rest mark) →
+    next_is (λ t. is_some (operator_at low t)) rest ≡ true →
+    Stops (marks is_unused grammar depth (link_part low calls) rest mark) why → Stops (marks is_unused grammar depth (chain_tail level calls e) ts m) why
+chain_stops depth low level calls e a ts mid rest m k mark front (stops.Lost left) h below links next r = chain-fault depth low level calls e a ts mid rest m k mark front lost left h below links next r
+chain_stops depth low level calls e a ts mid rest m k mark front (stops.Deep left) h below links next r = chain-fault depth low level calls e a ts mid rest m k mark front deep left h below links next r
+chain_stops depth low level calls e a ts mid rest m k mark front (stops.LeftOut left) h below links next r = chain-fault depth low level calls e a ts mid rest m k mark front left_out left h below links next r
+chain_stops depth low level calls e a ts mid rest m k mark front stops.Memory h below links next r = tt
 
 -- a row of targets goes on by a turn
 pub row_goes_on : (calls : Bool) (depth : ℕ) (r u : Row Target) (ts mid : List Token) (m k : ℕ) → next_is (row_goes r.wants r.depth) ts ≡ true →

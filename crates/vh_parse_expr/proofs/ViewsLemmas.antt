@@ -4,7 +4,7 @@ use Rattle.std.proofs.Common.{◌≡◌, ◌≤◌, ◌↔◌, IsTrue, ℕ, zero
 use Rattle.std.proofs.lemmas.List.{map-append}
 use Rattle.vh_grammar.specs.declared.stop.Stop.{Stop}
 use Rattle.vh_grammar.specs.declared.stop.Stop.TheVariants as stops
-use Rattle.vh_grammar.specs.Reading.{Fault, lost, Out, got, stop, next_is}
+use Rattle.vh_grammar.specs.Reading.{Fault, lost, next_is}
 use Rattle.vh_grammar.specs.Marking.{taken_from, marked_token, refusal, refused, mark_at}
 use Rattle.vh_grammar.specs.Says.{Stops}
 use Rattle.vh_ast.specs.declared.name.Step.{Step}

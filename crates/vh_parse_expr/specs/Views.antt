@@ -55,6 +55,9 @@ exprs_seen = map expr_tree
 abbrev pub links_seen : List (Link Expr) → List (Binary × ExprTree)
 links_seen = map link_tree
 
+abbrev pub link_pair : Binary × Expr → Binary × ExprTree
+link_pair l = (l.0, expr_tree l.1)
+
 abbrev pub two_exprs : Expr × Expr → ExprTree × ExprTree
 two_exprs e = (expr_tree e.0, expr_tree e.1)
 

@@ -2,20 +2,20 @@
 //! part. They call each other, a level deeper where the grammar nests them; chains, lists and paths
 //! are loops.
 
-ghost use Rattle.std.specs.Prelude.{◌≡◌, suc};
+ghost use Rattle.std.specs.Prelude.{◌≡◌};
 ghost use Rattle.vh_grammar.specs.Part.{after};
 ghost use Rattle.vh_grammar.specs.Reading.{next_is};
 ghost use Rattle.vh_grammar.specs.Marking.{mark_at, joined_marks};
 ghost use Rattle.vh_grammar.specs.Says.{Says};
-ghost use Rattle.vh_ast.specs.Views.{expr_tree, link_tree, index_by};
+ghost use Rattle.vh_ast.specs.Views.{expr_tree, index_by};
 ghost use Rattle.vh_syntax.specs.Classes.{word_seen};
 ghost use Rattle.vh_syntax.specs.Tokens.{shows_call, calls_in, named_in, open_systems};
 ghost use Rattle.vh_syntax.specs.Parts.{inner_expr, inner_operand, the, comma_list, comma_more};
 ghost use Rattle.vh_syntax.specs.Names as names;
 ghost use Rattle.vh_syntax.specs.Names.{path_goes};
 ghost use Rattle.vh_syntax.specs.Expressions as parts;
-ghost use Rattle.vh_parse_expr.specs.Pieces.{expr_at, bracket, barred_path, link_part, links_part, repeated_part, branches_part};
-ghost use Rattle.vh_parse_expr.specs.Views.{Reads, tokens_seen, read_from, exprs_seen, links_seen, two_exprs, placed_expr, placed_part, part_tree, last_tree, path_tree, stem_tree};
+ghost use Rattle.vh_parse_expr.specs.Pieces.{expr_at, bracket, barred_path, link_part, repeated_part, branches_part};
+ghost use Rattle.vh_parse_expr.specs.Views.{Reads, tokens_seen, read_from, exprs_seen, link_pair, two_exprs, placed_expr, placed_part, part_tree, last_tree, path_tree, stem_tree};
 
 use crate::made;
 use crate::made::then_sign;
@@ -23,7 +23,7 @@ use crate::name::{Last, Path, Stem};
 use crate::word::{At, Read, id, number, operator, sign, system_name, text, unary_sign};
 use sqlite_items::{Boxed, Items};
 use std::alloc::Global;
-use vh_ast::{Expr, Id, Link, Part};
+use vh_ast::{Binary, Expr, Id, Part};
 use vh_base::Place;
 use vh_syntax::{Class, Rows, Sign};
 
@@ -68,19 +68,19 @@ fn no_call<'t>(calls: bool, at: At<'t>) -> At<'t>
 
 // An expression inside another one.
 #[cycle(expression)]
-fn inner<'t>(alloc: Global, depth: usize, calls: bool, at: At<'t>) -> Read<'t, Expr>
+fn inner<'t>(alloc: Global, depth: usize, calls: bool, at: At<'t>) -> Read<'t, Boxed<Expr>>
     ensures { Reads expr_tree depth (inner_expr calls) at.entry result }
 {
     let at = no_call(calls, at);
     if depth == 0 {
         return Err(at.past());
     }
-    expression(alloc, depth - 1, calls, at)
+    outermost(alloc, depth - 1, calls, at)
 }
 
 // The operand of a unary operator.
 #[cycle(expression)]
-fn inner_operand<'t>(alloc: Global, depth: usize, calls: bool, at: At<'t>) -> Read<'t, Expr>
+fn inner_operand<'t>(alloc: Global, depth: usize, calls: bool, at: At<'t>) -> Read<'t, Boxed<Expr>>
     ensures { Reads expr_tree depth (inner_operand calls) at.entry result }
 {
     let at = no_call(calls, at);
@@ -90,20 +90,20 @@ fn inner_operand<'t>(alloc: Global, depth: usize, calls: bool, at: At<'t>) -> Re
     operand(alloc, depth - 1, calls, at)
 }
 
-/// An expression that stands so, with so many levels left below the construct in which it does.
+// An expression that stands so.
 #[cycle(expression)]
-pub fn expression_at<'t>(
+fn expression_at<'t>(
     alloc: Global,
     depth: usize,
     standing: Standing,
     calls: bool,
     at: At<'t>,
-) -> Read<'t, Expr>
+) -> Read<'t, Boxed<Expr>>
     ensures { Reads expr_tree depth (expr_at standing calls) at.entry result }
 {
     match standing {
         Standing::Inner => inner(alloc, depth, calls, at),
-        Standing::Outermost => expression(alloc, depth, calls, at),
+        Standing::Outermost => outermost(alloc, depth, calls, at),
     }
 }
 
@@ -116,7 +116,7 @@ fn behind<'t>(
     calls: bool,
     sign: Sign,
     at: At<'t>,
-) -> Read<'t, Expr>
+) -> Read<'t, Boxed<Expr>>
     ensures { Reads expr_tree depth (after (the sign) (expr_at standing calls)) at.entry result }
 {
     let next = at.take(Class::Is(sign))?;
@@ -139,15 +139,15 @@ fn esel_end<'t>(
 {
     if at.next_is(Class::Is(Sign::Colon)) {
         let (right, rest) = behind(alloc, depth, standing, calls, Sign::Colon, at)?;
-        return Ok((made::range(alloc, first, right)?, rest));
+        return Ok((Part::Range(first, right), rest));
     }
     if at.next_is(Class::Is(Sign::PlusColon)) {
         let (width, rest) = behind(alloc, depth, standing, calls, Sign::PlusColon, at)?;
-        return Ok((made::up(alloc, first, width)?, rest));
+        return Ok((Part::Up(first, width), rest));
     }
     if at.next_is(Class::Is(Sign::MinusColon)) {
         let (width, rest) = behind(alloc, depth, standing, calls, Sign::MinusColon, at)?;
-        return Ok((made::down(alloc, first, width)?, rest));
+        return Ok((Part::Down(first, width), rest));
     }
     Ok((Part::Index(first), at))
 }
@@ -165,14 +165,7 @@ fn esel<'t>(
     ensures { Reads part_tree depth (names.esel (expr_at standing calls)) at.entry result }
 {
     let (first, more) = expression_at(alloc, depth, standing, calls, at)?;
-    esel_end(
-        alloc,
-        depth,
-        standing,
-        calls,
-        Boxed::new(alloc, first)?,
-        more,
-    )
+    esel_end(alloc, depth, standing, calls, first, more)
 }
 
 // `"." ID`
@@ -204,7 +197,7 @@ fn index_bracket<'t>(
     standing: Standing,
     calls: bool,
     at: At<'t>,
-) -> Read<'t, (Place, Expr)>
+) -> Read<'t, (Place, Boxed<Expr>)>
     ensures { Reads placed_expr depth (bracket (expr_at standing calls)) at.entry result }
 {
     let (place, opened) = sign(Sign::LeftBracket, at)?;
@@ -268,7 +261,7 @@ fn plain_turn<'t>(
         return Ok((made::selected(stem, place, part), rest));
     }
     let ((place, index), rest) = index_bracket(alloc, depth, standing, calls, at)?;
-    Ok((made::indexed(alloc, stem, place, index)?, rest))
+    Ok((made::indexed(stem, place, index), rest))
 }
 
 // What comes next in a path whose last `ID` has an index.
@@ -390,7 +383,7 @@ fn more<'t>(
     let mut rest = at;
     'all: while rest.next_is(Class::Is(Sign::Comma)) {
         let (next, end) = behind(alloc, depth, standing, calls, Sign::Comma, rest)?;
-        all.push(next)?;
+        all.push(next.into_inner())?;
         rest = end;
     }
     Ok((all, rest))
@@ -442,7 +435,13 @@ fn name_in<'t>(alloc: Global, depth: usize, calls: bool, at: At<'t>) -> Read<'t,
 // What follows a name: the arguments of a call, where it has no select.
 #[cycle(expression)]
 #[tactic(auto, unfolding(vh_syntax::specs::Expressions::name_end))]
-fn name_end<'t>(alloc: Global, depth: usize, calls: bool, path: Path, at: At<'t>) -> Read<'t, Expr>
+fn name_end<'t>(
+    alloc: Global,
+    depth: usize,
+    calls: bool,
+    path: Path,
+    at: At<'t>,
+) -> Read<'t, Boxed<Expr>>
     ensures { let p = path_tree path in
         Reads expr_tree depth (parts.name_end (names.is_closed p.last) calls p) at.entry result }
 {
@@ -452,13 +451,13 @@ fn name_end<'t>(alloc: Global, depth: usize, calls: bool, path: Path, at: At<'t>
     let (path, opened) = then_sign(path, Sign::LeftParen, at)?;
     let name = path.into_name(alloc)?;
     let (arguments, rest) = arguments(alloc, depth, calls, opened)?;
-    Ok((Expr::called(name, arguments), rest))
+    Ok((made::called(alloc, name, arguments)?, rest))
 }
 
 // `name [ sel ] | name "(" expr { "," expr } ")"`
 #[cycle(expression)]
 #[tactic(auto, unfolding(vh_syntax::specs::Expressions::by_name))]
-fn by_name<'t>(alloc: Global, depth: usize, calls: bool, at: At<'t>) -> Read<'t, Expr>
+fn by_name<'t>(alloc: Global, depth: usize, calls: bool, at: At<'t>) -> Read<'t, Boxed<Expr>>
     ensures { Reads expr_tree depth (parts.by_name calls) at.entry result }
 {
     let (path, more) = name_in(alloc, depth, calls, at)?;
@@ -468,22 +467,28 @@ fn by_name<'t>(alloc: Global, depth: usize, calls: bool, at: At<'t>) -> Read<'t,
 // What follows a system name: its arguments, if there are any.
 #[cycle(expression)]
 #[tactic(auto, unfolding(vh_syntax::specs::Expressions::system_end))]
-fn system_end<'t>(alloc: Global, depth: usize, calls: bool, id: Id, at: At<'t>) -> Read<'t, Expr>
+fn system_end<'t>(
+    alloc: Global,
+    depth: usize,
+    calls: bool,
+    id: Id,
+    at: At<'t>,
+) -> Read<'t, Boxed<Expr>>
     ensures { Reads expr_tree depth (parts.system_end calls id) at.entry result }
 {
     if !at.next_is(Class::Is(Sign::LeftParen)) {
-        return Ok((made::system(id, Items::new(alloc)), at));
+        return Ok((made::system(alloc, id, Items::new(alloc))?, at));
     }
     let (id, opened) = then_sign(id, Sign::LeftParen, at)?;
     let calls = calls_in(calls, &id);
     let (arguments, rest) = arguments(alloc, depth, calls, opened)?;
-    Ok((made::system(id, arguments), rest))
+    Ok((made::system(alloc, id, arguments)?, rest))
 }
 
 // `SYS [ "(" expr { "," expr } ")" ]`
 #[cycle(expression)]
 #[tactic(auto, unfolding(vh_syntax::specs::Expressions::by_system))]
-fn by_system<'t>(alloc: Global, depth: usize, calls: bool, at: At<'t>) -> Read<'t, Expr>
+fn by_system<'t>(alloc: Global, depth: usize, calls: bool, at: At<'t>) -> Read<'t, Boxed<Expr>>
     ensures { Reads expr_tree depth (parts.by_system calls) at.entry result }
 {
     let (id, more) = system_name(alloc, no_call(calls, at))?;
@@ -493,7 +498,7 @@ fn by_system<'t>(alloc: Global, depth: usize, calls: bool, at: At<'t>) -> Read<'
 // `"(" expr ")"`
 #[cycle(expression)]
 #[tactic(auto, unfolding(vh_syntax::specs::Expressions::parens))]
-fn parens<'t>(alloc: Global, depth: usize, calls: bool, at: At<'t>) -> Read<'t, Expr>
+fn parens<'t>(alloc: Global, depth: usize, calls: bool, at: At<'t>) -> Read<'t, Boxed<Expr>>
     ensures { Reads expr_tree depth (parts.parens calls) at.entry result }
 {
     let (place, opened) = sign(Sign::LeftParen, at)?;
@@ -522,26 +527,25 @@ fn braces_end<'t>(
     depth: usize,
     calls: bool,
     place: Place,
-    first: Expr,
+    first: Boxed<Expr>,
     at: At<'t>,
-) -> Read<'t, Expr>
+) -> Read<'t, Boxed<Expr>>
     ensures { Reads expr_tree depth (parts.braces_end calls place (expr_tree first)) at.entry result }
 {
     if at.next_is(Class::Is(Sign::LeftBrace)) {
-        let count = Boxed::new(alloc, first)?;
         let (parts, rest) = repeated(alloc, depth, calls, at)?;
-        return Ok((made::repeat(place, count, parts), rest));
+        return Ok((made::repeat(alloc, place, first, parts)?, rest));
     }
     let all = made::one(alloc, first)?;
     let (all, closing) = more(alloc, depth, Standing::Inner, calls, all, at)?;
     let (all, rest) = then_sign(all, Sign::RightBrace, closing)?;
-    Ok((made::concat(place, all), rest))
+    Ok((made::concat(alloc, place, all)?, rest))
 }
 
 // `"{" expr { "," expr } "}" | "{" expr "{" expr { "," expr } "}" "}"`
 #[cycle(expression)]
 #[tactic(auto, unfolding(vh_syntax::specs::Expressions::braces))]
-fn braces<'t>(alloc: Global, depth: usize, calls: bool, at: At<'t>) -> Read<'t, Expr>
+fn braces<'t>(alloc: Global, depth: usize, calls: bool, at: At<'t>) -> Read<'t, Boxed<Expr>>
     ensures { Reads expr_tree depth (parts.braces calls) at.entry result }
 {
     let (place, opened) = sign(Sign::LeftBrace, at)?;
@@ -552,11 +556,11 @@ fn braces<'t>(alloc: Global, depth: usize, calls: bool, at: At<'t>) -> Read<'t, 
 // `prim`
 #[cycle(expression)]
 #[tactic(auto, unfolding(vh_syntax::specs::Expressions::prim))]
-fn prim<'t>(alloc: Global, depth: usize, calls: bool, at: At<'t>) -> Read<'t, Expr>
+fn prim<'t>(alloc: Global, depth: usize, calls: bool, at: At<'t>) -> Read<'t, Boxed<Expr>>
     ensures { Reads expr_tree depth (parts.prim calls) at.entry result }
 {
     if at.next_is(Class::Number) {
-        return number(at);
+        return number(alloc, at);
     }
     if at.next_is(Class::Text) {
         return text(alloc, at);
@@ -576,7 +580,7 @@ fn prim<'t>(alloc: Global, depth: usize, calls: bool, at: At<'t>) -> Read<'t, Ex
 // A unary operator and its operand.
 #[cycle(expression)]
 #[tactic(auto, unfolding(vh_syntax::specs::Expressions::unary_operand))]
-fn unary<'t>(alloc: Global, depth: usize, calls: bool, at: At<'t>) -> Read<'t, Expr>
+fn unary<'t>(alloc: Global, depth: usize, calls: bool, at: At<'t>) -> Read<'t, Boxed<Expr>>
     ensures { Reads expr_tree depth (parts.unary_operand calls) at.entry result }
 {
     let ((place, operator), behind) = unary_sign(at)?;
@@ -587,7 +591,7 @@ fn unary<'t>(alloc: Global, depth: usize, calls: bool, at: At<'t>) -> Read<'t, E
 // An operand: a `prim`, or a unary operator and its operand.
 #[cycle(expression)]
 #[tactic(auto, unfolding(vh_syntax::specs::Expressions::any_operand))]
-fn operand<'t>(alloc: Global, depth: usize, calls: bool, at: At<'t>) -> Read<'t, Expr>
+fn operand<'t>(alloc: Global, depth: usize, calls: bool, at: At<'t>) -> Read<'t, Boxed<Expr>>
     ensures { Reads expr_tree depth (parts.any_operand calls) at.entry result }
 {
     if at.next_is(Class::Row(Rows::Unary)) {
@@ -604,60 +608,18 @@ fn link<'t>(
     level: usize,
     calls: bool,
     at: At<'t>,
-) -> Read<'t, Link<Expr>>
-    ensures { Reads link_tree depth (link_part level calls) at.entry result }
+) -> Read<'t, (Binary, Boxed<Expr>)>
+    ensures { Reads link_pair depth (link_part level calls) at.entry result }
 {
     let (operator, behind) = operator(level, at)?;
     let (first, more) = operand(alloc, depth, calls, behind)?;
     let (operand, rest) = chain(alloc, depth, level, calls, first, more)?;
-    Ok((Link { operator, operand }, rest))
+    Ok(((operator, operand), rest))
 }
 
-// The operators of the level, with what stands behind each.
-#[cycle(expression)]
-fn links<'t>(
-    alloc: Global,
-    depth: usize,
-    level: usize,
-    calls: bool,
-    at: At<'t>,
-) -> Read<'t, Items<Link<Expr>>>
-    ensures { Reads links_seen depth (links_part level calls) at.entry result }
-{
-    let mut all = Items::new(alloc);
-    let mut rest = at;
-    'all: while rest.next_is(Class::Operator(level)) {
-        let (link, behind) = link(alloc, depth, level, calls, rest)?;
-        all.push(link)?;
-        rest = behind;
-    }
-    Ok((all, rest))
-}
-
-// The rest of a chain of the level above.
-#[cycle(expression)]
-#[tactic(auto, unfolding(vh_syntax::specs::Expressions::chain_tail))]
-fn chained<'t>(
-    alloc: Global,
-    depth: usize,
-    level: usize,
-    calls: bool,
-    first: Expr,
-    at: At<'t>,
-) -> Read<'t, Expr>
-    ensures { Reads expr_tree depth (parts.chain_tail (suc level) calls (expr_tree first)) at.entry result }
-{
-    let (head, more) = chain(alloc, depth, level, calls, first, at)?;
-    if !more.next_is(Class::Operator(level)) {
-        return Ok((head, more));
-    }
-    let head = Boxed::new(alloc, head)?;
-    let (links, rest) = links(alloc, depth, level, calls, more)?;
-    Ok((made::chained(head, links), rest))
-}
-
-// The rest of a chain of the level, behind its first operand: the operators of the levels below bind
-// closer. The level of 11 has all binary operators.
+// The rest of a chain of the level, behind its first operand: level by level, beginning with the one
+// that binds closest. The level of 11 has all binary operators. Both loops stand in this one function
+// since it calls itself through `link`, once for each level that is in use: the stack goes by that.
 #[cycle(expression)]
 #[tactic(auto, unfolding(vh_syntax::specs::Expressions::chain_tail))]
 fn chain<'t>(
@@ -665,15 +627,23 @@ fn chain<'t>(
     depth: usize,
     level: usize,
     calls: bool,
-    first: Expr,
+    first: Boxed<Expr>,
     at: At<'t>,
-) -> Read<'t, Expr>
+) -> Read<'t, Boxed<Expr>>
     ensures { Reads expr_tree depth (parts.chain_tail level calls (expr_tree first)) at.entry result }
 {
-    if level == 0 {
-        return Ok((first, at));
+    let mut head = first;
+    let mut rest = at;
+    'levels: for below in 0..level {
+        let mut links = Items::new(alloc);
+        'links: while rest.next_is(Class::Operator(below)) {
+            let ((operator, operand), behind) = link(alloc, depth, below, calls, rest)?;
+            links.push(made::linked(operator, operand))?;
+            rest = behind;
+        }
+        head = made::chained(alloc, head, links)?;
     }
-    chained(alloc, depth, level - 1, calls, first, at)
+    Ok((head, rest))
 }
 
 // `"?" expr ":" expr`
@@ -683,12 +653,11 @@ fn branches<'t>(
     depth: usize,
     calls: bool,
     at: At<'t>,
-) -> Read<'t, (Boxed<Expr>, Expr)>
+) -> Read<'t, (Boxed<Expr>, Boxed<Expr>)>
     ensures { Reads two_exprs depth (branches_part calls) at.entry result }
 {
     let asked = at.take(Class::Is(Sign::Question))?;
     let (holds, more) = inner(alloc, depth, calls, asked)?;
-    let holds = Boxed::new(alloc, holds)?;
     let (fails, rest) = behind(alloc, depth, Standing::Inner, calls, Sign::Colon, more)?;
     Ok(((holds, fails), rest))
 }
@@ -696,25 +665,38 @@ fn branches<'t>(
 // `[ "?" expr ":" expr ]`, behind the test.
 #[cycle(expression)]
 #[tactic(auto, unfolding(vh_syntax::specs::Expressions::choice_tail))]
-fn choice<'t>(alloc: Global, depth: usize, calls: bool, test: Expr, at: At<'t>) -> Read<'t, Expr>
+fn choice<'t>(
+    alloc: Global,
+    depth: usize,
+    calls: bool,
+    test: Boxed<Expr>,
+    at: At<'t>,
+) -> Read<'t, Boxed<Expr>>
     ensures { Reads expr_tree depth (parts.choice_tail calls (expr_tree test)) at.entry result }
 {
     if !at.next_is(Class::Is(Sign::Question)) {
         return Ok((test, at));
     }
-    let test = Boxed::new(alloc, test)?;
     let ((holds, fails), rest) = branches(alloc, depth, calls, at)?;
     Ok((made::choice(alloc, test, holds, fails)?, rest))
 }
 
-/// An expression that stands in no other one, with so many levels left below it. It takes stack in
-/// the levels, and not in the number of tokens.
+// An expression that stands in no other one.
 #[cycle(expression)]
 #[tactic(auto, unfolding(vh_syntax::specs::Expressions::expression, vh_syntax::specs::Expressions::expression_tail))]
-pub fn expression<'t>(alloc: Global, depth: usize, calls: bool, at: At<'t>) -> Read<'t, Expr>
+fn outermost<'t>(alloc: Global, depth: usize, calls: bool, at: At<'t>) -> Read<'t, Boxed<Expr>>
     ensures { Reads expr_tree depth (parts.expression calls) at.entry result }
 {
     let (first, more) = operand(alloc, depth, calls, at)?;
     let (test, more) = chain(alloc, depth, 11, calls, first, more)?;
     choice(alloc, depth, calls, test, more)
+}
+
+/// An expression that stands in no other one, with so many levels left below it. It takes stack in
+/// the levels, and not in the number of tokens.
+pub fn expression<'t>(alloc: Global, depth: usize, calls: bool, at: At<'t>) -> Read<'t, Expr>
+    ensures { Reads expr_tree depth (parts.expression calls) at.entry result }
+{
+    let (expr, rest) = outermost(alloc, depth, calls, at)?;
+    Ok((expr.into_inner(), rest))
 }

@@ -21,7 +21,7 @@ mod targets;
 mod tests;
 mod word;
 
-pub use expr::{Standing, calls_in, expression, expression_at, list, path};
+pub use expr::{Standing, calls_in, expression, list, path};
 pub use fault::{ParseFault, fault_at};
 pub use made::then_sign;
 pub use name::{Last, Path, Stem};

@@ -3,9 +3,9 @@
 use crate::{MOST_LEVELS, ParseFault, parse_expr};
 use std::alloc::Global;
 use std::fmt::Write;
-use std::process::Abort;
 use std::test::Fail;
 use vh_ast::{Binary, Expr, ExprForm, Id, Name, Part, Primary, Sel, Step, Unary};
+use vh_base::Place;
 use vh_lex::Lexer;
 
 // What is still to be written of a tree.
@@ -193,8 +193,8 @@ fn push_tree(alloc: Global, line: &mut String, expr: &Expr) -> Result<(), Fail> 
     Ok(())
 }
 
-// The tree of the expression with which a text begins, behind its place, and how many tokens are left behind it; or the
-// fault and its place.
+// The tree of the expression with which a text of one line begins, and how many tokens are left
+// behind it; or the fault and its place.
 fn shown(alloc: Global, depth: u32, calls: bool, text: &str) -> Result<String, Fail> {
     let mut line = String::new(alloc);
     let mut lexer = Lexer::new(alloc)?;
@@ -202,9 +202,14 @@ fn shown(alloc: Global, depth: u32, calls: bool, text: &str) -> Result<String, F
     if bytes.len() > 1_000_000 || depth > MOST_LEVELS {
         return Ok(line);
     }
+    let after = Place {
+        file: 1,
+        line: 1,
+        column: 1 + bytes.len() as u32,
+    };
     lexer.file(alloc, 1, bytes)?;
     let tokens = lexer.tokens();
-    match parse_expr(alloc, tokens, 0, depth, calls, lexer.after()) {
+    match parse_expr(alloc, tokens, 0, depth, calls, after) {
         Ok((expr, next)) => {
             push_tree(alloc, &mut line, &expr)?;
             if next < tokens.len() {
@@ -219,157 +224,142 @@ fn shown(alloc: Global, depth: u32, calls: bool, text: &str) -> Result<String, F
     Ok(line)
 }
 
-fn check(
-    rt: &impl Abort,
-    alloc: Global,
-    depth: u32,
-    rows: &[(bool, &str, &str)],
-) -> Result<(), Fail> {
-    for (calls, text, answer) in rows {
-        assert_eq!(rt;
-            shown(alloc, depth, *calls, text)?.as_str(),
-            *answer,
-            "of {text}"
-        );
-    }
-    Ok(())
-}
-
-static ROWS: [(bool, &str, &str); 93] = [
+static ROWS: [(u32, bool, &str, &str); 99] = [
     // what stands alone
-    (true, "1", "1"),
-    (true, "\"ab\"", "ab"),
-    (true, "a", "a"),
-    (true, "a b", "a | 1"),
-    (true, "(a)", "(a)"),
-    (true, "{a}", "{a}"),
-    (true, "{a,b,1}", "{a, b, 1}"),
-    (true, "{2{a}}", "{2{a}}"),
-    (true, "{2{a,b}}", "{2{a, b}}"),
-    (true, "$time", "$time()"),
-    (true, "$f(1,a)", "$f(1, a)"),
+    (0, true, "1", "1"),
+    (0, true, "\"ab\"", "ab"),
+    (0, true, "a", "a"),
+    (0, true, "a b", "a | 1"),
+    (0, true, "(a)", "(a)"),
+    (0, true, "{a}", "{a}"),
+    (0, true, "{a,b,1}", "{a, b, 1}"),
+    (0, true, "{2{a}}", "{2{a}}"),
+    (0, true, "{2{a,b}}", "{2{a, b}}"),
+    (0, true, "$time", "$time()"),
+    (0, true, "$f(1,a)", "$f(1, a)"),
     // names, selects and calls
-    (true, "a.b.c", "a.b.c"),
-    (true, "a[1]", "a[1]"),
-    (true, "a[1].b", "a<1>.b"),
-    (true, "a[1].b[2]", "a<1>.b[2]"),
-    (true, "a[1][2]", "a[1][2]"),
-    (true, "a[3:0]", "a[3:0]"),
-    (true, "a[i+:2]", "a[i+:2]"),
-    (true, "a[i-:2]", "a[i-:2]"),
-    (true, "a[1][3:0]", "a[1][3:0]"),
-    (true, "a[b[1]]", "a[b[1]]"),
-    (true, "a[1][2][3]", "a[1][2] | 3"),
-    (true, "a[3:0].b", "a[3:0] | 2"),
-    (true, "a[3:0][1]", "a[3:0] | 3"),
-    (true, "a[1:0](b)", "a[1:0] | 3"),
-    (true, "f(a,b)", "f!(a, b)"),
-    (true, "f[1](a)", "f<1>!(a)"),
-    (true, "m.f(g(1))", "m.f!(g!(1))"),
+    (0, true, "a.b.c", "a.b.c"),
+    (0, true, "a[1]", "a[1]"),
+    (0, true, "a[1].b", "a<1>.b"),
+    (0, true, "a[1].b[2]", "a<1>.b[2]"),
+    (0, true, "a[1][2]", "a[1][2]"),
+    (0, true, "a[3:0]", "a[3:0]"),
+    (0, true, "a[i+:2]", "a[i+:2]"),
+    (0, true, "a[i-:2]", "a[i-:2]"),
+    (0, true, "a[1][3:0]", "a[1][3:0]"),
+    (0, true, "a[b[1]]", "a[b[1]]"),
+    (0, true, "a[1][2][3]", "a[1][2] | 3"),
+    (0, true, "a[3:0].b", "a[3:0] | 2"),
+    (0, true, "a[3:0][1]", "a[3:0] | 3"),
+    (0, true, "a[1:0](b)", "a[1:0] | 3"),
+    (0, true, "f(a,b)", "f!(a, b)"),
+    (0, true, "f[1](a)", "f<1>!(a)"),
+    (0, true, "m.f(g(1))", "m.f!(g!(1))"),
     // operators
-    (true, "-a", "<Minus a>"),
-    (true, "!~a", "<Not <Invert a>>"),
-    (true, "~&a", "<ReduceNand a>"),
-    (true, "^~a", "<ReduceXnor a>"),
-    (true, "~^a", "<ReduceXnor a>"),
-    (true, "-(a)", "<Minus (a)>"),
-    (true, "a+b", "<a Plus b>"),
-    (true, "a-b-c", "<a Minus b Minus c>"),
-    (true, "a+b*c", "<a Plus <b Times c>>"),
-    (true, "a*b+c", "<<a Times b> Plus c>"),
-    (true, "a*b+c*d-e", "<<a Times b> Plus <c Times d> Minus e>"),
-    (true, "a**b**c", "<a Power b Power c>"),
-    (true, "-a**b", "<<Minus a> Power b>"),
+    (0, true, "-a", "<Minus a>"),
+    (0, true, "!~a", "<Not <Invert a>>"),
+    (0, true, "~&a", "<ReduceNand a>"),
+    (0, true, "^~a", "<ReduceXnor a>"),
+    (0, true, "~^a", "<ReduceXnor a>"),
+    (0, true, "-(a)", "<Minus (a)>"),
+    (0, true, "a+b", "<a Plus b>"),
+    (0, true, "a-b-c", "<a Minus b Minus c>"),
+    (0, true, "a+b*c", "<a Plus <b Times c>>"),
+    (0, true, "a*b+c", "<<a Times b> Plus c>"),
     (
+        0,
+        true,
+        "a*b+c*d-e",
+        "<<a Times b> Plus <c Times d> Minus e>",
+    ),
+    (0, true, "a**b**c", "<a Power b Power c>"),
+    (0, true, "-a**b", "<<Minus a> Power b>"),
+    (
+        0,
         true,
         "a||b&&c|d^e&f==g<h<<i+j*k**l",
         "<a OrOr <b AndAnd <c Or <d Xor <e And <f LogicalEqual <g Less <h ShiftLeft <i Plus <j Times <k Power l>>>>>>>>>>>",
     ),
     (
+        0,
         true,
         "a**b*c+d<<e<f==g&h^i|j&&k||l",
         "<<<<<<<<<<<a Power b> Times c> Plus d> ShiftLeft e> Less f> LogicalEqual g> And h> Xor i> Or j> AndAnd k> OrOr l>",
     ),
-    (true, "a<b<=c", "<a Less b LessEqual c>"),
-    (true, "a===b!==c", "<a CaseEqual b CaseUnequal c>"),
+    (0, true, "a<b<=c", "<a Less b LessEqual c>"),
+    (0, true, "a===b!==c", "<a CaseEqual b CaseUnequal c>"),
     (
+        0,
         true,
         "a>>>b<<<c",
         "<a ArithmeticShiftRight b ArithmeticShiftLeft c>",
     ),
-    (true, "a&~|b", "<a And <ReduceNor b>>"),
-    (true, "a?b:c", "<a ? b : c>"),
-    (true, "a?b:c?d:e", "<a ? b : <c ? d : e>>"),
-    (true, "a?b?c:d:e", "<a ? <b ? c : d> : e>"),
-    (true, "a|b?c:d", "<<a Or b> ? c : d>"),
+    (0, true, "a&~|b", "<a And <ReduceNor b>>"),
+    (0, true, "a?b:c", "<a ? b : c>"),
+    (0, true, "a?b:c?d:e", "<a ? b : <c ? d : e>>"),
+    (0, true, "a?b?c:d:e", "<a ? <b ? c : d> : e>"),
+    (0, true, "a|b?c:d", "<<a Or b> ? c : d>"),
     // tokens that could not stand there, and missing ones
-    (true, "", "S1 1:1"),
-    (true, "(", "S1 1:2"),
-    (true, "(a", "S1 1:3"),
-    (true, ")", "S1 1:1"),
-    (true, "(a,b)", "S1 1:3"),
-    (true, "a+", "S1 1:3"),
-    (true, "a+)", "S1 1:3"),
-    (true, "a ? b", "S1 1:6"),
-    (true, "a?b;c", "S1 1:4"),
-    (true, "{}", "S1 1:2"),
-    (true, "{a", "S1 1:3"),
-    (true, "{2{a}", "S1 1:6"),
-    (true, "{2{a};", "S1 1:6"),
-    (true, "{2{a}{b}}", "S1 1:6"),
-    (true, "f()", "S1 1:3"),
-    (true, "f(a b)", "S1 1:5"),
-    (true, "a[", "S1 1:3"),
-    (true, "a[1", "S1 1:4"),
-    (true, "a[1;", "S1 1:4"),
-    (true, "a[1:2:3]", "S1 1:6"),
-    (true, "a.", "S1 1:3"),
-    (true, "a.[1]", "S1 1:3"),
+    (0, true, "", "S1 1:1"),
+    (0, true, "(", "S1 1:2"),
+    (0, true, "(a", "S1 1:3"),
+    (0, true, ")", "S1 1:1"),
+    (0, true, "(a,b)", "S1 1:3"),
+    (0, true, "a+", "S1 1:3"),
+    (0, true, "a+)", "S1 1:3"),
+    (0, true, "a ? b", "S1 1:6"),
+    (0, true, "a?b;c", "S1 1:4"),
+    (0, true, "{}", "S1 1:2"),
+    (0, true, "{a", "S1 1:3"),
+    (0, true, "{2{a}", "S1 1:6"),
+    (0, true, "{2{a};", "S1 1:6"),
+    (0, true, "{2{a}{b}}", "S1 1:6"),
+    (0, true, "f()", "S1 1:3"),
+    (0, true, "f(a b)", "S1 1:5"),
+    (0, true, "a[", "S1 1:3"),
+    (0, true, "a[1", "S1 1:4"),
+    (0, true, "a[1;", "S1 1:4"),
+    (0, true, "a[1:2:3]", "S1 1:6"),
+    (0, true, "a.", "S1 1:3"),
+    (0, true, "a.[1]", "S1 1:3"),
     // a reserved word that stands in no production
-    (true, "specify", "S3 1:1"),
-    (true, "a+specify", "S3 1:3"),
-    (true, "a specify", "a | 1"),
-    (true, "module", "S1 1:1"),
+    (0, true, "specify", "S3 1:1"),
+    (0, true, "a+specify", "S3 1:3"),
+    (0, true, "a specify", "a | 1"),
+    (0, true, "module", "S1 1:1"),
     // calls where they are left out
-    (false, "a+1", "<a Plus 1>"),
-    (false, "f(1)", "S3 1:1"),
-    (false, "a+f(1)", "S3 1:3"),
-    (false, "f( )", "S3 1:1"),
-    (false, "f[g(1)](2)", "S3 1:1"),
-    (false, "f[g(1)]", "S3 1:3"),
-    (false, "a[1:0](b)", "a[1:0] | 3"),
-    (false, "$time", "$time()"),
-    (false, "$signed(a)", "$signed(a)"),
-    (false, "$f", "S3 1:1"),
-    (false, "$time(f(1))", "S3 1:7"),
-    (false, "-$display(a)", "S3 1:2"),
-    (false, "a+b ? f(1", "S3 1:7"),
-    (true, "$display(f(1))", "$display(f!(1))"),
-    (true, "$monitor(f(1))", "S3 1:10"),
-    (true, "$strobe($f)", "S3 1:9"),
+    (0, false, "a+1", "<a Plus 1>"),
+    (0, false, "f(1)", "S3 1:1"),
+    (0, false, "a+f(1)", "S3 1:3"),
+    (0, false, "f( )", "S3 1:1"),
+    (0, false, "f[g(1)](2)", "S3 1:1"),
+    (0, false, "f[g(1)]", "S3 1:3"),
+    (0, false, "a[1:0](b)", "a[1:0] | 3"),
+    (0, false, "$time", "$time()"),
+    (0, false, "$signed(a)", "$signed(a)"),
+    (0, false, "$f", "S3 1:1"),
+    (0, false, "$time(f(1))", "S3 1:7"),
+    (0, false, "-$display(a)", "S3 1:2"),
+    (0, false, "a+b ? f(1", "S3 1:7"),
+    (0, true, "$display(f(1))", "$display(f!(1))"),
+    (0, true, "$monitor(f(1))", "S3 1:10"),
+    (0, true, "$strobe($f)", "S3 1:9"),
+    // the last level
+    (MOST_LEVELS, true, "a+b", "<a Plus b>"),
+    (MOST_LEVELS, true, "(a)", "S2 1:2"),
+    (MOST_LEVELS, true, "-a", "S2 1:2"),
+    (MOST_LEVELS, true, "(", "S1 1:2"),
+    (MOST_LEVELS, true, "(specify", "S3 1:2"),
+    (MOST_LEVELS, false, "f((1))", "S3 1:1"),
 ];
 
 #[test]
 fn texts(rt: HostRuntime) -> Result<(), Fail> {
-    check(&rt, rt.alloc(), 0, &ROWS)
-}
-
-// The levels that are left below the one of a statement, and below the last one.
-#[test]
-fn levels(rt: HostRuntime) -> Result<(), Fail> {
-    check(
-        &rt,
-        rt.alloc(),
-        MOST_LEVELS,
-        &[
-            (true, "a+b", "<a Plus b>"),
-            (true, "(a)", "S2 1:2"),
-            (true, "-a", "S2 1:2"),
-            (true, "(", "S1 1:2"),
-            (true, "(specify", "S3 1:2"),
-            (false, "f((1))", "S3 1:1"),
-        ],
-    )
+    for (depth, calls, text, answer) in &ROWS {
+        let line = shown(rt.alloc(), *depth, *calls, text)?;
+        assert_eq!(rt; line.as_str(), *answer, "of {text}");
+    }
+    Ok(())
 }
 
 // As many times the first text, then the middle one, and as many times the last.
@@ -394,9 +384,10 @@ fn long_texts(rt: HostRuntime) -> Result<(), Fail> {
         (200, ("(", "a", ")"), "S2 1:201"),
         (199, ("a**(", "a", ")"), "<"),
         (200, ("a**(", "a", ")"), "S2 1:801"),
+        (199, ("a||b&&c|d^e&f==g<h<<i+j*k**(", "a", ")"), "<"),
         (199, ("!", "a", ""), "<"),
         (199, ("a?b:", "a", ""), "<"),
-        (200, ("a?b:", "a", ""), "S2 1:801"),
+        (200, ("a?b:", "a", ""), "S2 1:799"),
         (199, ("{1{", "a", "}}"), "{"),
         (199, ("a[", "1", "]"), "a"),
         (199, ("f(", "1", ")"), "f"),

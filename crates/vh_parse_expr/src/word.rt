@@ -10,6 +10,7 @@ ghost use Rattle.vh_ast.specs.Views.{expr_tree};
 ghost use Rattle.vh_syntax.specs.Expressions.{number_expr, text_expr};
 ghost use Rattle.vh_parse_expr.specs.Views.{Reads, IsId, tokens_seen};
 
+use sqlite_items::Boxed;
 use std::alloc::Global;
 use vh_ast::{Binary, Expr, ExprForm, Id, Number, Primary, Unary};
 use vh_base::{Bytes, NoMemory, Place};
@@ -79,7 +80,7 @@ pub fn system_name<'t>(alloc: Global, at: At<'t>) -> Read<'t, Id>
 }
 
 // `STRING`, as an expression.
-pub(crate) fn text<'t>(alloc: Global, at: At<'t>) -> Read<'t, Expr>
+pub(crate) fn text<'t>(alloc: Global, at: At<'t>) -> Read<'t, Boxed<Expr>>
     ensures { Reads expr_tree 0 (act text_expr a_text) at.entry result }
 {
     let [first, rest @ ..] = at.tokens else {
@@ -90,14 +91,14 @@ pub(crate) fn text<'t>(alloc: Global, at: At<'t>) -> Read<'t, Expr>
             let text = kept(Bytes::from_slice(alloc, text.as_slice()))?;
             let place = first.token.place;
             let form = ExprForm::Primary(Primary::Text(text));
-            Ok((Expr { place, form }, at.before(rest)))
+            Ok((Boxed::new(alloc, Expr { place, form })?, at.before(rest)))
         }
         _ => Err(at.lost()),
     }
 }
 
 // `NUMBER`, as an expression.
-pub(crate) fn number<'t>(at: At<'t>) -> Read<'t, Expr>
+pub(crate) fn number<'t>(alloc: Global, at: At<'t>) -> Read<'t, Boxed<Expr>>
     ensures { Reads expr_tree 0 (act number_expr a_number) at.entry result }
 {
     let [first, rest @ ..] = at.tokens else {
@@ -107,7 +108,7 @@ pub(crate) fn number<'t>(at: At<'t>) -> Read<'t, Expr>
         Kind::Number(value, sized) => {
             let place = first.token.place;
             let form = ExprForm::Primary(Primary::Number(Number { value, sized }));
-            Ok((Expr { place, form }, at.before(rest)))
+            Ok((Boxed::new(alloc, Expr { place, form })?, at.before(rest)))
         }
         _ => Err(at.lost()),
     }

@@ -1,12 +1,15 @@
 -- Depth falls first, and then what a construct is made of. What a loop has read stands in front of
 -- what is left.
 use Rattle.std.proofs.Common.{◌≡◌, ℕ, length, ◌+◌, ◌*◌}
+use Rattle.vh_grammar.specs.Reading.{got}
 use Rattle.vh_grammar.specs.Marking.{joined_marks}
+use Rattle.vh_ast.specs.Views.{expr_tree}
+use Rattle.vh_syntax.specs.Expressions.{chain_tail}
 use Rattle.vh_syntax.specs.Parts.{comma_more}
 use Rattle.vh_parse_expr.specs.declared.expr.Standing.{Standing}
 use Rattle.vh_parse_expr.specs.declared.expr.Standing.TheVariants as standing
 use Rattle.vh_parse_expr.specs.Pieces.{expr_at, steps_of, links_part}
-use Rattle.vh_parse_expr.specs.Views.{read_from, exprs_seen, links_seen, path_tree}
+use Rattle.vh_parse_expr.specs.Views.{tokens_seen, read_from, exprs_seen, links_seen, path_tree}
 use Rattle.vh_parse_expr.proofs.expr.+expression.Given as goal
 
 -- An expression inside another one is a level deeper.
@@ -101,12 +104,6 @@ decreases-operand l = 256 * l.depth + 13
 abbrev pub decreases-link : goal.decreases-link
 decreases-link l = 256 * l.depth + (8 * l.level + 15)
 
-abbrev pub decreases-links : goal.decreases-links
-decreases-links l = 256 * l.depth + (8 * l.level + 16)
-
-abbrev pub decreases-chained : goal.decreases-chained
-decreases-chained l = 256 * l.depth + (8 * l.level + 17)
-
 abbrev pub decreases-chain : goal.decreases-chain
 decreases-chain l = 256 * l.depth + (8 * l.level + 14)
 
@@ -116,8 +113,8 @@ decreases-choice l = 256 * l.depth + 4
 abbrev pub decreases-branches : goal.decreases-branches
 decreases-branches l = 256 * l.depth + 3
 
-abbrev pub decreases-expression : goal.decreases-expression
-decreases-expression l = 256 * l.depth + 110
+abbrev pub decreases-outermost : goal.decreases-outermost
+decreases-outermost l = 256 * l.depth + 110
 
 abbrev pub invariant-path_rest-path : goal.invariant-path_rest-path
 invariant-path_rest-path l = read_from l.depth (steps_of (expr_at l.standing l.calls) l.sel (path_tree l.initial.path)) l.initial.rest ≡ read_from l.depth (steps_of (expr_at l.standing l.calls) l.sel (path_tree l.path)) l.rest
@@ -131,8 +128,11 @@ invariant-more-all l = joined_marks (exprs_seen l.initial.all) (read_from l.dept
 abbrev pub decreases-more-all : goal.decreases-more-all
 decreases-more-all l = length l.rest.tokens.now
 
-abbrev pub invariant-links-all : goal.invariant-links-all
-invariant-links-all l = read_from l.depth (links_part l.level l.calls) l.initial.rest ≡ joined_marks (links_seen l.all) (read_from l.depth (links_part l.level l.calls) l.rest)
+abbrev pub invariant-chain-levels : goal.invariant-chain-levels
+invariant-chain-levels l = read_from l.depth (chain_tail l.below l.calls (expr_tree l.initial.head)) l.initial.rest ≡ got (expr_tree l.head, l.rest.mark) (tokens_seen l.rest.tokens.now)
 
-abbrev pub decreases-links-all : goal.decreases-links-all
-decreases-links-all l = length l.rest.tokens.now
+abbrev pub invariant-chain-links : goal.invariant-chain-links
+invariant-chain-links l = read_from l.depth (links_part l.below l.calls) l.initial.rest ≡ joined_marks (links_seen l.links) (read_from l.depth (links_part l.below l.calls) l.rest)
+
+abbrev pub decreases-chain-links : goal.decreases-chain-links
+decreases-chain-links l = length l.rest.tokens.now

@@ -1,5 +1,5 @@
 -- The words so far are those of the tokens so far.
-use Rattle.std.proofs.Common.{◌≡◌, ◌-◌, length, map, take}
+use Rattle.std.proofs.Common.{◌≡◌, map, take}
 use Rattle.vh_syntax.specs.Tokens.{token_seen}
 use Rattle.vh_parse_expr.specs.Views.{tokens_seen}
 use Rattle.vh_parse_expr.proofs.word.words.Given as goal
