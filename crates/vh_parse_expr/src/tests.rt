@@ -90,55 +90,79 @@ fn push_sel<'e>(pieces: &mut Pieces<'e>, sel: &'e Sel<Expr>) -> Result<(), Fail>
     }
 }
 
+// A list in brackets.
+fn push_bracketed<'e>(
+    pieces: &mut Pieces<'e>,
+    opening: &'static str,
+    exprs: &'e [Expr],
+    closing: &'static str,
+) -> Result<(), Fail> {
+    pieces.push(Piece::Mark(closing))?;
+    push_list(pieces, exprs)?;
+    pieces.push(Piece::Mark(opening))?;
+    Ok(())
+}
+
 // An index of a name stands in `<>`, and a call is marked by `!`.
+fn push_named<'e>(pieces: &mut Pieces<'e>, primary: &'e Primary<Expr>) -> Result<(), Fail> {
+    match primary {
+        Primary::Name(name, Some(sel)) => {
+            push_sel(pieces, sel)?;
+            push_name(pieces, name)
+        }
+        Primary::Name(name, None) => push_name(pieces, name),
+        Primary::Call(name, arguments) => {
+            push_bracketed(pieces, "!(", arguments.as_slice(), ")")?;
+            push_name(pieces, name)
+        }
+        Primary::System(id, arguments) => {
+            push_bracketed(pieces, "(", arguments.as_slice(), ")")?;
+            pieces.push(Piece::Id(id))?;
+            Ok(())
+        }
+        _ => Ok(()),
+    }
+}
+
+fn push_repeat<'e>(
+    pieces: &mut Pieces<'e>,
+    count: &'e Expr,
+    parts: &'e [Expr],
+) -> Result<(), Fail> {
+    push_bracketed(pieces, "{", parts, "}}")?;
+    pieces.push(Piece::Expr(count))?;
+    pieces.push(Piece::Mark("{"))?;
+    Ok(())
+}
+
+fn push_paren<'e>(pieces: &mut Pieces<'e>, inner: &'e Expr) -> Result<(), Fail> {
+    pieces.push(Piece::Mark(")"))?;
+    pieces.push(Piece::Expr(inner))?;
+    pieces.push(Piece::Mark("("))?;
+    Ok(())
+}
+
+fn push_number(line: &mut String, number: Option<u64>) -> Result<(), Fail> {
+    match number {
+        Some(value) => write!(line, "{value}")?,
+        None => line.push('x')?,
+    }
+    Ok(())
+}
+
 fn push_primary<'e>(
     line: &mut String,
     pieces: &mut Pieces<'e>,
     primary: &'e Primary<Expr>,
 ) -> Result<(), Fail> {
     match primary {
-        Primary::Number(number) => match number.value.number() {
-            Some(value) => write!(line, "{value}")?,
-            None => line.push('x')?,
-        },
-        Primary::Text(text) => push_bytes(line, text.as_slice())?,
-        Primary::Name(name, sel) => {
-            if let Some(sel) = sel {
-                push_sel(pieces, sel)?;
-            }
-            push_name(pieces, name)?;
-        }
-        Primary::Call(name, arguments) => {
-            pieces.push(Piece::Mark(")"))?;
-            push_list(pieces, arguments.as_slice())?;
-            pieces.push(Piece::Mark("!("))?;
-            push_name(pieces, name)?;
-        }
-        Primary::System(id, arguments) => {
-            pieces.push(Piece::Mark(")"))?;
-            push_list(pieces, arguments.as_slice())?;
-            pieces.push(Piece::Mark("("))?;
-            pieces.push(Piece::Id(id))?;
-        }
-        Primary::Paren(inner) => {
-            pieces.push(Piece::Mark(")"))?;
-            pieces.push(Piece::Expr(inner.get()))?;
-            pieces.push(Piece::Mark("("))?;
-        }
-        Primary::Concat(parts) => {
-            pieces.push(Piece::Mark("}"))?;
-            push_list(pieces, parts.as_slice())?;
-            pieces.push(Piece::Mark("{"))?;
-        }
-        Primary::Repeat(count, parts) => {
-            pieces.push(Piece::Mark("}}"))?;
-            push_list(pieces, parts.as_slice())?;
-            pieces.push(Piece::Mark("{"))?;
-            pieces.push(Piece::Expr(count.get()))?;
-            pieces.push(Piece::Mark("{"))?;
-        }
+        Primary::Number(number) => push_number(line, number.value.number()),
+        Primary::Text(text) => push_bytes(line, text.as_slice()),
+        Primary::Paren(inner) => push_paren(pieces, inner.get()),
+        Primary::Concat(parts) => push_bracketed(pieces, "{", parts.as_slice(), "}"),
+        Primary::Repeat(count, parts) => push_repeat(pieces, count.get(), parts.as_slice()),
+        _ => push_named(pieces, primary),
     }
-    Ok(())
 }
 
 // What operators make stands in `<>`.
