@@ -1,2 +1,0 @@
--- What an opening queue is made of.
-mod EventsLemmas

@@ -3,13 +3,19 @@
 //! The one contract used above: contracts see [`Queue`] as `Events`, a finite map from serials
 //! to entries with the next serial and the present time; each call is one equation over it, and
 //! the entries that may be picked are those that `eligible` of `specs/Events.antt` gives. Want of
-//! memory is the one free answer. It stands on `vh_base` alone.
+//! memory is the one free answer. It stands on `vh_base` and on `vh_logic`, whose vectors entries hold.
 #![tactic(auto)]
 
+mod entry;
+mod fault;
 mod queue;
 mod region;
 #[cfg(test)]
 mod tests;
+mod work;
 
-pub use queue::{Entry, Queue, Work};
+pub use entry::Entry;
+pub use fault::AddFault;
+pub use queue::Queue;
 pub use region::Region;
+pub use work::Work;

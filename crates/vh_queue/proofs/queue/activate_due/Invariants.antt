@@ -1,5 +1,5 @@
 use Rattle.std.proofs.Common.{◌≡◌, ◌++◌, take, drop, map}
-use Rattle.vh_queue.specs.Events.{activated_entry}
+use Rattle.vh_queue.specs.Entries.{activated_entry}
 use Rattle.vh_queue.proofs.queue.activate_due.Given as goal
 
 -- the front is done, the rest as it was
