@@ -7,14 +7,14 @@ use Rattle.vh_callbacks.specs.Callbacks.{info_of, body_of}
 use Rattle.vh_kernel.specs.Activations.{Activation}
 use Rattle.vh_kernel.specs.declared.control.Control.{Control}
 use Rattle.vh_kernel.specs.declared.control.Control.TheVariants as top
-use Rattle.vh_queue.specs.declared.queue.Entry.{Entry}
+use Rattle.vh_queue.specs.declared.entry.Entry.{Entry}
 use Rattle.vh_kernel.specs.declared.label.Ending.TheVariants as ending
 use Rattle.vh_kernel.specs.declared.label.Label.{Label}
 use Rattle.vh_kernel.specs.declared.label.Label.TheVariants as label
 use Rattle.vh_kernel.specs.declared.occurrence.Agendum.{Agendum}
 use Rattle.vh_kernel.specs.declared.occurrence.Agendum.TheVariants as agendum
 use Rattle.vh_kernel.specs.declared.occurrence.Told.{Told}
-use Rattle.vh_queue.specs.Events.{without_serial}
+use Rattle.vh_queue.specs.Events.{without}
 use Rattle.vh_dispatch.specs.Frames.{without_in_top}
 use Rattle.vh_kernel.specs.Occurrences.{Occurrence, occurrence_of}
 use Rattle.vh_orders.specs.Orders.{Given}
@@ -92,7 +92,7 @@ one-row s u v (label.Advance time) sound one other = one.2 ∙ sym other.2
 one-row s u v (label.Pick n shown) sound one other =
     let entry : one.entry ≡ other.entry =
     one_entry s one.choice other.choice one.entry other.entry sound one.chosen other.chosen (one.serial ∙ sym other.serial) in
-    let there = ap (λ (x : Entry). work_outcome x.work (record s { queue = record s.queue { entries = without_serial n s.queue.entries } })) entry
+    let there = ap (λ (x : Entry). work_outcome x.work (record s { queue = without n s.queue })) entry
     ∙ other.makes in
     one.leaves.1 ∙ ap (λ (m : Made). after_made m) (one-made _ one.made other.made one.makes there) ∙ sym other.leaves.1
 one-row s u v (label.Stmt p shown) sound one other =

@@ -9,14 +9,14 @@ use Rattle.vh_app.specs.Script.{ScriptData}
 use Rattle.vh_kernel.specs.Activations.{Activation}
 use Rattle.vh_kernel.specs.declared.control.Control.{Control}
 use Rattle.vh_kernel.specs.declared.control.Control.TheVariants as top
-use Rattle.vh_queue.specs.declared.queue.Entry.{Entry}
+use Rattle.vh_queue.specs.declared.entry.Entry.{Entry}
 use Rattle.vh_queue.specs.declared.region.Region.{Region}
 use Rattle.vh_kernel.specs.declared.occurrence.Agendum.{Agendum}
 use Rattle.vh_kernel.specs.declared.occurrence.Agendum.TheVariants as agendum
 use Rattle.vh_kernel.specs.declared.occurrence.Told.{Told}
 use Rattle.vh_kernel.specs.declared.phase.Phase.{Phase}
 use Rattle.vh_kernel.specs.declared.phase.Phase.TheVariants as phase
-use Rattle.vh_queue.specs.Events.{eligible, next_region, least_time, without_serial}
+use Rattle.vh_queue.specs.Events.{eligible, next_region, least_time, without}
 use Rattle.vh_handles.specs.Handles.{Handles}
 use Rattle.vh_kernel.specs.Occurrences.{occurrence_of}
 use Rattle.vh_kernel.specs.Settle.{settled}
@@ -168,7 +168,7 @@ region-fits s (Some r) = tt
 pick-fits : (s : State) (o : Option Entry) → Fits s (pick_move o s).0
 pick-fits s None = region-fits s (next_region s.queue)
 pick-fits s (Some e) = outcome-fits s s (λ shown. label.Pick e.serial shown)
-    (work_outcome e.work (record s { queue = record s.queue { entries = without_serial e.serial s.queue.entries } })) (λ shown. tt)
+    (work_outcome e.work (record s { queue = without e.serial s.queue })) (λ shown. tt)
 
 agenda-fits : (s : State) (o : Option Agendum) (k : ℕ) → Fits s (agenda_move o s k).0
 agenda-fits s None k = pick-fits s (slice_get (eligible s.queue) k)

@@ -19,9 +19,9 @@ use Rattle.vh_kernel.specs.Activations.{Activation}
 use Rattle.vh_orders.specs.declared.who.Body.{Body}
 use Rattle.vh_kernel.specs.declared.control.Control.{Control}
 use Rattle.vh_kernel.specs.declared.control.Control.TheVariants as top
-use Rattle.vh_queue.specs.declared.queue.Entry.{Entry}
-use Rattle.vh_queue.specs.declared.queue.Work.{Work}
-use Rattle.vh_queue.specs.declared.queue.Work.TheVariants as work
+use Rattle.vh_queue.specs.declared.entry.Entry.{Entry}
+use Rattle.vh_queue.specs.declared.work.Work.{Work}
+use Rattle.vh_queue.specs.declared.work.Work.TheVariants as work
 use Rattle.vh_kernel.specs.declared.label.Label.{Label}
 use Rattle.vh_kernel.specs.declared.label.Label.TheVariants as label
 use Rattle.vh_queue.specs.declared.region.Region.{Region}
@@ -120,7 +120,14 @@ telling-phase o s =
     (λ _. unless-holds (AllMade (HasPhase s.phase)) (nat_lt MOST_NUMBERS s.occurrence) fault.F3 _ (λ _. tt) (λ _. refl))
 
 work-phase : (w : Work) (s : State) → AllMade (HasPhase s.phase) (work_outcome w s)
-work-phase (work.Evaluation p) s = refl
+work-phase (work.Evaluate p) s = refl
+work-phase (work.Drive driver value) s = refl
+work-phase (work.Assign object low value) s = refl
+work-phase (work.Follow object force) s = refl
+work-phase (work.Put object value) s = refl
+work-phase (work.Strobe show) s = refl
+work-phase work.MonitorShow s = refl
+work-phase (work.Call callback) s = refl
 
 -- A move that ends the run, or one after which it isn't over.
 abbrev Goes : Move → Type 0

@@ -8,9 +8,9 @@ use Rattle.vh_base.specs.declared.words.Reason.{Reason}
 use Rattle.vh_kernel.specs.Activations.{Activation}
 use Rattle.vh_kernel.specs.declared.control.Control.{Control}
 use Rattle.vh_kernel.specs.declared.control.Control.TheVariants as top
-use Rattle.vh_queue.specs.declared.queue.Entry.{Entry}
-use Rattle.vh_queue.specs.declared.queue.Work.{Work}
-use Rattle.vh_queue.specs.declared.queue.Work.TheVariants as work
+use Rattle.vh_queue.specs.declared.entry.Entry.{Entry}
+use Rattle.vh_queue.specs.declared.work.Work.{Work}
+use Rattle.vh_queue.specs.declared.work.Work.TheVariants as work
 use Rattle.vh_kernel.specs.declared.label.Ending.TheVariants as ending
 use Rattle.vh_kernel.specs.declared.label.Label.{Label}
 use Rattle.vh_kernel.specs.declared.label.Label.TheVariants as label
@@ -20,7 +20,7 @@ use Rattle.vh_kernel.specs.declared.occurrence.Agendum.TheVariants as agendum
 use Rattle.vh_kernel.specs.declared.occurrence.Told.{Told}
 use Rattle.vh_kernel.specs.declared.phase.Phase.{Phase}
 use Rattle.vh_kernel.specs.declared.phase.Phase.TheVariants as phase
-use Rattle.vh_queue.specs.Events.{eligible, without_serial, next_region, least_time}
+use Rattle.vh_queue.specs.Events.{eligible, without, next_region, least_time}
 use Rattle.vh_kernel.specs.Occurrences.{Occurrence, occurrence_of}
 use Rattle.vh_dispatch.specs.Frames.{top_set}
 use Rattle.vh_orders.specs.Orders.{Given}
@@ -28,7 +28,7 @@ use Rattle.vh_kernel.specs.Outcome.{Outcome, Move, after_made, move_of, end_move
 use Rattle.vh_kernel.specs.State.{State, with_top, without_top, without_item}
 use Rattle.vh_kernel.specs.Statements.{next_statement, statement_outcome}
 use Rattle.vh_kernel.specs.Step.{telling_outcome, fire_move, activation_move, work_outcome, time_move, region_move, pick_move, agenda_move, idle_move, item_move, top_move, crowded_move, is_crowded, is_over, settled_move, Fits, finish_move, item_choices, agenda_choices, idle_choices, top_choices, choices_of}
-use Rattle.vh_kernel.specs.Table.{IsGoing, HasTop, HasNext, IsCalm, TellsNext, Exceeds, by_entries, by_statement, by_occurrence, Row, Step, StepsByTable, TableBySteps}
+use Rattle.vh_kernel.specs.Table.{IsGoing, HasTop, HasNext, IsCalm, TellsNext, Exceeds, by_processes, by_statement, by_occurrence, Row, Step, StepsByTable, TableBySteps}
 use Rattle.vh_kernel.proofs.StepLemmas.{IsActing, returns, orders, acts, not-over, some-choice}
 
 abbrev HasRow : State → Move → Type 0
@@ -103,7 +103,14 @@ acting-row a s g m on makes (orders vars o further is) fits =
 
 -- With nothing on control.
 no-fault : (w : Work) (s : State) (f : Fault) → work_outcome w s ≡ Err f → ⊥
-no-fault (work.Evaluation p) s f is = absurd (cc)
+no-fault (work.Evaluate p) s f is = absurd (cc)
+no-fault (work.Drive driver value) s f is = absurd (cc)
+no-fault (work.Assign object low value) s f is = absurd (cc)
+no-fault (work.Follow object force) s f is = absurd (cc)
+no-fault (work.Put object value) s f is = absurd (cc)
+no-fault (work.Strobe show) s f is = absurd (cc)
+no-fault work.MonitorShow s f is = absurd (cc)
+no-fault (work.Call callback) s f is = absurd (cc)
 
 time-row : (o : Option ℕ) (s : State) → IsCalm s None → least_time s.queue.entries ≡ o → HasRow s (time_move o s)
 time-row None s calm least = (inr (calm, least, refl), refl)
@@ -116,7 +123,7 @@ region-row None s next none is =
 region-row (Some r) s next none is = (record { next = next; none = none; region = is }, refl)
 
 picked-row : (e : Entry) (s : State) (k : ℕ) (out : Outcome) → HasNext s None → slice_get (eligible s.queue) k ≡ Some e
-    → work_outcome e.work (record s { queue = record s.queue { entries = without_serial e.serial s.queue.entries } }) ≡ out
+    → work_outcome e.work (record s { queue = without e.serial s.queue }) ≡ out
     → HasRow s (move_of (λ shown. label.Pick e.serial shown) s out)
 picked-row e s k (Ok m) next is makes =
     record { choice = k; entry = e; made = m; next = next; chosen = is; serial = refl; makes = makes; leaves = (refl, refl) }
@@ -158,7 +165,7 @@ top-row (Some c) s k g going is fits below = item-row c s k g (record { going = 
 
 crowded-row : (b : Bool) (s : State) (k : ℕ) (g : Given) → is_over s.phase ≡ false → is_crowded s ≡ b
     → Fits s (crowded_move b s k g).0 → k < cond b 1 (top_choices (slice_get s.control 0) s) → HasRow s (crowded_move b s k g)
-crowded-row true s k g alive crowded fits below = (by_entries alive crowded refl, refl)
+crowded-row true s k g alive crowded fits below = (by_processes alive crowded refl, refl)
 crowded-row false s k g alive crowded fits below =
     top-row (slice_get s.control 0) s k g (record { goes = alive; fits = crowded }) refl fits below
 
@@ -261,7 +268,7 @@ by-label l k u same = ap (λ (x : Label). (let m : Move = (x, u) in m)) same
 -- The faults.
 fault-chosen : (s u : State) (f : Fault) → Exceeds s f → u ≡ record s { phase = phase.Ended (ending.Fault f) }
     → Chosen s (label.End (ending.Fault f), u)
-fault-chosen s u f (by_entries alive crowded is) after = record {
+fault-chosen s u f (by_processes alive crowded is) after = record {
   choice = 0;
   given = nothing;
   below = some-choice s alive;
@@ -368,7 +375,7 @@ row-chosen s u (label.Pick n shown) row = record {
   makes = by-agenda s None row.choice nothing row.next
       ∙ ap (λ (o : Option Entry). pick_move o s) row.chosen
       ∙ ap (λ (k : ℕ). move_of (λ x. label.Pick k x) s
-      (work_outcome row.entry.work (record s { queue = record s.queue { entries = without_serial k s.queue.entries } }))) row.serial
+      (work_outcome row.entry.work (record s { queue = without k s.queue }))) row.serial
       ∙ ap (λ (out : Outcome). move_of (λ x. label.Pick n x) s out) row.makes
       ∙ by-label (label.Pick n row.made.shown) (label.Pick n shown) _ (ap (λ (x : Option (List ℕ)). label.Pick n x) (sym row.leaves.0))
       ∙ by-after (label.Pick n shown) _ u row.leaves.1;

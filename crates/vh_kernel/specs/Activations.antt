@@ -1,6 +1,6 @@
 -- What an application is at: a startup or a procedure that runs. (IEEE 1364-2005, 27.33, in this project's
 -- profile)
-use Rattle.std.specs.Prelude.{ℕ, ◌+◌, min, Option, Some, None}
+use Rattle.std.specs.Prelude.{ℕ, ◌+◌, min, Some, None}
 use Rattle.vh_base.specs.declared.orders.Answer.{Answer}
 use Rattle.vh_base.specs.declared.orders.Answer.TheVariants as answer
 use Rattle.vh_base.specs.declared.orders.Seen.{Seen}

@@ -1,5 +1,5 @@
 -- The machine's state. (IEEE 1364-2005, clause 11)
-use Rattle.std.specs.Prelude.{ℕ, zero, suc, ◌+◌, ◌++◌, List, [], ◌∷◌, map, length, drop, None}
+use Rattle.std.specs.Prelude.{ℕ, zero, suc, ◌+◌, ◌++◌, List, [], ◌∷◌, map, length, drop, if◌then◌else◌, nat_lt, Some, None}
 use Rattle.vh_base.specs.declared.first.FirstBit.{FirstBit}
 use Rattle.vh_base.specs.declared.first.FirstBit.TheVariants as bit
 use Rattle.vh_base.specs.declared.first.FirstCode.{FirstCode}
@@ -14,7 +14,10 @@ use Rattle.vh_kernel.specs.declared.occurrence.Agendum.TheVariants as agendum
 use Rattle.vh_kernel.specs.declared.phase.Phase.{Phase}
 use Rattle.vh_kernel.specs.declared.phase.Phase.TheVariants as phase
 use Rattle.vh_kernel.specs.declared.control.Control.{Control}
-use Rattle.vh_queue.specs.Events.{Events, opening_events}
+use Rattle.vh_base.specs.declared.limits.TheConstants.{MOST_ENTRIES}
+use Rattle.vh_queue.specs.declared.region.Region.TheVariants as region
+use Rattle.vh_queue.specs.declared.work.Work.TheVariants as work
+use Rattle.vh_queue.specs.Events.{Events, no_events, added}
 use Rattle.vh_handles.specs.Handles.{no_handles}
 use Rattle.vh_orders.specs.Names.{full_names}
 use Rattle.vh_orders.specs.World.{World}
@@ -43,6 +46,15 @@ abbrev pub opening_agenda : List ScriptData → List Agendum
 opening_agenda scripts =
     startups 1 (length scripts)
     ++ agendum.Occurrence reason.CbEndOfCompile ∷ agendum.Occurrence reason.CbStartOfSimulation ∷ []
+
+-- The queue of so many processes, each of which has an active evaluation entry of time 0, in order. Where
+-- more processes are than the queue has room for, there is no entry: the run ends at once. (own)
+abbrev pub evaluations : ℕ → Events
+evaluations zero = no_events
+evaluations (suc n) = added (Some 0) region.Active (work.Evaluate n) (evaluations n)
+
+abbrev pub opening_events : ℕ → Events
+opening_events processes = if nat_lt MOST_ENTRIES processes then no_events else evaluations processes
 
 -- The world before all: every variable is null, no callback is live, no frame stands, no handle was given.
 abbrev pub world_before : First → List ScriptData → World

@@ -9,7 +9,7 @@ use Rattle.vh_base.specs.declared.first.FirstCode.{FirstCode}
 use Rattle.vh_base.specs.declared.first.FirstCode.TheVariants as code
 use Rattle.vh_base.specs.declared.words.Reason.TheVariants as reason
 use Rattle.vh_base.specs.Checks.{unless}
-use Rattle.vh_queue.specs.declared.queue.Work.TheVariants as work
+use Rattle.vh_queue.specs.declared.work.Work.TheVariants as work
 use Rattle.vh_queue.specs.declared.region.Region.TheVariants as region
 use Rattle.vh_kernel.specs.declared.control.Control.TheVariants as top
 use Rattle.vh_kernel.specs.Occurrences.{Occurrence, bit_text}
@@ -55,7 +55,7 @@ statement_outcome p None s = silently s
 statement_outcome p (Some (code.Wait d)) s =
     unless (nat_lt MOST_TIME (s.queue.time + d)) fault.F2
     (unless (is_full s.queue) fault.F3
-    (silently (past_statement p (record s { queue = added (Some (s.queue.time + d)) region.Inactive (work.Evaluation p) s.queue }))))
+    (silently (past_statement p (record s { queue = added (Some (s.queue.time + d)) region.Inactive (work.Evaluate p) s.queue }))))
 statement_outcome p (Some (code.Assign reg value)) s = value_outcome (slice_get s.store reg) reg value (going_on p s)
 statement_outcome p (Some (code.Show text)) s =
     Ok (record { shown = Some (text ++ 10 ∷ []); occurrences = []; state = going_on p s })

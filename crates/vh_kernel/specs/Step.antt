@@ -1,6 +1,6 @@
 -- The machine's step: a state, a choice and what is given besides it make the label and the state after
 -- it. (IEEE 1364-2005, 11.4 and 27.33; the numbers that end a run are own.)
-use Rattle.std.specs.Prelude.{◌≡◌, ⊤, ℕ, ◌+◌, ◌-◌, List, [], ◌∷◌, drop, length, max, min, Bool, true, false, if◌then◌else◌, nat_le, nat_lt, Option, Some, None, slice_get, slice_set}
+use Rattle.std.specs.Prelude.{◌≡◌, ⊤, ℕ, ◌+◌, ◌-◌, List, [], ◌∷◌, drop, length, max, Bool, true, false, if◌then◌else◌, nat_le, nat_lt, Option, Some, None, slice_get, slice_set}
 use Rattle.vh_base.specs.declared.limits.TheConstants.{MOST_ENTRIES, MOST_FRAMES, MOST_NUMBERS}
 use Rattle.vh_base.specs.declared.faults.Cause.{Cause}
 use Rattle.vh_base.specs.declared.faults.Cause.TheVariants as cause
@@ -8,7 +8,6 @@ use Rattle.vh_base.specs.declared.faults.Fault.TheVariants as fault
 use Rattle.vh_base.specs.declared.orders.Answer.{Answer}
 use Rattle.vh_base.specs.declared.orders.Answer.TheVariants as answer
 use Rattle.vh_base.specs.declared.orders.Order.{Order}
-use Rattle.vh_base.specs.declared.orders.Seen.{Seen}
 use Rattle.vh_base.specs.declared.words.Reason.TheVariants as reason
 use Rattle.vh_base.specs.Checks.{unless}
 use Rattle.vh_app.specs.declared.point.Body.TheVariants as part
@@ -19,9 +18,9 @@ use Rattle.vh_callbacks.specs.declared.registration.Registration.{Registration}
 use Rattle.vh_callbacks.specs.Callbacks.{info_of, body_of}
 use Rattle.vh_orders.specs.declared.who.Body.{Body}
 use Rattle.vh_orders.specs.declared.who.Who.TheVariants as who_is
-use Rattle.vh_queue.specs.declared.queue.Entry.{Entry}
-use Rattle.vh_queue.specs.declared.queue.Work.{Work}
-use Rattle.vh_queue.specs.declared.queue.Work.TheVariants as work
+use Rattle.vh_queue.specs.declared.entry.Entry.{Entry}
+use Rattle.vh_queue.specs.declared.work.Work.{Work}
+use Rattle.vh_queue.specs.declared.work.Work.TheVariants as work
 use Rattle.vh_kernel.specs.declared.label.Ending.TheVariants as ending
 use Rattle.vh_kernel.specs.declared.label.Label.{Label}
 use Rattle.vh_kernel.specs.declared.label.Label.TheVariants as label
@@ -35,7 +34,7 @@ use Rattle.vh_kernel.specs.declared.control.Control.{Control}
 use Rattle.vh_kernel.specs.declared.control.Control.TheVariants as top
 use Rattle.vh_kernel.specs.declared.occurrence.Told.{Told}
 use Rattle.vh_kernel.specs.Occurrences.{Occurrence, occurrence_of, set_of}
-use Rattle.vh_queue.specs.Events.{eligible, without_serial, next_region, activated_of, least_time, advanced}
+use Rattle.vh_queue.specs.Events.{eligible, without, cleared, next_region, activated, least_time, advanced}
 use Rattle.vh_dispatch.specs.Frames.{top_set, without_in_top}
 use Rattle.vh_orders.specs.Orders.{Given, performed, is_return}
 use Rattle.vh_orders.specs.World.{World}
@@ -50,7 +49,7 @@ finish_move c s = (
   label.Finish c,
   record s {
     world = record s.world { frames = [] };
-    queue = record s.queue { entries = [] };
+    queue = cleared s.queue;
     control = top.Pending (occurrence_of reason.CbEndOfSimulation) ∷ [];
     agenda = [];
     phase = phase.Finished c;
@@ -114,9 +113,17 @@ activation_move (Some script) None a s g = (label.Ret a.who, s)
 activation_move (Some script) (Some vars) a s g =
     next_move_of (next_order script a.at vars a.seen) a (with_top (top.Activation a) s) s g
 
--- An entry is performed, a row for each kind of work: an evaluation puts its process on control.
+-- An entry is performed, a row for each kind of work: an evaluation puts its process on control. No design
+-- adds one of the others yet; what they make comes with what adds them.
 abbrev pub work_outcome : Work → State → Outcome
-work_outcome (work.Evaluation p) s = silently (with_top (top.Process p) s)
+work_outcome (work.Evaluate p) s = silently (with_top (top.Process p) s)
+work_outcome (work.Drive driver value) s = silently s
+work_outcome (work.Assign object low value) s = silently s
+work_outcome (work.Follow object force) s = silently s
+work_outcome (work.Put object value) s = silently s
+work_outcome (work.Strobe show) s = silently s
+work_outcome work.MonitorShow s = silently s
+work_outcome (work.Call callback) s = silently s
 
 -- Time goes on to the least time of an entry, or where none is left the run finishes.
 abbrev pub time_move : Option ℕ → State → Move
@@ -127,13 +134,13 @@ time_move (Some time) s = (label.Advance time, record s { queue = advanced time 
 abbrev pub region_move : Option Region → State → Move
 region_move None s = time_move (least_time s.queue.entries) s
 region_move (Some r) s =
-    (label.Activate r, record s { queue = record s.queue { entries = activated_of r s.queue.time s.queue.entries } })
+    (label.Activate r, record s { queue = activated r s.queue })
 
 -- An entry is picked and performed, or where none may be a region becomes active.
 abbrev pub pick_move : Option Entry → State → Move
 pick_move None s = region_move (next_region s.queue) s
 pick_move (Some e) s = move_of (λ shown. label.Pick e.serial shown) s
-    (work_outcome e.work (record s { queue = record s.queue { entries = without_serial e.serial s.queue.entries } }))
+    (work_outcome e.work (record s { queue = without e.serial s.queue }))
 
 -- The agenda goes on: a startup begins, or an occurrence is told.
 abbrev pub started : Option ScriptData → ℕ → State → State
@@ -169,9 +176,9 @@ abbrev pub top_move : Option Control → State → ℕ → Given → Move
 top_move None s k g = idle_move s.phase s k
 top_move (Some c) s k g = item_move c (without_top s) k g
 
--- More entries than the queue has room for stand only where a design opens with them.
+-- Are there more processes than the queue has room for?
 abbrev pub is_crowded : State → Bool
-is_crowded s = nat_lt MOST_ENTRIES (length s.queue.entries)
+is_crowded s = nat_lt MOST_ENTRIES (length s.threads)
 
 abbrev pub crowded_move : Bool → State → ℕ → Given → Move
 crowded_move true s k g = end_move (ending.Fault fault.F3) s

@@ -1,6 +1,6 @@
 -- The machine's step as a table: from which state a label leads to which, a row for each label.
 -- (IEEE 1364-2005, 11.4 and 27.33)
-use Rattle.std.specs.Prelude.{◌≡◌, ℕ, ◌+◌, ◌-◌, ◌<◌, ◌≤◌, List, [], ◌∷◌, drop, true, false, if◌then◌else◌, Option, Some, None, Ok, Err, slice_get, ◌⊎◌}
+use Rattle.std.specs.Prelude.{◌≡◌, ℕ, ◌-◌, ◌<◌, List, [], drop, true, false, if◌then◌else◌, Option, Some, None, Ok, Err, slice_get, ◌⊎◌}
 use Rattle.vh_base.specs.declared.faults.Cause.{Cause}
 use Rattle.vh_base.specs.declared.faults.Cause.TheVariants as cause
 use Rattle.vh_base.specs.declared.faults.Fault.{Fault}
@@ -13,7 +13,7 @@ use Rattle.vh_callbacks.specs.Callbacks.{info_of, body_of}
 use Rattle.vh_kernel.specs.Activations.{Activation}
 use Rattle.vh_kernel.specs.declared.control.Control.{Control}
 use Rattle.vh_kernel.specs.declared.control.Control.TheVariants as top
-use Rattle.vh_queue.specs.declared.queue.Entry.{Entry}
+use Rattle.vh_queue.specs.declared.entry.Entry.{Entry}
 use Rattle.vh_kernel.specs.declared.label.Ending.TheVariants as ending
 use Rattle.vh_kernel.specs.declared.label.Label.{Label}
 use Rattle.vh_kernel.specs.declared.label.Label.TheVariants as label
@@ -22,7 +22,7 @@ use Rattle.vh_kernel.specs.declared.occurrence.Agendum.{Agendum}
 use Rattle.vh_kernel.specs.declared.occurrence.Agendum.TheVariants as agendum
 use Rattle.vh_kernel.specs.declared.occurrence.Told.{Told}
 use Rattle.vh_kernel.specs.declared.phase.Phase.TheVariants as phase
-use Rattle.vh_queue.specs.Events.{eligible, without_serial, next_region, activated_of, least_time, advanced}
+use Rattle.vh_queue.specs.Events.{eligible, without, next_region, activated, least_time, advanced, Rises}
 use Rattle.vh_dispatch.specs.Frames.{top_set, without_in_top}
 use Rattle.vh_kernel.specs.Occurrences.{Occurrence, occurrence_of}
 use Rattle.vh_orders.specs.Orders.{Given}
@@ -32,7 +32,7 @@ use Rattle.vh_kernel.specs.State.{State, with_top, without_top, without_item, wi
 use Rattle.vh_kernel.specs.Statements.{next_statement, statement_outcome}
 use Rattle.vh_kernel.specs.Step.{Fits, IsStep, is_crowded, is_over, work_outcome, telling_outcome, called, activation_move, started, finish_move, is_end, choices_of}
 
--- The run isn't over, and no more entries stand than the queue has room for.
+-- The run isn't over, and there are no more processes than the queue has room for.
 pub record IsGoing (s : State) : Type 0 where
   pub goes : is_over s.phase ≡ false
   pub fits : is_crowded s ≡ false
@@ -62,10 +62,10 @@ TellsNext s o r =
     (HasTop s (top.Pending o) × (r ≡ without_top s))
     ⊎ ((reason : Reason) × HasNext s (Some (agendum.Occurrence reason)) × (o ≡ occurrence_of reason) × (r ≡ without_item s))
 
--- The next label would exceed the number of this fault: more entries stand than there is room for, or
+-- The next label would exceed the number of this fault: there are more processes than room for them, or
 -- that is what comes of the statement or the occurrence that is next.
 pub data Exceeds (s : State) (f : Fault) : Type 0 where
-  by_entries : is_over s.phase ≡ false → is_crowded s ≡ true → f ≡ fault.F3 → Exceeds s f
+  by_processes : is_over s.phase ≡ false → is_crowded s ≡ true → f ≡ fault.F3 → Exceeds s f
   by_statement : (p : ℕ) → HasTop s (top.Process p) → statement_outcome p (next_statement p s) (without_top s) ≡ Err f → Exceeds s f
   by_occurrence : (o : Occurrence) (r : State) → TellsNext s o r → telling_outcome o r ≡ Err f → Exceeds s f
 
@@ -126,7 +126,7 @@ pub record Picks (s : State) (n : ℕ) (shown : Option (List ℕ)) (u : State) :
   pub next : HasNext s None
   pub chosen : slice_get (eligible s.queue) choice ≡ Some entry
   pub serial : entry.serial ≡ n
-  pub makes : work_outcome entry.work (record s { queue = record s.queue { entries = without_serial n s.queue.entries } }) ≡ Ok made
+  pub makes : work_outcome entry.work (record s { queue = without n s.queue }) ≡ Ok made
   pub leaves : Leaves made shown u
 
 -- The process on top performs its next statement, or ends.
@@ -149,7 +149,7 @@ Row s (label.Done n) u = Closes s n u
 -- all inactive entries of the present time become active, else all nonblocking ones, else those of the
 -- monitor region
 Row s (label.Activate r) u =
-    IsCalm s (Some r) × (u ≡ record s { queue = record s.queue { entries = activated_of r s.queue.time s.queue.entries } })
+    IsCalm s (Some r) × (u ≡ record s { queue = activated r s.queue })
 -- time advances to the least time of an entry
 Row s (label.Advance time) u =
     IsCalm s None × (least_time s.queue.entries ≡ Some time) × (u ≡ record s { queue = advanced time s.queue })
@@ -169,11 +169,6 @@ pub record Step (s : State) (l : Label) (t : State) : Type 0 where
   pub before : State
   pub row : Row s l before
   pub settles : t ≡ (if is_end l then before else settled before)
-
--- The entries' serials rise, from low on and below high.
-abbrev pub Rises : ℕ → ℕ → List Entry → Type 0
-Rises low high [] = low ≤ high
-Rises low high (e ∷ es) = (low ≤ e.serial) × Rises (e.serial + 1) high es
 
 -- What every state of a run keeps: serials from 1 on, each given once and below the next.
 abbrev pub IsSound : State → Type 0

@@ -1,4 +1,4 @@
-ghost use Rattle.std.specs.Prelude.{◌≡◌, ◌<◌, ℕ, false, List, [], slice_get, length, ◌^◌, IfOk, IsTrue};
+ghost use Rattle.std.specs.Prelude.{◌≡◌, ◌<◌, ℕ, false, List, [], slice_get, length, ◌^◌, IfOk, OnOk, IsTrue};
 ghost use Rattle.vh_queue.specs.Events.{eligible, next_region, least_time};
 ghost use Rattle.vh_orders.specs.Names.{name_of};
 
@@ -17,7 +17,7 @@ use crate::thread::Thread;
 use std::alloc::Global;
 use std::collections::VecDeque;
 use vh_app::Script;
-use vh_base::{Cause, Fault, First, FirstBit, MOST_ENTRIES, NoMemory, ObjId, Reason, Serial};
+use vh_base::{Cause, Fault, First, FirstBit, MOST_ENTRIES, NoMemory, ObjId, Reason};
 use vh_orders::{Who, World};
 use vh_queue::{Queue, Work};
 
@@ -39,9 +39,9 @@ pub struct Kernel {
 impl Kernel {
     ghost use Rattle.vh_base.specs.First.{are_declared};
     ghost use Rattle.vh_kernel.specs.Line.{script_name};
-    ghost use Rattle.vh_kernel.specs.Outcome.{end_move};
+    ghost use Rattle.vh_kernel.specs.Outcome.{end_move, silently};
     ghost use Rattle.vh_kernel.specs.Settle.{opening};
-    ghost use Rattle.vh_kernel.specs.Step.{finish_move, time_move, region_move, pick_move, agenda_move, idle_move, crowded_move, top_move, is_crowded, is_end, step_of, next_given, IsStep, choices_of, top_choices, item_choices, idle_choices, agenda_choices};
+    ghost use Rattle.vh_kernel.specs.Step.{finish_move, time_move, region_move, pick_move, work_outcome, agenda_move, idle_move, crowded_move, top_move, is_crowded, is_end, step_of, next_given, IsStep, choices_of, top_choices, item_choices, idle_choices, agenda_choices};
     ghost use Rattle.vh_kernel.specs.Views.{state_of, given_by, Moves};
 
     /// The machine at the opening of a design with its scripts.
@@ -87,7 +87,7 @@ impl Kernel {
         if let Phase::Ended(_) = self.phase {
             return 0;
         }
-        if self.queue.len() > MOST_ENTRIES {
+        if self.threads.len() > MOST_ENTRIES {
             return 1;
         }
         match self.control.top() {
@@ -109,7 +109,6 @@ impl Kernel {
     }
 
     fn idle_choices(&self) -> u32
-        requires { is_crowded (state_of self.now) ≡ false }
         ensures { result ≡ idle_choices (state_of self.now).phase (state_of self.now) }
     {
         match self.phase {
@@ -120,12 +119,11 @@ impl Kernel {
     }
 
     fn agenda_choices(&self) -> u32
-        requires { is_crowded (state_of self.now) ≡ false }
         ensures { result ≡ agenda_choices (slice_get (state_of self.now).agenda 0) (state_of self.now) }
     {
         match self.agenda.front() {
             Some(_) => 1,
-            None => (self.queue.count_eligible() as u32).max(1),
+            None => self.queue.choices().max(1),
         }
     }
 
@@ -146,16 +144,18 @@ impl Kernel {
     }
 
     fn make_label(&mut self, alloc: Global, k: u32) -> Result<Label, NoMemory>
+        requires { k < choices_of (state_of self.old) }
         ensures { Moves (crowded_move (is_crowded (state_of self.old)) (state_of self.old) k (given_by self.old))
             result self.new }
     {
-        if self.queue.len() > MOST_ENTRIES {
+        if self.threads.len() > MOST_ENTRIES {
             return Ok(self.fail(Fault::F3));
         }
         self.go_on(alloc, k)
     }
 
     fn go_on(&mut self, alloc: Global, k: u32) -> Result<Label, NoMemory>
+        requires { k < top_choices (slice_get (state_of self.old).control 0) (state_of self.old) }
         ensures { Moves (top_move (slice_get (state_of self.old).control 0) (state_of self.old) k (given_by self.old))
             result self.new }
     {
@@ -199,6 +199,7 @@ impl Kernel {
 
     // With nothing on control.
     fn go_idle(&mut self, alloc: Global, k: u32) -> Result<Label, NoMemory>
+        requires { k < idle_choices (state_of self.old).phase (state_of self.old) }
         ensures { Moves (idle_move (state_of self.old).phase (state_of self.old) k) result self.new }
     {
         match self.phase {
@@ -209,6 +210,7 @@ impl Kernel {
     }
 
     fn take_agenda(&mut self, alloc: Global, k: u32) -> Result<Label, NoMemory>
+        requires { k < agenda_choices (slice_get (state_of self.old).agenda 0) (state_of self.old) }
         ensures { Moves (agenda_move (slice_get (state_of self.old).agenda 0) (state_of self.old) k)
             result self.new }
     {
@@ -241,38 +243,52 @@ impl Kernel {
     }
 
     fn pick(&mut self, k: u32) -> Result<Label, NoMemory>
+        requires { k < agenda_choices None (state_of self.old) }
         ensures { Moves (pick_move (slice_get (eligible (state_of self.old).queue) k) (state_of self.old))
             result self.new }
     {
-        let Some(entry) = self.queue.eligible_at(k as usize) else {
+        if self.queue.choices() == 0 {
             return self.change_region();
-        };
-        self.queue.remove(entry.serial);
-        match entry.work {
-            Work::Evaluation(p) => self.control.push(Control::Process(p))?,
         }
-        Ok(Label::Pick(Serial::new(entry.serial), None))
+        let entry = self.queue.pick(k);
+        self.perform(&entry.work)?;
+        Ok(Label::Pick(entry.serial, None))
+    }
+
+    // What an entry that was picked does.
+    fn perform(&mut self, work: &Work) -> Result<(), NoMemory>
+        ensures { OnOk result (work_outcome work.now (state_of self.old) ≡ silently (state_of self.new)) }
+    {
+        match work {
+            Work::Evaluate(p) => self.control.push(Control::Process(p.number())),
+            // no design adds one of these yet
+            Work::Drive(..)
+            | Work::Assign { .. }
+            | Work::Follow { .. }
+            | Work::Put(..)
+            | Work::Strobe(_)
+            | Work::MonitorShow
+            | Work::Call(_) => Ok(()),
+        }
     }
 
     fn change_region(&mut self) -> Result<Label, NoMemory>
         ensures { Moves (region_move (next_region (state_of self.old).queue) (state_of self.old))
             result self.new }
     {
-        let Some(region) = self.queue.next_region() else {
-            return self.advance_time();
-        };
-        self.queue.activate(region);
-        Ok(Label::Activate(region))
+        match self.queue.activate() {
+            Some(region) => Ok(Label::Activate(region)),
+            None => self.advance_time(),
+        }
     }
 
     fn advance_time(&mut self) -> Result<Label, NoMemory>
         ensures { Moves (time_move (least_time (state_of self.old).queue.entries) (state_of self.old))
             result self.new }
     {
-        let Some(time) = self.queue.least_time() else {
-            return self.finish(Cause::Nothing);
-        };
-        self.queue.advance(time);
-        Ok(Label::Advance(time))
+        match self.queue.advance() {
+            Some(time) => Ok(Label::Advance(time)),
+            None => self.finish(Cause::Nothing),
+        }
     }
 }

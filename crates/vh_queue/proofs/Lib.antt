@@ -1,0 +1,2 @@
+-- Serials rise, and each names one entry.
+pub mod EventsLemmas

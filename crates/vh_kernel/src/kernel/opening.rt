@@ -1,10 +1,11 @@
-ghost use Rattle.std.specs.Prelude.{◌≡◌, ◌<◌, ◌+◌, ℕ, List, [], ◌∷◌, ◌++◌, map, length, None, ◌^◌, ◌-◌, IfOk};
+ghost use Rattle.std.specs.Prelude.{◌≡◌, ◌<◌, ◌≤◌, ◌+◌, ℕ, List, [], ◌∷◌, ◌++◌, map, length, None, ◌^◌, ◌-◌, IfOk};
+ghost use Rattle.vh_base.specs.declared.limits.TheConstants.{MOST_ENTRIES};
 ghost use Rattle.vh_app.specs.Next.{no_answers};
 ghost use Rattle.vh_orders.specs.Names.{below};
 ghost use Rattle.vh_callbacks.specs.Callbacks.{opening as no_callbacks};
 ghost use Rattle.vh_handles.specs.Handles.{no_handles};
 ghost use Rattle.vh_orders.specs.Views.{world_of};
-ghost use Rattle.vh_kernel.specs.State.{startups, opening_agenda};
+ghost use Rattle.vh_kernel.specs.State.{startups, opening_agenda, opening_events, evaluations};
 
 use crate::control::Stack;
 use crate::kernel::Kernel;
@@ -14,12 +15,14 @@ use crate::thread::Thread;
 use std::alloc::Global;
 use std::collections::VecDeque;
 use vh_app::{Script, Vars};
-use vh_base::{Bytes, First, FirstBit, FirstCode, NoMemory, Reason, Sequence};
+use vh_base::{
+    Bytes, First, FirstBit, FirstCode, MOST_ENTRIES, NoMemory, ProcId, Reason, Sequence,
+};
 use vh_callbacks::Registry;
 use vh_dispatch::Dispatch;
 use vh_handles::Handles;
 use vh_orders::{World, joined};
-use vh_queue::Queue;
+use vh_queue::{AddFault, Queue, Region, Work};
 
 // Every register opens as x.
 fn unknown_values(alloc: Global, regs: &[Bytes]) -> Result<Vec<FirstBit>, NoMemory>
@@ -88,6 +91,33 @@ fn all_startups(alloc: Global, scripts: u32) -> Result<VecDeque<Agendum>, NoMemo
     Ok(agenda)
 }
 
+// An evaluation of each process, where there is room for all of them.
+fn opening_queue(alloc: Global, processes: usize) -> Result<Queue, NoMemory>
+    ensures { IfOk result (λ q. q ≡ opening_events processes) }
+{
+    if processes > MOST_ENTRIES {
+        return Queue::new(alloc);
+    }
+    all_evaluations(alloc, processes)
+}
+
+// An evaluation of each of so many processes.
+fn all_evaluations(alloc: Global, processes: usize) -> Result<Queue, NoMemory>
+    requires { processes ≤ MOST_ENTRIES }
+    ensures { IfOk result (λ q. q ≡ evaluations processes) }
+{
+    let mut queue = Queue::new(alloc)?;
+    for p in 0..processes {
+        let work = Work::Evaluate(ProcId::new(p as u64));
+        match queue.add(Some(0), Region::Active, work) {
+            Ok(_) => {}
+            Err(AddFault::Full) => unreachable!(),
+            Err(AddFault::NoMemory) => return Err(NoMemory),
+        }
+    }
+    Ok(queue)
+}
+
 // The world before all.
 fn world_before(
     alloc: Global,
@@ -136,7 +166,7 @@ impl Kernel {
         let world = world_before(alloc, first.name.as_slice(), first.regs.as_slice(), scripts)?;
         let store = unknown_values(alloc, first.regs.as_slice())?;
         let blocks = first.blocks.into_vec();
-        let queue = Queue::opening(alloc, blocks.len())?;
+        let queue = opening_queue(alloc, blocks.len())?;
         let threads = all_threads(alloc, blocks)?;
         let agenda = opening_agenda(alloc, world.scripts.as_slice())?;
         Ok(Kernel {

@@ -10,7 +10,7 @@ use std::alloc::Global;
 use vh_base::{
     Bytes, Cause, Fault, FirstBit, FirstCode, MOST_TIME, NoMemory, ObjId, Object, ProcId, Sequence,
 };
-use vh_queue::{Region, Work};
+use vh_queue::{AddFault, Region, Work};
 
 // A text with a newline behind it.
 fn with_newline(alloc: Global, text: &[u8]) -> Result<Bytes, NoMemory>
@@ -104,14 +104,18 @@ impl Kernel {
             self.control.push(Control::Process(p))?;
             return Ok(self.fail(Fault::F2));
         }
-        if self.queue.is_full() {
-            self.control.push(Control::Process(p))?;
-            return Ok(self.fail(Fault::F3));
+        let work = Work::Evaluate(ProcId::new(p));
+        match self.queue.add(Some(until), Region::Inactive, work) {
+            Ok(_) => {
+                self.leave_behind(p);
+                Ok(Label::Stmt(ProcId::new(p), None))
+            }
+            Err(AddFault::Full) => {
+                self.control.push(Control::Process(p))?;
+                Ok(self.fail(Fault::F3))
+            }
+            Err(AddFault::NoMemory) => Err(NoMemory),
         }
-        self.queue
-            .add(Some(until), Region::Inactive, Work::Evaluation(p))?;
-        self.leave_behind(p);
-        Ok(Label::Stmt(ProcId::new(p), None))
     }
 
     fn assign(&mut self, p: u64, reg: u32, value: FirstBit) -> Result<Label, NoMemory>
