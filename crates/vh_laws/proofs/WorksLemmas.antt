@@ -17,8 +17,8 @@ use Rattle.vh_kernel.specs.Activations.{Activation}
 use Rattle.vh_orders.specs.declared.who.Body.{Body}
 use Rattle.vh_kernel.specs.declared.control.Control.{Control}
 use Rattle.vh_kernel.specs.declared.control.Control.TheVariants as top
-use Rattle.vh_queue.specs.declared.queue.Work.{Work}
-use Rattle.vh_queue.specs.declared.queue.Work.TheVariants as work
+use Rattle.vh_queue.specs.declared.work.Work.{Work}
+use Rattle.vh_queue.specs.declared.work.Work.TheVariants as work
 use Rattle.vh_base.specs.declared.orders.Object.{Object}
 use Rattle.vh_base.specs.declared.words.Reason.{Reason}
 use Rattle.vh_handles.specs.declared.handles.Thing.{Thing}
@@ -123,7 +123,14 @@ statement-view p (Some (code.Show text)) s = refl
 statement-view p (Some code.Finish) s = refl
 
 work-view : (w : Work) (s : State) → AllMade (HasView (view_of s)) (work_outcome w s)
-work-view (work.Evaluation p) s = refl
+work-view (work.Evaluate p) s = refl
+work-view (work.Drive driver value) s = refl
+work-view (work.Assign object low value) s = refl
+work-view (work.Follow object force) s = refl
+work-view (work.Put object value) s = refl
+work-view (work.Strobe show) s = refl
+work-view work.MonitorShow s = refl
+work-view (work.Call callback) s = refl
 
 left-view : (v : View) (out : Outcome) (m : Made) (u : State) → out ≡ Ok m → u ≡ after_made m → AllMade (HasView v) out → view_of u ≡ v
 left-view v out m u is leaves has =
