@@ -1,2 +1,16 @@
 -- Serials rise, and each names one entry.
 pub mod EventsLemmas
+-- What an index tells of its entries.
+pub mod PlacesLemmas
+-- What is least and greatest, and what may be picked.
+pub mod SerialsLemmas
+-- Entries as they are seen, by where they wait.
+pub mod ViewsLemmas
+-- What the index of a queue tells of its entries.
+pub mod HoldsLemmas
+-- The least time of an entry.
+pub mod TimesLemmas
+-- What a queue becomes.
+pub mod ChangesLemmas
+-- What the functions of a queue cite.
+pub mod QueuesLemmas

@@ -27,7 +27,7 @@ any_due r q = list_any (is_due r q.time) q.entries
 
 -- The second is an active nonblocking update that was added before the first.
 abbrev pub is_behind : Entry → Entry → Bool
-is_behind e f = is_active f && is_update f.work && nat_lt f.serial e.serial
+is_behind e f = (is_active f && is_update f.work) && nat_lt f.serial e.serial
 
 -- May an active entry be picked? A nonblocking update only where no active one has a smaller serial, any
 -- other at once. (11.4.1)

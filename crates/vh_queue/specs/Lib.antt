@@ -2,3 +2,11 @@
 pub mod Entries
 -- The event queue: its entries, and which of them may be picked.
 pub mod Events
+-- The places where entries wait, in their order.
+pub mod Places
+-- The least and the greatest serial.
+pub mod Serials
+-- The entries of four regions.
+pub mod Lanes
+-- How contracts see what is inside.
+pub mod Views

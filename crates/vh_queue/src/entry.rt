@@ -1,7 +1,11 @@
-ghost use Rattle.std.specs.Prelude.{◌≡◌, ◌==◌};
-ghost use Rattle.vh_queue.specs.Entries.{rank, is_due, is_active, activated_entry};
-ghost use Rattle.vh_queue.specs.Events.{is_behind, is_beyond_start, arrived};
+ghost use Rattle.std.specs.Prelude.{◌≡◌, ◌==◌, false};
+ghost use Rattle.vh_queue.specs.Entries.{rank, is_at, is_due, is_active};
+ghost use Rattle.vh_queue.specs.Places.{place_of};
+ghost use Rattle.vh_queue.specs.Views.{seen};
+ghost use Rattle.vh_queue.specs.Serials.{is_active_of, picked_by};
 
+use crate::marks::Marks;
+use crate::place::Place;
 use crate::region::Region;
 use crate::work::Work;
 use vh_base::Serial;
@@ -21,22 +25,48 @@ pub struct Entry {
 }
 
 impl Entry {
+    // Where it waits, where it has a time.
+    pub(crate) fn place(&self) -> Option<Place>
+        ensures { result ≡ place_of self.now }
+    {
+        let time = self.time?;
+        Some(Place {
+            time,
+            rank: self.region as u8,
+            serial: self.serial.number(),
+        })
+    }
+
+    // The entry that was added as this one, as it is now.
+    pub(crate) fn seen(&self, now: u64, marks: &Marks) -> Entry
+        ensures { result ≡ seen now marks.now self.now }
+    {
+        let mut entry = *self;
+        if self.time.is_none() && self.serial.number() < marks.dated {
+            entry.time = Some(now);
+        }
+        if self.is_at(now) && self.serial.number() < marks.of(self.region) {
+            entry.region = Region::Active;
+        }
+        entry
+    }
+
+    // Is its time this one?
+    fn is_at(&self, now: u64) -> bool
+        ensures { result ≡ is_at (self.now).time now }
+    {
+        match self.time {
+            Some(time) => time == now,
+            None => false,
+        }
+    }
+
     // Does it stand in this region at this time?
     pub(crate) fn is_due(&self, region: Region, now: u64) -> bool
         ensures { result ≡ is_due region now self.now }
     {
         match self.time {
             Some(time) => time == now && self.region as u8 == region as u8,
-            None => false,
-        }
-    }
-
-    // Does it stand at this time, and not at its start?
-    pub(crate) fn is_beyond_start(&self, now: u64) -> bool
-        ensures { result ≡ is_beyond_start now self.now }
-    {
-        match self.time {
-            Some(time) => time == now && self.region as u8 != Region::Start as u8,
             None => false,
         }
     }
@@ -48,32 +78,29 @@ impl Entry {
         self.region as u8 == Region::Active as u8
     }
 
-    // Is it an active nonblocking update that was added before the other?
-    pub(crate) fn is_before(&self, other: &Entry) -> bool
-        ensures { result ≡ is_behind other.now self.now }
+    // Is it active, and no nonblocking update?
+    pub(crate) fn is_plain(&self) -> bool
+        ensures { result ≡ is_active_of false self.now }
     {
-        self.is_active() && self.work.is_update() && self.serial.number() < other.serial.number()
+        self.is_active() && !self.work.is_update()
     }
 
-    // The entry, active from now on where it stands in this region at this time.
-    pub(crate) fn activated(&self, region: Region, now: u64) -> Entry
-        ensures { result ≡ activated_entry region now self.now }
+    // May it be picked, where a start entry is due or none is, given the first active update?
+    pub(crate) fn is_picked_by(&self, starts: bool, now: u64, first: Option<u64>) -> bool
+        ensures { result ≡ picked_by starts now first self.now }
     {
-        let mut entry = *self;
-        if self.is_due(region, now) {
-            entry.region = Region::Active;
+        if starts {
+            return self.is_due(Region::Start, now);
         }
-        entry
-    }
-
-    // The entry at the time to which time has gone on, which gives it to those without one or doesn't.
-    pub(crate) fn arrived(&self, gives: bool, now: u64) -> Entry
-        ensures { result ≡ arrived gives now self.now }
-    {
-        let mut entry = self.activated(Region::Inactive, now);
-        if gives && entry.time.is_none() {
-            entry.time = Some(now);
+        if !self.is_active() {
+            return false;
         }
-        entry
+        if !self.work.is_update() {
+            return true;
+        }
+        match first {
+            Some(other) => other >= self.serial.number(),
+            None => true,
+        }
     }
 }

@@ -8,6 +8,9 @@
 
 mod entry;
 mod fault;
+mod index;
+mod marks;
+mod place;
 mod queue;
 mod region;
 #[cfg(test)]

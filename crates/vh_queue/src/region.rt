@@ -1,3 +1,6 @@
+ghost use Rattle.std.specs.Prelude.{◌≡◌};
+ghost use Rattle.vh_queue.specs.Entries.{rank};
+
 /// A region of the event queue (IEEE 1364-2005, 11.3).
 #[derive(Clone, Copy, Debug, PartialEq, Eq)]
 pub enum Region {
@@ -11,4 +14,13 @@ pub enum Region {
     Nonblocking,
     /// The last of a time: strobes and monitors.
     Monitor,
+}
+
+impl Region {
+    // Its place in the order in which those of one time are performed.
+    pub(crate) fn rank(self) -> u8
+        ensures { result ≡ rank self }
+    {
+        self as u8
+    }
 }

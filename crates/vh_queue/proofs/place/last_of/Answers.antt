@@ -1,0 +1,13 @@
+use Rattle.std.proofs.Common.{◌≡◌, ◌∙◌, ◌++◌, ◌∷◌, [], ℕ, List, map, sym, ap, rules}
+use Rattle.std.proofs.lemmas.List.{map-append}
+use Rattle.vh_queue.specs.declared.place.Place.{Place}
+use Rattle.vh_queue.specs.Serials.{last_of}
+use Rattle.vh_queue.proofs.SerialsLemmas.{last-append}
+use Rattle.vh_queue.proofs.place.last_of.Goals as goal
+
+pub returns : goal.returns
+returns c =
+    let serial : Place → ℕ = λ p. p.serial in
+    let all = sym (c.range.ensures.between (search rules)) ∙ c.in_ok-place.ensures.steps in
+    sym (ap (λ (ps : List Place). last_of (map serial ps)) all ∙ ap last_of (map-append serial c.next_back.new.self (c.in_ok-place.place.now ∷ []))
+    ∙ last-append (map serial c.next_back.new.self) c.in_ok-place.place.now.serial)

@@ -1,0 +1,15 @@
+use Rattle.std.proofs.Common.{◌∙◌, ap, filter, false}
+use Rattle.std.specs.Map.{values_of}
+use Rattle.vh_queue.specs.Events.{Events}
+use Rattle.vh_queue.specs.Serials.{least_serial, is_active_of}
+use Rattle.vh_queue.proofs.HoldsLemmas.{active-least}
+use Rattle.vh_queue.proofs.QueuesLemmas.{keeps-plain}
+use Rattle.vh_queue.proofs.queue.Queue.first_plain.Goals as goal
+
+pub returns : goal.returns
+returns c =
+    let i = c.self.inside in
+    c.first_four.ensures
+    ∙ active-least false i.next i.time i.marks (values_of i.entries.entries) i.index.plain
+    (keeps-plain i.next i.time i.starts i.ready i.marks i.entries.entries i.index c.self.invariant)
+    ∙ ap (λ (q : Events). least_serial (filter (is_active_of false) q.entries)) c.self.view_is

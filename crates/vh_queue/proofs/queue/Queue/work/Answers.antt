@@ -1,0 +1,25 @@
+use Rattle.std.proofs.Common.{◌≡◌, ◌∙◌, ℕ, Some, None, sym, ap, find, Option, option_copied}
+use Rattle.std.specs.BTreeMap.{is_at as is_key}
+use Rattle.std.specs.Map.{values_of, lookup}
+use Rattle.std.specs.Option.{option_map}
+use Rattle.std.specs.Ordering.{nat_cmp}
+use Rattle.vh_queue.specs.declared.entry.Entry.{Entry}
+use Rattle.vh_queue.specs.Events.{Events, work_of}
+use Rattle.vh_queue.specs.Views.{all_seen}
+use Rattle.vh_queue.proofs.QueuesLemmas.{work-found}
+use Rattle.vh_queue.proofs.queue.Queue.work.Goals as goal
+
+pub returns-in_err-entry : goal.returns-in_err-entry
+returns-in_err-entry c =
+    let i = c.self.inside in
+    ap option_copied c.from_residual.ensures
+    ∙ work-found i.next i.time i.starts i.ready c.number.result i.marks i.entries.entries i.index None c.self.invariant c.in_err-entry.ensures.value
+    ∙ ap (λ (n : ℕ). work_of n (let q : Events = record { entries = all_seen i.time i.marks (values_of i.entries.entries); next = i.next; time = i.time } in q)) c.number.ensures
+    ∙ ap (λ (q : Events). work_of c.args.s q) c.self.view_is
+
+pub returns : goal.returns
+returns c =
+    let i = c.self.inside in
+    work-found i.next i.time i.starts i.ready c.number.result i.marks i.entries.entries i.index (Some c.in_ok-entry.entry.now) c.self.invariant c.in_ok-entry.ensures.value
+    ∙ ap (λ (n : ℕ). work_of n (let q : Events = record { entries = all_seen i.time i.marks (values_of i.entries.entries); next = i.next; time = i.time } in q)) c.number.ensures
+    ∙ ap (λ (q : Events). work_of c.args.s q) c.self.view_is

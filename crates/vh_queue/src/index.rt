@@ -1,0 +1,121 @@
+ghost use Rattle.std.specs.Prelude.{◌≡◌, ◌<◌, ◌^◌, [], length, slice_get, OnOk, OnErr};
+ghost use Rattle.vh_queue.specs.Lanes.{count_start};
+ghost use Rattle.vh_queue.specs.Places.{dated_in, Indexes, Entered, Left, StaysSorted, IsSame};
+ghost use Rattle.vh_queue.specs.Serials.{last_of};
+
+use crate::entry::Entry;
+use crate::marks::Marks;
+use crate::place::{Places, count_of};
+use crate::region::Region;
+use std::alloc::Global;
+use std::collections::BTreeSet;
+use std::ops::Bound;
+use vh_base::NoMemory;
+
+// Where entries wait: the nonblocking updates and the others with a time, each by place, and those without a time.
+#[derive(Drop)]
+pub(crate) struct Index {
+    pub(crate) plain: Places,
+    pub(crate) updates: Places,
+    pub(crate) untimed: BTreeSet<u64, Global>,
+}
+
+impl Index {
+    // Of no entry.
+    pub(crate) fn new(alloc: Global) -> Index
+        ensures { Indexes [] result }
+    {
+        Index {
+            plain: BTreeSet::new(alloc),
+            updates: BTreeSet::new(alloc),
+            untimed: BTreeSet::new(alloc),
+        }
+    }
+
+    // An entry more is in it.
+    pub(crate) fn enter(&mut self, entry: &Entry) -> Result<(), NoMemory>
+        ensures entered { OnOk result (Entered entry.now self.old self.new) }
+        ensures kept { OnErr result (IsSame self.old self.new) }
+        ensures sorted { StaysSorted self.old self.new }
+    {
+        let serial = entry.serial.number();
+        match entry.place() {
+            None => {
+                self.untimed.insert(serial)?;
+            }
+            Some(place) => {
+                if entry.work.is_update() {
+                    self.updates.insert(place)?;
+                } else {
+                    self.plain.insert(place)?;
+                }
+            }
+        }
+        Ok(())
+    }
+
+    // An entry is in it no more.
+    pub(crate) fn leave(&mut self, entry: &Entry)
+        ensures left { Left entry.now self.old self.new }
+        ensures sorted { StaysSorted self.old self.new }
+    {
+        let serial = entry.serial.number();
+        match entry.place() {
+            None => {
+                self.untimed.remove(&serial);
+            }
+            Some(place) => {
+                if entry.work.is_update() {
+                    self.updates.remove(&place);
+                } else {
+                    self.plain.remove(&place);
+                }
+            }
+        }
+    }
+
+    // No entry is in it.
+    pub(crate) fn clear(&mut self)
+        ensures { Indexes [] self.new }
+    {
+        self.plain.clear();
+        self.updates.clear();
+        self.untimed.clear();
+    }
+
+    // The first without a time and below a serial.
+    pub(crate) fn first_dated(&self, below: u64) -> Option<u64>
+        ensures { result ≡ slice_get (dated_in below self.now.untimed) 0 }
+    {
+        let end = Bound::Excluded(below);
+        self.untimed.range((Bound::Unbounded, end)).next().copied()
+    }
+
+    // The last one.
+    pub(crate) fn last_dated(&self, below: u64) -> Option<u64>
+        ensures { result ≡ last_of (dated_in below self.now.untimed) }
+    {
+        let end = Bound::Excluded(below);
+        let serial = self.untimed.range((Bound::Unbounded, end)).next_back()?;
+        Some(*serial)
+    }
+
+    // How many there are. It goes over them.
+    pub(crate) fn count_dated(&self, below: u64) -> usize
+        ensures { result ≡ length (dated_in below self.now.untimed) }
+    {
+        let end = Bound::Excluded(below);
+        self.untimed.range((Bound::Unbounded, end)).count()
+    }
+}
+
+// How many start entries of a time stand up to a serial, with those without a time that have got it. It goes
+// over them.
+pub(crate) fn count_start(index: &Index, time: u64, own: u64, marks: &Marks) -> usize
+    requires { count_start time own marks.now (index.now).plain (index.now).updates (index.now).untimed < 2 ^ 32 }
+    ensures { result ≡ count_start time own marks.now (index.now).plain (index.now).updates (index.now).untimed }
+{
+    let plain = count_of(&index.plain, time, Region::Start as u8, 0, own);
+    let updates = count_of(&index.updates, time, Region::Start as u8, 0, own);
+    (plain + updates) + index.count_dated(marks.dated)
+}
