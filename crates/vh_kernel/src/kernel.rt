@@ -22,8 +22,9 @@ use vh_orders::{Who, World};
 use vh_queue::{Queue, Work};
 
 /// The machine of one design with its scripts. What it shows is a state; each call of
-/// [`Kernel::step`] goes over the queue's entries, and over the design's names where an order
-/// looks for one, and takes no other time that grows with the design.
+/// [`Kernel::step`] takes the logarithm of the entries that stand in the queue, goes over those that
+/// become active, and over the design's names where an order looks for one, and takes no other time that
+/// grows with the design.
 #[derive(Drop)]
 pub struct Kernel {
     world: World,

@@ -1,11 +1,9 @@
 -- Lemmas on what a queue becomes, by `specs/Views.antt`: what is seen after each change, and that `Holds` is kept.
-use Rattle.std.proofs.Common.{◌≡◌, ◌∙◌, ℕ, zero, suc, ◌+◌, ◌-◌, ◌<◌, ◌≤◌, List, [], ◌∷◌, ◌++◌, map, filter, length, Bool, true, false, not, ◌&&◌, ◌||◌, ◌==◌, cond, nat_lt, nat_le, Option, Some, None, refl, sym, ap, subst, arith}
-use Rattle.std.proofs.lemmas.Bool.{le-ltb, lt-ltb, ne_eqb, eqb-true, eq-eqb}
+use Rattle.std.proofs.Common.{◌≡◌, ◌∙◌, ℕ, suc, ◌+◌, ◌<◌, ◌≤◌, List, [], ◌∷◌, ◌++◌, map, filter, length, Bool, true, false, not, ◌&&◌, ◌==◌, cond, nat_lt, Option, Some, None, refl, sym, ap, subst, arith}
+use Rattle.std.proofs.lemmas.Bool.{le-ltb, lt-ltb, ne_eqb, eqb-true}
 use Rattle.std.proofs.lemmas.Bool.Decides.{nat_tests}
-use Rattle.std.proofs.lemmas.List.{length-append}
-use Rattle.std.proofs.lemmas.List.Elements.{filter-append}
 use Rattle.std.specs.BTreeMap.{is_at as is_key, insert_entry}
-use Rattle.std.specs.List.{list_any, find}
+use Rattle.std.specs.List.{find}
 use Rattle.std.specs.Map.{values_of, remove_entry, lookup}
 use Rattle.std.specs.Option.{option_map}
 use Rattle.std.specs.Ordering.{nat_cmp}
@@ -15,15 +13,13 @@ use Rattle.vh_queue.specs.declared.index.Index.{Index}
 use Rattle.vh_queue.specs.declared.marks.Marks.{Marks}
 use Rattle.vh_queue.specs.declared.region.Region.{Region}
 use Rattle.vh_queue.specs.declared.region.Region.TheVariants as region
-use Rattle.vh_queue.specs.declared.work.Work.{Work}
-use Rattle.vh_queue.specs.Entries.{rank, is_at, is_due, IsFrom, IsPresent, HasTime, time_given, activated_entry, dated_entry}
+use Rattle.vh_queue.specs.Entries.{rank, is_at, is_due, IsFrom, IsPresent, time_given, activated_entry}
 use Rattle.vh_queue.specs.Events.{arrived, Rises}
-use Rattle.vh_queue.specs.Places.{has_none, waits, Indexes}
+use Rattle.vh_queue.specs.Places.{has_none, Indexes}
 use Rattle.vh_queue.specs.Serials.{is_active_of}
 use Rattle.vh_queue.specs.Views.{Later, inactive, mark_of, with_mark, marks_at, seen_region, seen, all_seen, by_serial, IsTimely, AreTimely, AreMarks, Holds}
-use Rattle.vh_queue.proofs.EventsLemmas.{rises-filter, rises-empty}
+use Rattle.vh_queue.proofs.EventsLemmas.{rises-empty}
 use Rattle.vh_queue.proofs.ViewsLemmas.{due-is, region-if, made-region}
-use Rattle.vh_queue.proofs.HoldsLemmas.{timely-filter, map-each}
 use Rattle.vh_queue.proofs.TimesLemmas.{AreFrom}
 
 -- A new entry is seen as it was added.

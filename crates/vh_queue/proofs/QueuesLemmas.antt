@@ -1,6 +1,6 @@
 -- Lemmas that the functions of a queue cite: each change keeps what holds inside, and each look finds what is seen.
-use Rattle.std.proofs.Common.{◌≡◌, ◌∙◌, ℕ, zero, suc, ◌+◌, ◌-◌, ◌<◌, ◌≤◌, ◌^◌, List, [], ◌∷◌, ◌++◌, map, filter, length, Bool, true, false, not, ◌&&◌, ◌||◌, ◌==◌, cond, nat_lt, nat_le, Option, Some, None, Result, Ok, Err, slice_get, refl, sym, ap, subst, arith}
-use Rattle.std.proofs.lemmas.Bool.{le-ltb, lt-ltb, ne_eqb, eqb-true, leb-false, ltb-true, ltb-false, or_parts, eq-eqb}
+use Rattle.std.proofs.Common.{◌≡◌, ◌∙◌, ℕ, zero, suc, ◌+◌, ◌<◌, ◌≤◌, ◌^◌, List, [], ◌∷◌, ◌++◌, map, filter, length, Bool, true, false, not, ◌&&◌, ◌||◌, ◌==◌, cond, nat_lt, nat_le, Option, Some, None, Result, Ok, Err, slice_get, refl, sym, ap, subst, arith}
+use Rattle.std.proofs.lemmas.Bool.{le-ltb, lt-ltb, ne_eqb, leb-false, ltb-true, ltb-false, or_parts, eq-eqb}
 use Rattle.std.proofs.lemmas.List.{length-append}
 use Rattle.std.specs.BTreeMap.{is_at as is_key, insert_entry}
 use Rattle.std.specs.BTreeSet.{BTreeSet}
@@ -15,20 +15,19 @@ use Rattle.vh_queue.specs.declared.entry.Entry.{Entry}
 use Rattle.vh_queue.specs.declared.index.Index.{Index}
 use Rattle.vh_queue.specs.declared.marks.Marks.{Marks}
 use Rattle.vh_queue.specs.declared.place.Place.{Place}
-use Rattle.vh_queue.specs.declared.region.Region.{Region}
 use Rattle.vh_queue.specs.declared.region.Region.TheVariants as region
 use Rattle.vh_queue.specs.Entries.{is_update, is_due, is_active, IsFrom}
-use Rattle.vh_queue.specs.Events.{Events, is_ready, is_eligible, eligible, any_due, work_of, is_full, earlier_of, least_time, arrived, is_beyond_start, Rises}
-use Rattle.vh_queue.specs.Lanes.{first_four, count_four, count_start}
+use Rattle.vh_queue.specs.Events.{Events, is_ready, is_eligible, eligible, any_due, work_of, is_full, earlier_of, least_time, arrived, Rises}
+use Rattle.vh_queue.specs.Lanes.{count_four, count_start}
 use Rattle.vh_queue.specs.Places.{is_of, Indexes, Entered, Left, StaysSorted, IsSame, dated_in, ArePlaces, AreUntimed, IsLeastTime}
 use Rattle.vh_queue.specs.Serials.{least_serial, greatest_serial, later_of, last_of, is_above, is_active_of, picked_by}
-use Rattle.vh_queue.specs.Views.{Later, mark_of, with_mark, marks_at, seen, all_seen, by_serial, IsTimely, AreTimely, AreMarks, Holds}
+use Rattle.vh_queue.specs.Views.{marks_at, seen, all_seen, by_serial, IsTimely, AreTimely, AreMarks, Holds}
 use Rattle.vh_queue.proofs.EventsLemmas.{rises-filter, rises-map, rises-empty, rises-added}
 use Rattle.vh_queue.proofs.PlacesLemmas.{index-entered, index-same, index-left, dated-is}
 use Rattle.vh_queue.proofs.SerialsLemmas.{serials, first-least, last-greatest, ready-length, ready-least, ready-greatest, any-least, behind-is}
 use Rattle.vh_queue.proofs.HoldsLemmas.{Keeps, timely-filter, active-length, start-length}
 use Rattle.vh_queue.proofs.TimesLemmas.{AreFrom, least-all, times-none, times-least, times-seen, dated_by}
-use Rattle.vh_queue.proofs.ChangesLemmas.{new-seen, with-marks, at-marks, all-made, all-go, all-stay, timely-later, seen-from, values-are, insert-last, remove-is, lookup-is, found-serial, seen-find, seen-without, none-at, count-without, count-more, seen-more, timely-more, holds-of}
+use Rattle.vh_queue.proofs.ChangesLemmas.{new-seen, all-go, all-stay, timely-later, seen-from, values-are, insert-last, remove-is, lookup-is, found-serial, seen-find, seen-without, count-without, count-more, seen-more, timely-more, holds-of}
 
 -- What an index holds of each kind.
 module _ (next now due ready : ℕ) (m : Marks) (pairs : List (ℕ × Entry)) (x : Index) (h : Holds next now m due ready pairs x) where

@@ -1,6 +1,6 @@
 -- Lemmas on `specs/Serials.antt`: in rising order the first is the least; what is least of two kinds; and which
 -- entries may be picked.
-use Rattle.std.proofs.Common.{◌≡◌, ◌∙◌, ℕ, zero, suc, ◌+◌, ◌<◌, ◌≤◌, List, [], ◌∷◌, ◌++◌, map, filter, length, Bool, true, false, not, ◌&&◌, ◌||◌, cond, nat_lt, min, max, Option, Some, None, slice_get, refl, sym, ap, subst, arith}
+use Rattle.std.proofs.Common.{◌≡◌, ◌∙◌, ℕ, ◌+◌, ◌<◌, ◌≤◌, List, [], ◌∷◌, ◌++◌, map, filter, length, Bool, true, false, not, ◌&&◌, ◌||◌, cond, nat_lt, Option, Some, None, slice_get, refl, sym, ap, arith}
 use Rattle.std.proofs.lemmas.Bool.{le-ltb, lt-ltb}
 use Rattle.std.proofs.lemmas.Bool.Decides.{nat_tests}
 use Rattle.std.specs.List.{list_any}
@@ -8,7 +8,6 @@ use Rattle.std.specs.Option.{is_some}
 use Rattle.vh_queue.specs.declared.entry.Entry.{Entry}
 use Rattle.vh_queue.specs.Entries.{is_active, is_update}
 use Rattle.vh_queue.specs.Events.{is_behind, is_ready, earlier_of, Rises}
-use Rattle.vh_queue.specs.Places.{is_of}
 use Rattle.vh_queue.proofs.EventsLemmas.{rises-filter}
 use Rattle.vh_queue.specs.Serials.{least_serial, greatest_serial, later_of, is_above, last_of, is_active_of}
 

@@ -1,5 +1,5 @@
 -- Lemmas on the least time of an entry, by `specs/Events.antt` and by the places of `specs/Places.antt`.
-use Rattle.std.proofs.Common.{◌≡◌, ◌∙◌, ℕ, zero, suc, ◌+◌, ◌<◌, ◌≤◌, List, [], ◌∷◌, ◌++◌, map, filter, length, Bool, true, false, not, ◌&&◌, ◌||◌, ◌==◌, cond, nat_lt, nat_le, min, Option, Some, None, refl, sym, ap, subst, arith, ⊎_elim}
+use Rattle.std.proofs.Common.{◌≡◌, ◌∙◌, ℕ, ◌<◌, ◌≤◌, List, [], ◌∷◌, filter, Bool, true, false, not, ◌&&◌, ◌||◌, ◌==◌, cond, nat_lt, min, Option, Some, None, refl, sym, ap, subst, arith, ⊎_elim}
 use Rattle.std.proofs.lemmas.Bool.{and_parts, and_from, or_right, or_left, or_cases, eq-eqb, eqb-true, cases_lt}
 use Rattle.std.specs.BTreeSet.{BTreeSet, contains}
 use Rattle.std.specs.List.{list_any}
@@ -10,7 +10,7 @@ use Rattle.vh_queue.specs.contracts.place.PlaceOrd.TheImpl.{cmp-value}
 use Rattle.vh_queue.specs.Entries.{rank, is_at, IsFrom, time_given}
 use Rattle.vh_queue.specs.Events.{earlier_of, least_time}
 use Rattle.vh_queue.specs.Places.{is_of, is_placed, is_untimed, has_none, place, ArePlaces, IsLeastTime}
-use Rattle.vh_queue.specs.Views.{seen, all_seen}
+use Rattle.vh_queue.specs.Views.{all_seen}
 use Rattle.vh_queue.proofs.PlacesLemmas.{any-filter}
 
 -- The earlier of several.

@@ -1,22 +1,16 @@
 -- Lemmas on `specs/Views.antt`: entries as they are seen, by the places where they wait.
-use Rattle.std.proofs.Common.{◌≡◌, ◌∙◌, ℕ, zero, suc, ◌+◌, ◌<◌, ◌≤◌, List, [], ◌∷◌, ◌++◌, map, filter, length, Bool, true, false, not, ◌&&◌, ◌||◌, ◌==◌, cond, nat_lt, nat_le, Option, Some, None, slice_get, refl, sym, ap, subst, arith}
+use Rattle.std.proofs.Common.{◌≡◌, ◌∙◌, ℕ, ◌<◌, Bool, true, false, not, ◌&&◌, ◌||◌, ◌==◌, cond, nat_lt, nat_le, Option, Some, None, refl, ap, arith}
 use Rattle.std.proofs.lemmas.Bool.{eq-eqb, le-ltb, lt-ltb, le-leb, ltb-false}
 use Rattle.std.proofs.lemmas.Bool.Decides.{nat_tests}
-use Rattle.std.specs.BTreeSet.{BTreeSet}
-use Rattle.std.specs.List.{list_any}
-use Rattle.std.specs.List.Sorted.{IsStrictlySortedBy}
 use Rattle.vh_queue.specs.declared.entry.Entry.{Entry}
 use Rattle.vh_queue.specs.declared.marks.Marks.{Marks}
-use Rattle.vh_queue.specs.declared.place.Place.{Place}
 use Rattle.vh_queue.specs.declared.region.Region.{Region}
 use Rattle.vh_queue.specs.declared.region.Region.TheVariants as region
 use Rattle.vh_queue.specs.declared.work.Work.{Work}
-use Rattle.vh_queue.specs.Entries.{rank, is_call, is_at, is_due, is_active, IsFrom, IsPresent, HasTime, time_given, activated_entry}
-use Rattle.vh_queue.specs.Events.{earlier_of, is_beyond_start, arrived, Rises}
-use Rattle.vh_queue.specs.Places.{is_of, is_untimed, has_none, waits}
-use Rattle.vh_queue.specs.Serials.{least_serial, is_active_of}
-use Rattle.vh_queue.specs.Views.{Later, inactive, nonblocking, monitor, mark_of, with_mark, seen_region, seen, all_seen, IsTimely, AreTimely, AreMarks}
-use Rattle.vh_queue.proofs.EventsLemmas.{rises-empty, rises-filter}
+use Rattle.vh_queue.specs.Entries.{rank, is_at, is_due, is_active, IsPresent, HasTime, time_given}
+use Rattle.vh_queue.specs.Events.{is_beyond_start}
+use Rattle.vh_queue.specs.Places.{is_untimed, has_none, waits}
+use Rattle.vh_queue.specs.Views.{Later, inactive, nonblocking, monitor, mark_of, with_mark, seen, IsTimely}
 
 -- Tests of a serial.
 within : (s below : ℕ) → (nat_le 0 s && nat_lt s below) ≡ nat_lt s below

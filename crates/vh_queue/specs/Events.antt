@@ -1,6 +1,6 @@
 -- The event queue: a finite map from serials to entries, kept as the list of its entries by rising
 -- serial, with the next serial and the present time. (IEEE 1364-2005, 11.3 and 11.4)
-use Rattle.std.specs.Prelude.{◌≡◌, ℕ, ◌+◌, ◌++◌, ◌<◌, ◌≤◌, List, [], ◌∷◌, length, map, filter, find, min, Bool, true, false, if◌then◌else◌, not, ◌&&◌, ◌||◌, ◌==◌, nat_le, nat_lt, Option, Some, None}
+use Rattle.std.specs.Prelude.{◌≡◌, ℕ, ◌+◌, ◌++◌, ◌≤◌, List, [], ◌∷◌, length, map, filter, find, min, Bool, true, false, if◌then◌else◌, not, ◌&&◌, ◌||◌, ◌==◌, nat_le, nat_lt, Option, Some, None}
 use Rattle.std.specs.List.{list_any}
 use Rattle.std.specs.Option.{option_map}
 use Rattle.vh_base.specs.declared.limits.TheConstants.{MOST_ENTRIES, MOST_NUMBERS}

@@ -1,5 +1,5 @@
 -- The least and the greatest serial of some entries. (own)
-use Rattle.std.specs.Prelude.{ℕ, List, [], ◌∷◌, max, Bool, true, false, if◌then◌else◌, not, ◌&&◌, nat_lt, Option, Some, None}
+use Rattle.std.specs.Prelude.{ℕ, List, [], ◌∷◌, max, Bool, false, if◌then◌else◌, not, ◌&&◌, nat_lt, Option, Some, None}
 use Rattle.vh_queue.specs.declared.entry.Entry.{Entry}
 use Rattle.vh_queue.specs.declared.region.Region.TheVariants as region
 use Rattle.vh_queue.specs.Entries.{is_update, is_due, is_active}

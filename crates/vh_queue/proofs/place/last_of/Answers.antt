@@ -1,4 +1,4 @@
-use Rattle.std.proofs.Common.{◌≡◌, ◌∙◌, ◌++◌, ◌∷◌, [], ℕ, List, map, sym, ap, rules}
+use Rattle.std.proofs.Common.{◌∙◌, ◌∷◌, [], ℕ, List, map, sym, ap, rules}
 use Rattle.std.proofs.lemmas.List.{map-append}
 use Rattle.vh_queue.specs.declared.place.Place.{Place}
 use Rattle.vh_queue.specs.Serials.{last_of}

@@ -1,4 +1,4 @@
-use Rattle.std.proofs.Common.{◌≡◌, ℕ, List, map, filter, slice_get}
+use Rattle.std.proofs.Common.{◌≡◌, map, filter, slice_get}
 use Rattle.std.specs.Map.{values_of}
 use Rattle.vh_queue.specs.declared.entry.Entry.{Entry}
 use Rattle.vh_queue.specs.Serials.{picked_by}

@@ -1,11 +1,10 @@
-use Rattle.std.proofs.Common.{◌≡◌, ◌∙◌, ℕ, List, Some, Option, sym, ap, subst, arith}
+use Rattle.std.proofs.Common.{◌∙◌, List, Option, sym, ap, subst, arith}
 use Rattle.std.specs.Map.{values_of}
 use Rattle.vh_queue.specs.declared.entry.Entry.{Entry}
 use Rattle.vh_queue.specs.declared.marks.Marks.{Marks}
 use Rattle.vh_queue.specs.declared.region.Region.{Region}
 use Rattle.vh_queue.specs.Events.{Events, activated, activated_next}
-use Rattle.vh_queue.specs.Lanes.{count_start, count_four}
-use Rattle.vh_queue.specs.Views.{with_mark, all_seen, AreMarks, Holds}
+use Rattle.vh_queue.specs.Views.{all_seen, AreMarks}
 use Rattle.vh_queue.proofs.ChangesLemmas.{with-marks, all-made}
 use Rattle.vh_queue.proofs.QueuesLemmas.{few-starts, few-ready, holds-at}
 use Rattle.vh_queue.proofs.queue.Queue.activate.Goals as goal

@@ -1,14 +1,9 @@
-use Rattle.std.proofs.Common.{◌≡◌, ◌∙◌, ◌+◌, ◌<◌, ◌∷◌, ◌++◌, [], ℕ, Bool, true, false, cond, List, Option, length, sym, ap, subst, arith, refl}
-use Rattle.std.specs.BTreeMap.{insert_entry}
+use Rattle.std.proofs.Common.{◌≡◌, ◌∙◌, ◌+◌, ◌∷◌, ◌++◌, [], ℕ, List, length, sym, ap, subst, arith}
 use Rattle.std.specs.Map.{values_of}
-use Rattle.std.specs.Ordering.{nat_cmp}
-use Rattle.vh_base.specs.declared.limits.TheConstants.{MOST_ENTRIES}
 use Rattle.vh_queue.specs.declared.entry.Entry.{Entry}
-use Rattle.vh_queue.specs.declared.region.Region.TheVariants as region
-use Rattle.vh_queue.specs.Entries.{is_due, IsFrom, IsPresent}
-use Rattle.vh_queue.specs.Events.{Events, is_full, added}
-use Rattle.vh_queue.specs.Serials.{is_active_of}
-use Rattle.vh_queue.specs.Views.{all_seen, IsTimely, Holds}
+use Rattle.vh_queue.specs.Entries.{IsFrom, IsPresent}
+use Rattle.vh_queue.specs.Events.{Events, added}
+use Rattle.vh_queue.specs.Views.{all_seen, IsTimely}
 use Rattle.vh_queue.proofs.QueuesLemmas.{on-ok, on-err, holds-added, holds-same, view-added, insert-undone, full-not, few-due, few-plain, seen-size}
 use Rattle.vh_queue.proofs.queue.Queue.add.Goals as goal
 

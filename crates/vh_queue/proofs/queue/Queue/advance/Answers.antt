@@ -1,11 +1,10 @@
-use Rattle.std.proofs.Common.{◌≡◌, ◌∙◌, ◌==◌, ℕ, Bool, List, Some, Option, map, sym, ap, subst, arith}
+use Rattle.std.proofs.Common.{◌∙◌, ◌==◌, ℕ, Bool, List, Option, map, sym, ap, subst, arith}
 use Rattle.std.proofs.lemmas.Bool.{eqb-true, eqb-false}
-use Rattle.std.specs.List.{list_any}
 use Rattle.std.specs.Map.{values_of}
 use Rattle.vh_queue.specs.declared.entry.Entry.{Entry}
 use Rattle.vh_queue.specs.declared.marks.Marks.{Marks}
-use Rattle.vh_queue.specs.Events.{Events, least_time, is_beyond_start, arrived, advanced_next}
-use Rattle.vh_queue.specs.Views.{marks_at, all_seen, AreTimely, AreMarks}
+use Rattle.vh_queue.specs.Events.{Events, least_time, arrived, advanced_next}
+use Rattle.vh_queue.specs.Views.{all_seen, AreMarks}
 use Rattle.vh_queue.proofs.ChangesLemmas.{at-marks}
 use Rattle.vh_queue.proofs.QueuesLemmas.{few-starts, few-ready, holds-at, goes-on}
 use Rattle.vh_queue.proofs.queue.Queue.advance.Goals as goal

@@ -1,6 +1,5 @@
-use Rattle.std.proofs.Common.{◌≡◌, ◌∙◌, ◌+◌, ℕ, Bool, cond, sym, ap, arith}
-use Rattle.vh_queue.specs.Events.{Events}
-use Rattle.vh_queue.proofs.QueuesLemmas.{Counts, counts-of, choices-starts, choices-ready, choices-fit}
+use Rattle.std.proofs.Common.{◌≡◌, ◌∙◌, ◌+◌, ℕ, Bool, cond, ap, arith}
+use Rattle.vh_queue.proofs.QueuesLemmas.{counts-of, choices-starts, choices-ready, choices-fit}
 use Rattle.vh_queue.proofs.queue.Queue.choices.Goals as goal
 
 pub returns-then-self-gt0 : goal.returns-then-self-gt0

@@ -1,4 +1,4 @@
-use Rattle.std.proofs.Common.{◌≡◌, ◌∙◌, ℕ, Some, sym, ap, subst, slice_get}
+use Rattle.std.proofs.Common.{◌∙◌, ℕ, sym, ap}
 use Rattle.vh_queue.specs.Events.{Events, is_eligible, eligible, without}
 use Rattle.vh_queue.proofs.ChangesLemmas.{found-serial}
 use Rattle.vh_queue.proofs.QueuesLemmas.{find-first, within-some}

@@ -1,14 +1,10 @@
-use Rattle.std.proofs.Common.{◌≡◌, ◌∙◌, ◌+◌, ◌-◌, ◌≤◌, ℕ, Bool, false, cond, List, Some, None, Option, find, sym, ap, subst, arith}
-use Rattle.std.specs.BTreeMap.{is_at as is_key}
-use Rattle.std.specs.Map.{values_of, lookup}
-use Rattle.std.specs.Option.{option_map}
-use Rattle.std.specs.Ordering.{nat_cmp}
+use Rattle.std.proofs.Common.{◌≡◌, ◌∙◌, ◌-◌, Bool, false, cond, List, Some, None, sym, ap, arith}
 use Rattle.vh_queue.specs.declared.entry.Entry.{Entry}
 use Rattle.vh_queue.specs.declared.region.Region.TheVariants as region
 use Rattle.vh_queue.specs.Entries.{is_due}
 use Rattle.vh_queue.specs.Events.{Events, entry_of, without}
 use Rattle.vh_queue.specs.Serials.{is_active_of}
-use Rattle.vh_queue.specs.Views.{seen, all_seen}
+use Rattle.vh_queue.specs.Views.{seen}
 use Rattle.vh_queue.proofs.QueuesLemmas.{entry-found, view-taken, counted-once, holds-taken}
 use Rattle.vh_queue.proofs.queue.Queue.take.Goals as goal
 

@@ -1,4 +1,4 @@
-use Rattle.std.proofs.Common.{◌≡◌, ◌∙◌, ℕ, List, map, slice_get, ap, filter, refl, nat_lt}
+use Rattle.std.proofs.Common.{◌∙◌, List, map, slice_get, ap, filter, refl, nat_lt}
 use Rattle.vh_queue.specs.declared.entry.Entry.{Entry}
 use Rattle.vh_queue.specs.Events.{Events}
 use Rattle.vh_queue.specs.Serials.{picked_by}

@@ -1,9 +1,5 @@
-use Rattle.std.proofs.Common.{◌≡◌, ◌∙◌, ℕ, Some, None, sym, ap, find, Option, option_copied}
-use Rattle.std.specs.BTreeMap.{is_at as is_key}
-use Rattle.std.specs.Map.{values_of, lookup}
-use Rattle.std.specs.Option.{option_map}
-use Rattle.std.specs.Ordering.{nat_cmp}
-use Rattle.vh_queue.specs.declared.entry.Entry.{Entry}
+use Rattle.std.proofs.Common.{◌∙◌, ℕ, Some, None, ap, option_copied}
+use Rattle.std.specs.Map.{values_of}
 use Rattle.vh_queue.specs.Events.{Events, work_of}
 use Rattle.vh_queue.specs.Views.{all_seen}
 use Rattle.vh_queue.proofs.QueuesLemmas.{work-found}
