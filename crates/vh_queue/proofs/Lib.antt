@@ -14,3 +14,5 @@ pub mod TimesLemmas
 pub mod ChangesLemmas
 -- What the functions of a queue cite.
 pub mod QueuesLemmas
+-- The laws of the queue.
+mod LawsLemmas

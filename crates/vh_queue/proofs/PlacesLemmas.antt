@@ -421,3 +421,20 @@ index-left s low high es e x y rises found at left stays index = record {
   updates_sorted = stays.updates index.updates_sorted;
   untimed_sorted = stays.untimed index.untimed_sorted;
 }
+
+-- No serial is from one on and below it.
+none-between : (a b x : Bool) → (a && (b && (x && not x))) ≡ false
+none-between true true true = refl
+none-between true true false = refl
+none-between true false x = refl
+none-between false b x = refl
+
+filter-none : {X : Type 0} (p : X → Bool) (xs : List X) → ((x : X) → p x ≡ false) → filter p xs ≡ []
+filter-none p [] none = refl
+filter-none p (x ∷ xs) none = rw (none x) (filter-none p xs none)
+
+pub none-in : (time r from below : ℕ) (places : BTreeSet Place) → from ≡ below → serials_of time r from below places ≡ []
+none-in time r from below places same =
+    ap (λ (n : ℕ). serials_of time r from n places) (sym same)
+    ∙ ap (map (λ (p : Place). p.serial)) (filter-none (λ p. range_contains place_cmp (Included (place time r from)) (Excluded (place time r from)) p) places.keys
+    (λ p. between-places time r from from p ∙ none-between (time == p.time) (r == p.rank) (nat_le from p.serial)))

@@ -10,3 +10,5 @@ pub mod Serials
 pub mod Lanes
 -- How contracts see what is inside.
 pub mod Views
+-- What the definitions mean.
+pub mod Laws

@@ -9,6 +9,7 @@
 mod entry;
 mod fault;
 mod index;
+mod laws;
 mod marks;
 mod place;
 mod queue;
@@ -19,6 +20,7 @@ mod work;
 
 pub use entry::Entry;
 pub use fault::AddFault;
+pub use laws::queue_laws;
 pub use queue::Queue;
 pub use region::Region;
 pub use work::Work;

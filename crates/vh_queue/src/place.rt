@@ -26,6 +26,9 @@ pub(crate) fn first_of(places: &Places, time: u64, rank: u8, from: u64, below: u
     requires { from ≤ below }
     ensures { result ≡ slice_get (serials_of time rank from below places.now) 0 }
 {
+    if from == below {
+        return None;
+    }
     let first = Place {
         time,
         rank,
@@ -68,6 +71,9 @@ pub(crate) fn count_of(places: &Places, time: u64, rank: u8, from: u64, below: u
     requires { from ≤ below }
     ensures { result ≡ length (serials_of time rank from below places.now) }
 {
+    if from == below {
+        return 0;
+    }
     let first = Place {
         time,
         rank,
