@@ -1,0 +1,199 @@
+//! Types, ranges and declarations.
+
+ghost use Rattle.std.specs.Prelude.{Option, option_map, map};
+ghost use Rattle.vh_grammar.specs.Part.{opt};
+ghost use Rattle.vh_ast.specs.Declarations as trees;
+ghost use Rattle.vh_ast.specs.Views.{range_tree, type_tree, var_part_tree, var_tree, init_tree, decl_tree};
+ghost use Rattle.vh_syntax.specs.declared.sign.Sign.TheVariants as signs;
+ghost use Rattle.vh_syntax.specs.Tokens.{is};
+ghost use Rattle.vh_syntax.specs.Declarations as parts;
+ghost use Rattle.vh_syntax.specs.Declarations.{a_range, a_type, an_init, a_var, decl};
+ghost use Rattle.vh_parse_expr.specs.Views.{Reads};
+ghost use Rattle.vh_parse_stmt.specs.Conditions.{var_advances, init_advances};
+
+use crate::lists::{Listed, list};
+use crate::values::{behind, value};
+use sqlite_items::Items;
+use std::alloc::Global;
+use vh_ast::{DataType, Decl, Id, Init, Range, Var, VarPart};
+use vh_parse_expr::{At, Read, expression, id, sign, then_sign};
+use vh_syntax::{Class, Sign};
+
+/// `range`
+#[tactic(auto, unfolding(vh_syntax::specs::Declarations::a_range))]
+pub fn range<'t>(alloc: Global, depth: usize, at: At<'t>) -> Read<'t, Range>
+    ensures { Reads range_tree depth a_range at.entry result }
+{
+    let (place, opened) = sign(Sign::LeftBracket, at)?;
+    let (left, colon) = expression(alloc, depth, true, opened)?;
+    let (right, closing) = behind(alloc, depth, true, Sign::Colon, colon)?;
+    let (right, rest) = then_sign(right, Sign::RightBracket, closing)?;
+    Ok((Range { place, left, right }, rest))
+}
+
+// `[ "signed" ]`
+fn sign_mark<'t>(at: At<'t>) -> Read<'t, bool>
+    ensures { Reads (λ s. s) 0 parts.sign_mark at.entry result }
+{
+    if !at.next_is(Class::Is(Sign::Signed)) {
+        return Ok((false, at));
+    }
+    Ok((true, at.take(Class::Is(Sign::Signed))?))
+}
+
+// `[ range ]`
+fn written_range<'t>(alloc: Global, depth: usize, at: At<'t>) -> Read<'t, Option<Range>>
+    ensures { let part = opt (is signs.LeftBracket) a_range in
+        Reads (option_map range_tree) depth part at.entry result }
+{
+    if !at.next_is(Class::Is(Sign::LeftBracket)) {
+        return Ok((None, at));
+    }
+    let (range, rest) = range(alloc, depth, at)?;
+    Ok((Some(range), rest))
+}
+
+/// `type`
+#[tactic(auto, unfolding(vh_syntax::specs::Declarations::a_type))]
+pub fn data_type<'t>(alloc: Global, depth: usize, at: At<'t>) -> Read<'t, DataType>
+    ensures { Reads type_tree depth a_type at.entry result }
+{
+    let (signed, more) = sign_mark(at)?;
+    let (range, rest) = written_range(alloc, depth, more)?;
+    Ok((DataType { signed, range }, rest))
+}
+
+// The cursor, where a range may be next that is left out.
+fn no_range<'t>(barred: bool, at: At<'t>) -> Read<'t, ()>
+    ensures { Reads (λ u. u) 0 (parts.no_range barred) at.entry result }
+{
+    let shown = barred && at.next_is(Class::Is(Sign::LeftBracket));
+    Ok(((), at.marked(at.tokens, shown)))
+}
+
+/// `ID`, behind which a range is left out where it is so.
+pub fn bare_id<'t>(alloc: Global, barred: bool, at: At<'t>) -> Read<'t, Id>
+    ensures { Reads (λ i. i) 0 (parts.bare_id barred) at.entry result }
+{
+    let (id, more) = id(alloc, at)?;
+    let ((), rest) = no_range(barred, more)?;
+    Ok((id, rest))
+}
+
+// `[ range | "=" expr ]`, behind the name of a register.
+#[tactic(auto, unfolding(vh_syntax::specs::Declarations::var_part))]
+fn var_part<'t>(alloc: Global, depth: usize, at: At<'t>) -> Read<'t, VarPart>
+    ensures { Reads var_part_tree depth parts.var_part at.entry result }
+{
+    if at.next_is(Class::Is(Sign::LeftBracket)) {
+        let (range, more) = range(alloc, depth, at)?;
+        let ((), rest) = no_range(true, more)?;
+        return Ok((VarPart::Range(range), rest));
+    }
+    if at.next_is(Class::Is(Sign::Equal)) {
+        let (value, rest) = behind(alloc, depth, true, Sign::Equal, at)?;
+        return Ok((VarPart::Value(value), rest));
+    }
+    Ok((VarPart::Plain, at))
+}
+
+// `var`
+#[tactic(auto, unfolding(vh_syntax::specs::Declarations::a_var))]
+fn var<'t>(alloc: Global, depth: usize, at: At<'t>) -> Read<'t, Var>
+    ensures { Reads var_tree depth a_var at.entry result }
+{
+    let (id, more) = id(alloc, at)?;
+    let (part, rest) = var_part(alloc, depth, more)?;
+    Ok((Var { id, part }, rest))
+}
+
+// `init`
+#[tactic(auto, unfolding(vh_syntax::specs::Declarations::an_init))]
+fn init<'t>(alloc: Global, depth: usize, at: At<'t>) -> Read<'t, Init>
+    ensures { Reads init_tree depth an_init at.entry result }
+{
+    let (id, more) = bare_id(alloc, true, at)?;
+    let (value, rest) = value(alloc, depth, more)?;
+    Ok((Init { id, value }, rest))
+}
+
+impl Listed for Var {
+    ghost Tree = { trees.VarTree };
+
+    ghost view = { var_tree };
+
+    ghost part = { λ calls. a_var };
+
+    ghost advances = { λ calls. var_advances };
+
+    fn read<'t>(alloc: Global, depth: usize, _calls: bool, at: At<'t>) -> Read<'t, Var> {
+        var(alloc, depth, at)
+    }
+}
+
+impl Listed for Init {
+    ghost Tree = { trees.InitTree };
+
+    ghost view = { init_tree };
+
+    ghost part = { λ calls. an_init };
+
+    ghost advances = { λ calls. init_advances };
+
+    fn read<'t>(alloc: Global, depth: usize, _calls: bool, at: At<'t>) -> Read<'t, Init> {
+        init(alloc, depth, at)
+    }
+}
+
+// `"reg" type var { "," var } ";"`
+#[tactic(auto, unfolding(vh_syntax::specs::Declarations::reg_decl))]
+fn reg_decl<'t>(alloc: Global, depth: usize, at: At<'t>) -> Read<'t, Decl>
+    ensures { Reads decl_tree depth parts.reg_decl at.entry result }
+{
+    let (place, more) = sign(Sign::Reg, at)?;
+    let (data_type, more) = data_type(alloc, depth, more)?;
+    let (vars, more) = list(alloc, depth, true, more)?;
+    let (vars, rest) = then_sign(vars, Sign::Semicolon, more)?;
+    let decl = Decl::Reg {
+        place,
+        data_type,
+        vars,
+    };
+    Ok((decl, rest))
+}
+
+// `"integer" init { "," init } ";"`
+#[tactic(auto, unfolding(vh_syntax::specs::Declarations::integer_decl))]
+fn integer_decl<'t>(alloc: Global, depth: usize, at: At<'t>) -> Read<'t, Decl>
+    ensures { Reads decl_tree depth parts.integer_decl at.entry result }
+{
+    let (place, more) = sign(Sign::Integer, at)?;
+    let (inits, more) = list(alloc, depth, true, more)?;
+    let (inits, rest) = then_sign(inits, Sign::Semicolon, more)?;
+    Ok((Decl::Integer(place, inits), rest))
+}
+
+// `"time" init { "," init } ";"`
+#[tactic(auto, unfolding(vh_syntax::specs::Declarations::time_decl))]
+fn time_decl<'t>(alloc: Global, depth: usize, at: At<'t>) -> Read<'t, Decl>
+    ensures { Reads decl_tree depth parts.time_decl at.entry result }
+{
+    let (place, more) = sign(Sign::Time, at)?;
+    let (inits, more) = list(alloc, depth, true, more)?;
+    let (inits, rest) = then_sign(inits, Sign::Semicolon, more)?;
+    Ok((Decl::Time(place, inits), rest))
+}
+
+/// `decl`
+#[tactic(auto, unfolding(vh_syntax::specs::Declarations::decl))]
+pub fn declaration<'t>(alloc: Global, depth: usize, at: At<'t>) -> Read<'t, Decl>
+    ensures { Reads decl_tree depth decl at.entry result }
+{
+    if at.next_is(Class::Is(Sign::Reg)) {
+        return reg_decl(alloc, depth, at);
+    }
+    if at.next_is(Class::Is(Sign::Integer)) {
+        return integer_decl(alloc, depth, at);
+    }
+    time_decl(alloc, depth, at)
+}

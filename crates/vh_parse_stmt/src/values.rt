@@ -1,0 +1,99 @@
+//! Expressions behind a sign and in parentheses, and targets with their values.
+
+ghost use Rattle.std.specs.Prelude.{◌≡◌, Bool, true, Option, option_map};
+ghost use Rattle.vh_grammar.specs.Part.{after};
+ghost use Rattle.vh_ast.specs.Expressions as trees;
+ghost use Rattle.vh_ast.specs.Views.{expr_tree, set_tree};
+ghost use Rattle.vh_syntax.specs.Parts.{the, in_parens, comma_list, ended};
+ghost use Rattle.vh_syntax.specs.Expressions as parts;
+ghost use Rattle.vh_syntax.specs.ExpressionConditions.{expression_advances};
+ghost use Rattle.vh_syntax.specs.Declarations.{a_value};
+ghost use Rattle.vh_syntax.specs.Statements as statements;
+ghost use Rattle.vh_parse_expr.specs.Views.{Reads, exprs_seen};
+
+use crate::lists::{Listed, list};
+use sqlite_items::{Boxed, Items};
+use std::alloc::Global;
+use vh_ast::{Expr, Set};
+use vh_parse_expr::{At, Read, expression, target, then_sign};
+use vh_syntax::{Class, Sign};
+
+/// An expression behind a sign.
+pub fn behind<'t>(
+    alloc: Global,
+    depth: usize,
+    calls: bool,
+    sign: Sign,
+    at: At<'t>,
+) -> Read<'t, Expr>
+    ensures { Reads expr_tree depth (after (the sign) (parts.expression calls)) at.entry result }
+{
+    let next = at.take(Class::Is(sign))?;
+    expression(alloc, depth, calls, next)
+}
+
+/// `expr ";"`
+pub fn ended<'t>(alloc: Global, depth: usize, at: At<'t>) -> Read<'t, Expr>
+    ensures { Reads expr_tree depth (ended (parts.expression true)) at.entry result }
+{
+    let (expr, more) = expression(alloc, depth, true, at)?;
+    let (expr, rest) = then_sign(expr, Sign::Semicolon, more)?;
+    Ok((expr, rest))
+}
+
+/// `[ "=" expr ]`
+#[tactic(auto, unfolding(vh_syntax::specs::Declarations::a_value))]
+pub fn value<'t>(alloc: Global, depth: usize, at: At<'t>) -> Read<'t, Option<Expr>>
+    ensures { Reads (option_map expr_tree) depth a_value at.entry result }
+{
+    if !at.next_is(Class::Is(Sign::Equal)) {
+        return Ok((None, at));
+    }
+    let (value, rest) = behind(alloc, depth, true, Sign::Equal, at)?;
+    Ok((Some(value), rest))
+}
+
+/// `"(" expr ")"`, in a box.
+pub fn in_parens<'t>(alloc: Global, depth: usize, calls: bool, at: At<'t>) -> Read<'t, Boxed<Expr>>
+    ensures { Reads expr_tree depth (in_parens (parts.expression calls)) at.entry result }
+{
+    let opened = at.take(Class::Is(Sign::LeftParen))?;
+    let (expr, closing) = expression(alloc, depth, calls, opened)?;
+    let (expr, rest) = then_sign(expr, Sign::RightParen, closing)?;
+    Ok((Boxed::new(alloc, expr)?, rest))
+}
+
+impl Listed for Expr {
+    ghost Tree = { trees.ExprTree };
+
+    ghost view = { expr_tree };
+
+    ghost part = { parts.expression };
+
+    ghost advances = { expression_advances };
+
+    fn read<'t>(alloc: Global, depth: usize, calls: bool, at: At<'t>) -> Read<'t, Expr> {
+        expression(alloc, depth, calls, at)
+    }
+}
+
+/// `"(" expr { "," expr } ")"`
+pub fn list_in_parens<'t>(alloc: Global, depth: usize, at: At<'t>) -> Read<'t, Items<Expr>>
+    ensures { let part = in_parens (comma_list (parts.expression true)) in
+        Reads exprs_seen depth part at.entry result }
+{
+    let opened = at.take(Class::Is(Sign::LeftParen))?;
+    let (all, closing) = list(alloc, depth, true, opened)?;
+    let (all, rest) = then_sign(all, Sign::RightParen, closing)?;
+    Ok((all, rest))
+}
+
+/// `lv "=" expr`
+#[tactic(auto, unfolding(vh_syntax::specs::Statements::set))]
+pub fn set<'t>(alloc: Global, depth: usize, calls: bool, at: At<'t>) -> Read<'t, Set>
+    ensures { Reads set_tree depth (statements.set calls) at.entry result }
+{
+    let (target, more) = target(alloc, depth, calls, at)?;
+    let (value, rest) = behind(alloc, depth, calls, Sign::Equal, more)?;
+    Ok((Set { target, value }, rest))
+}
