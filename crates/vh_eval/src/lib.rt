@@ -16,7 +16,7 @@ mod selects;
 
 pub use evaluation::eval;
 pub use laws::eval_laws;
-pub use selects::integer;
+pub use selects::{integer, selected, sliced};
 
 #[cfg(test)]
 mod tests;

@@ -130,8 +130,9 @@ fn digits_from(v: &Vec4, place: i128, width: u32) -> Vec4
     digits_above(v, distance, width)
 }
 
-// The digits that an index selects.
-pub(crate) fn selected(v: &Vec4, range: Range, up: bool, index: &Vec4, width: u32) -> Vec4
+/// The digits that an index selects, from it on upwards or downwards by index; x where the value has none (IEEE
+/// 1364-2005, 5.2.1).
+pub fn selected(v: &Vec4, range: Range, up: bool, index: &Vec4, width: u32) -> Vec4
     requires least { 1 ≤ width }
     requires most { width ≤ MAX_WIDTH }
     ensures value { result ≡ selected (v.now).digits range up (integer_of index.now) width }
@@ -144,8 +145,8 @@ pub(crate) fn selected(v: &Vec4, range: Range, up: bool, index: &Vec4, width: u3
     digits_from(v, place_of(range, lowest), width)
 }
 
-// The digits from a constant index on.
-pub(crate) fn sliced(v: &Vec4, range: Range, lowest: u32, width: u32) -> Vec4
+/// The digits from the one of a constant index on, upwards; x where the value has none (IEEE 1364-2005, 5.2.1).
+pub fn sliced(v: &Vec4, range: Range, lowest: u32, width: u32) -> Vec4
     requires least { 1 ≤ width }
     requires most { width ≤ MAX_WIDTH }
     ensures value { result ≡ record { digits = digits_from (v.now).digits (place_of range (pos lowest)) width; signed = false } }

@@ -1,0 +1,2 @@
+-- The names of a scope, as the code holds them
+pub mod NamesLemmas
