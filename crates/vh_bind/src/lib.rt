@@ -1,0 +1,29 @@
+//! Constant expressions: their names, their faults and their values (IEEE 1364-2005, 4.10 and clause
+//! 5); and what names and paths stand for (12.5 to 12.7).
+//!
+//! The contract that the layers above use: [`constant`] answers the value that `specs/Constants.antt`
+//! gives an expression in a [`Scope`], or the first fault, with its place. It binds the expression to
+//! nodes, literals standing for parameters and genvars, and has `vh_eval` work them out. [`meaning`]
+//! answers what a name or a path stands for, as `specs/Paths.antt` says.
+//!
+//! It stands on `vh_ast` for the trees, on `vh_scope` for names, and on `vh_design`, `vh_store` and
+//! `vh_eval` for nodes and their values.
+#![tactic(auto)]
+
+mod binding;
+mod fault;
+mod named;
+mod nodes;
+mod operators;
+mod paths;
+mod scope;
+mod selects;
+#[cfg(test)]
+mod tests;
+mod value;
+
+pub use binding::constant;
+pub use fault::ElabFault;
+pub use nodes::MOST_EXPRS;
+pub use paths::meaning;
+pub use scope::{Genvar, Scope};

@@ -1,0 +1,200 @@
+ghost use Rattle.std.specs.Prelude.{◌≡◌, ◌<◌, ◌≤◌, ◌++◌, ◌∷◌, [], true, false, length, IfOk, IfSome, OnOk};
+ghost use Rattle.vh_nodes.specs.Fits.{fits_kind, all_before};
+ghost use Rattle.vh_store.specs.Opening.{is_call};
+ghost use Rattle.vh_bind.specs.Steps.{Steps};
+ghost use Rattle.vh_bind.specs.Nodes.{pushed, chained, chain_kind, joined, repeated, byte_value, text_value, text_pushed, IsSound};
+ghost use Rattle.vh_logic.specs.Vector.{width_of};
+
+use crate::fault::ElabFault;
+use crate::operators::{Operator, links_of};
+use std::alloc::Global;
+use vh_base::{DesignFault, ExprId, NoMemory, Place, Sequence};
+use vh_logic::{Digit, MAX_WIDTH, Vec4, concat};
+use vh_nodes::{ExprKind, ExprNode, is_width, kind_signed, kind_width};
+
+/// The greatest number of expressions.
+pub const MOST_EXPRS: usize = 0x8000_0000;
+
+/// One node more, under the next number.
+pub(crate) fn push(
+    nodes: &mut Vec<ExprNode>,
+    place: Place,
+    kind: ExprKind,
+) -> Result<Option<ExprId>, ElabFault>
+    requires sound { IsSound nodes.old.items }
+    requires fits { fits_kind [] 0 (length nodes.old.items) kind ≡ true }
+    requires calm { is_call kind ≡ false }
+    ensures step { Steps (pushed place kind nodes.old.items) result nodes.new.items }
+    ensures sound { OnOk result (IsSound nodes.new.items) }
+    ensures below { IfOk result (λ o. IfSome o (λ e. e < length nodes.new.items)) }
+    ensures grows { OnOk result (length nodes.old.items ≤ length nodes.new.items) }
+{
+    let width = kind_width(nodes, &[], &kind);
+    if !is_width(width) {
+        return Err(ElabFault::Refused(DesignFault::N3, place));
+    }
+    let number = nodes.len();
+    if number >= MOST_EXPRS {
+        return Err(ElabFault::Refused(DesignFault::N11, place));
+    }
+    let signed = kind_signed(nodes, &[], &kind);
+    let node = ExprNode {
+        kind,
+        width,
+        signed,
+    };
+    add(nodes, node)?;
+    Ok(Some(ExprId::new(number as u32)))
+}
+
+// One node more.
+fn add(nodes: &mut Vec<ExprNode>, node: ExprNode) -> Result<(), NoMemory>
+    ensures { OnOk result (nodes.new.items ≡ nodes.old.items ++ node ∷ []) }
+{
+    nodes.push(node)?;
+    Ok(())
+}
+
+// A chain, by its first operator.
+fn chain_kind(
+    alloc: Global,
+    operators: &[Operator],
+    operator: Operator,
+    first: ExprId,
+    rest: &[ExprId],
+) -> Result<ExprKind, NoMemory>
+    ensures kind { IfOk result (λ k. k ≡ chain_kind operator operators.now first rest.now) }
+{
+    Ok(match operator {
+        Operator::Arithmetic(_) => ExprKind::Arithmetic {
+            first,
+            rest: links_of(alloc, operators, rest)?,
+        },
+        Operator::Shift(_) => ExprKind::Shift {
+            first,
+            rest: links_of(alloc, operators, rest)?,
+        },
+        Operator::Comparison(_) => ExprKind::Comparison {
+            first,
+            rest: links_of(alloc, operators, rest)?,
+        },
+        Operator::Logic(_) => ExprKind::Logic {
+            first,
+            rest: links_of(alloc, operators, rest)?,
+        },
+    })
+}
+
+/// A chain of operators of one kind, with an operand before each and one behind the last.
+pub(crate) fn push_chain(
+    alloc: Global,
+    nodes: &mut Vec<ExprNode>,
+    place: Place,
+    operators: &[Operator],
+    first: ExprId,
+    rest: &[ExprId],
+) -> Result<Option<ExprId>, ElabFault>
+    requires sound { IsSound nodes.old.items }
+    requires first { first < length nodes.old.items }
+    requires rest { all_before (length nodes.old.items) rest.now ≡ true }
+    ensures step { Steps (chained place operators.now first rest.now nodes.old.items) result nodes.new.items }
+    ensures sound { OnOk result (IsSound nodes.new.items) }
+    ensures below { IfOk result (λ o. IfSome o (λ e. e < length nodes.new.items)) }
+    ensures grows { OnOk result (length nodes.old.items ≤ length nodes.new.items) }
+{
+    let Some(operator) = operators.first() else {
+        return Ok(Some(first));
+    };
+    let kind = chain_kind(alloc, operators, *operator, first, rest)?;
+    push(nodes, place, kind)
+}
+
+/// A concatenation of these, the highest first.
+pub(crate) fn push_join(
+    alloc: Global,
+    nodes: &mut Vec<ExprNode>,
+    place: Place,
+    parts: &[ExprId],
+) -> Result<Option<ExprId>, ElabFault>
+    requires sound { IsSound nodes.old.items }
+    requires parts { all_before (length nodes.old.items) parts.now ≡ true }
+    ensures step { Steps (joined place parts.now nodes.old.items) result nodes.new.items }
+    ensures sound { OnOk result (IsSound nodes.new.items) }
+    ensures below { IfOk result (λ o. IfSome o (λ e. e < length nodes.new.items)) }
+    ensures grows { OnOk result (length nodes.old.items ≤ length nodes.new.items) }
+{
+    let [first, rest @ ..] = parts else {
+        return Err(ElabFault::Refused(DesignFault::N3, place));
+    };
+    let rest = Sequence::from_slice(alloc, rest)?;
+    push(
+        nodes,
+        place,
+        ExprKind::Join {
+            first: *first,
+            rest,
+        },
+    )
+}
+
+/// So many times an expression.
+pub(crate) fn push_repeat(
+    nodes: &mut Vec<ExprNode>,
+    place: Place,
+    count: u64,
+    part: ExprId,
+) -> Result<Option<ExprId>, ElabFault>
+    requires sound { IsSound nodes.old.items }
+    requires part { part < length nodes.old.items }
+    ensures step { Steps (repeated place count part nodes.old.items) result nodes.new.items }
+    ensures sound { OnOk result (IsSound nodes.new.items) }
+    ensures below { IfOk result (λ o. IfSome o (λ e. e < length nodes.new.items)) }
+    ensures grows { OnOk result (length nodes.old.items ≤ length nodes.new.items) }
+{
+    if count > u64::from(MAX_WIDTH) {
+        return Err(ElabFault::Refused(DesignFault::N3, place));
+    }
+    let count = count as u32;
+    push(nodes, place, ExprKind::Repeat { count, part })
+}
+
+// The 8 digits of a byte.
+fn byte_value(byte: u8) -> Vec4
+    ensures value { result ≡ byte_value byte }
+    ensures width { width_of result ≡ 8 }
+{
+    Vec4::from_planes(8, u64::from(byte), 0, false)
+}
+
+// A string of at most 8 bytes as a number.
+fn text_value(bytes: &[u8]) -> Vec4
+    requires { length bytes.now ≤ 8 }
+    ensures { result ≡ text_value bytes.now }
+{
+    let [first, rest @ ..] = bytes else {
+        return Vec4::filled(8, Digit::Zero, false);
+    };
+    let mut value = byte_value(*first);
+    for byte in rest {
+        value = concat(&value, &byte_value(*byte));
+    }
+    value
+}
+
+/// A string as a number.
+pub(crate) fn push_text(
+    nodes: &mut Vec<ExprNode>,
+    place: Place,
+    bytes: &[u8],
+) -> Result<Option<ExprId>, ElabFault>
+    requires sound { IsSound nodes.old.items }
+    ensures step { Steps (text_pushed place bytes.now nodes.old.items) result nodes.new.items }
+    ensures sound { OnOk result (IsSound nodes.new.items) }
+    ensures below { IfOk result (λ o. IfSome o (λ e. e < length nodes.new.items)) }
+    ensures grows { OnOk result (length nodes.old.items ≤ length nodes.new.items) }
+{
+    if bytes.len() > 8 {
+        return Err(ElabFault::Refused(DesignFault::N3, place));
+    }
+    push(nodes, place, ExprKind::Literal(text_value(bytes)))
+}
