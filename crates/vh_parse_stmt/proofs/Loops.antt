@@ -1,50 +1,21 @@
 -- A turn of each loop of the parser.
 use Rattle.std.proofs.Common.{◌≡◌, ℕ, ◌<◌, Bool, true, false, List, [], ◌∷◌, ◌++◌, length, refl}
-use Rattle.vh_grammar.specs.Part.{only, after}
 use Rattle.vh_grammar.specs.Conditions.{eats, Advances}
 use Rattle.vh_grammar.specs.Reading.{got, next_is}
 use Rattle.vh_grammar.specs.Marking.{marks, joined_marks}
 use Rattle.vh_grammar.proofs.MarkTurns.{marks_less, joined_marks_turn}
 use Rattle.vh_ast.specs.Declarations.{DeclTree}
-use Rattle.vh_ast.specs.Statements.{EvTree, StmtTree, CitemTree}
-use Rattle.vh_syntax.specs.declared.sign.Sign.TheVariants as sign
-use Rattle.vh_syntax.specs.Tokens.{Token, is, is_any, is_unused}
-use Rattle.vh_syntax.specs.Parts.{G, the, comma_more}
+use Rattle.vh_ast.specs.Statements.{StmtTree, CitemTree}
+use Rattle.vh_syntax.specs.Tokens.{Token, is_any, is_unused}
 use Rattle.vh_syntax.specs.Names.{path}
 use Rattle.vh_syntax.specs.Expressions.{by_name, by_system, parens, braces, prim, unary_operand, any_operand, expression}
 use Rattle.vh_syntax.specs.Declarations.{decl_signs, reg_decl, integer_decl, time_decl, decl}
-use Rattle.vh_syntax.specs.Statements.{is_or, ev, begins_statement, inner_stmt, stmts, begins_citem, default_item, values_item, citem}
+use Rattle.vh_syntax.specs.Statements.{begins_statement, inner_stmt, stmts, begins_citem, default_item, values_item, citem}
 use Rattle.vh_syntax.specs.Grammar.{grammar}
 use Rattle.vh_syntax.specs.ExpressionConditions.{expression_advances}
 use Rattle.vh_syntax.specs.DeclarationConditions.{decl_advances}
 use Rattle.vh_syntax.specs.Table.{eating, advancing}
-use Rattle.vh_parse_stmt.specs.Pieces.{decls, more_evs, more_citems}
-
--- a list goes on by one behind a comma
-pub item_goes_on : {A : Type 0} (part : G A) → Advances part → (depth : ℕ) (front : List A) (a : A) (ts mid : List Token) (m k : ℕ) → next_is (is sign.Comma) ts ≡ true →
-    marks is_unused grammar depth (after (the sign.Comma) part) ts m ≡ got (a, k) mid →
-    joined_marks front (marks is_unused grammar depth (comma_more part) ts m) ≡ joined_marks (front ++ a ∷ []) (marks is_unused grammar depth (comma_more part) mid k)
-item_goes_on part v depth front a ts mid m k c r =
-    joined_marks_turn is_unused grammar eating advancing depth (is sign.Comma) (after (the sign.Comma) part) (tt, v) refl front ts m a k mid c r
-
-pub item_less : {A : Type 0} (part : G A) → Advances part → (depth : ℕ) (a : A × ℕ) (ts mid : List Token) (m : ℕ) →
-    marks is_unused grammar depth (after (the sign.Comma) part) ts m ≡ got a mid → length mid < length ts
-item_less part v depth a ts mid m r = marks_less is_unused grammar eating advancing depth (after (the sign.Comma) part) (tt, v) refl ts m a mid r
-
--- event expressions go on by one
-ev_advances : Advances ev
-unfolding ev
-ev_advances = ((tt, (expression_advances false)), (expression_advances false))
-
-pub evs_go_on : (depth : ℕ) (front : List EvTree) (e : EvTree) (ts mid : List Token) (m k : ℕ) → next_is is_or ts ≡ true →
-    marks is_unused grammar depth (after (only is_or) ev) ts m ≡ got (e, k) mid →
-    joined_marks front (marks is_unused grammar depth more_evs ts m) ≡ joined_marks (front ++ e ∷ []) (marks is_unused grammar depth more_evs mid k)
-evs_go_on depth front e ts mid m k c r =
-    joined_marks_turn is_unused grammar eating advancing depth is_or (after (only is_or) ev) (tt, ev_advances) refl front ts m e k mid c r
-
-pub ev_less : (depth : ℕ) (e : EvTree × ℕ) (ts mid : List Token) (m : ℕ) →
-    marks is_unused grammar depth (after (only is_or) ev) ts m ≡ got e mid → length mid < length ts
-ev_less depth e ts mid m r = marks_less is_unused grammar eating advancing depth (after (only is_or) ev) (tt, ev_advances) refl ts m e mid r
+use Rattle.vh_parse_stmt.specs.Pieces.{decls, more_citems}
 
 -- declarations go on by one
 decl_eats : eats decl ≡ true

@@ -8,7 +8,7 @@ use Rattle.vh_ast.specs.declared.stmt.CaseWord.{CaseWord}
 use Rattle.vh_ast.specs.declared.stmt.BlockWord.{BlockWord}
 use Rattle.vh_ast.specs.Expressions.{ExprTree, place_of}
 use Rattle.vh_ast.specs.Declarations.{DeclTree}
-use Rattle.vh_ast.specs.Statements.{DelayTree, EvTree, StmtTree, CitemTree, values}
+use Rattle.vh_ast.specs.Statements.{DelayTree, StmtTree, CitemTree, values}
 use Rattle.vh_ast.specs.Statements as S
 use Rattle.vh_syntax.specs.declared.sign.Sign.{Sign}
 use Rattle.vh_syntax.specs.declared.sign.Sign.TheVariants as sign
@@ -17,27 +17,12 @@ use Rattle.vh_syntax.specs.Parts.{G, the, at_the, an_id, row_in, placed_row, com
 use Rattle.vh_syntax.specs.Names.{Path, is_closed, path}
 use Rattle.vh_syntax.specs.Expressions.{expression}
 use Rattle.vh_syntax.specs.Declarations.{decl, decl_signs}
-use Rattle.vh_syntax.specs.Statements.{assign_rows, case_rows, loop_rows, force_rows, release_rows, inner_stmt, delay_of, is_expr, delay_value, delay, is_or, ev, shows_delay, shows_task, citem, begins_citem, citems, for_stmt, loop_stmt, forever_stmt, label, stmts, block_of, begin_stmt, fork_stmt, trigger_stmt, disable_stmt, force_stmt, release_stmt, all_of, slot, begins_slots, system_stmt}
-
--- A delay up to the bracket that ends it: the "," behind its expression shows a second one (IEEE
--- 1364-2005, A.2.2.3).
-abbrev pub delay_front : G DelayTree
-delay_front =
-    barred (λ d t. is_expr d.value && is sign.Comma t) (two delay_of (at_the sign.Hash) delay_value)
-
--- Event expressions, and further ones alone (IEEE 1364-2005, A.6.5).
-abbrev pub ev_list : G (List EvTree)
-ev_list = listed is_or (only is_or) ev
-
-abbrev pub more_evs : G (List EvTree)
-more_evs = rep is_or (after (only is_or) ev)
+use Rattle.vh_syntax.specs.Statements.{assign_rows, case_rows, loop_rows, force_rows, release_rows, inner_stmt, shows_delay, shows_task, citem, begins_citem, citems, for_stmt, loop_stmt, forever_stmt, label, stmts, block_of, begin_stmt, fork_stmt, trigger_stmt, disable_stmt, force_stmt, release_stmt, all_of, slot, begins_slots, system_stmt}
+use Rattle.vh_parse_decl.specs.Pieces.{delay_behind}
 
 -- The sign of an assignment, and what stands behind it (IEEE 1364-2005, A.6.2).
 abbrev pub sign_of_assignment : Bool → G AssignWord
 sign_of_assignment inside = unless (λ t. inside && is sign.LessEqual t) (row_in assign_rows)
-
-abbrev pub delay_behind : G (Option DelayTree)
-delay_behind = opt (is sign.Hash) delay
 
 abbrev pub assigned_part : Bool → G (Option DelayTree × ExprTree)
 assigned_part inside = unless (shows_delay inside) (seq delay_behind (ended (expression true)))

@@ -11,14 +11,11 @@ ghost use Rattle.vh_parse_expr.specs.Views.{Reads};
 ghost use Rattle.vh_parse_stmt.specs.Pieces.{decls, named_decls, values_part};
 ghost use Rattle.vh_parse_stmt.specs.Views.{head_tree, label_tree, values_tree};
 
-use crate::declared::declaration;
-use crate::lists::further;
-use crate::timing::event;
-use crate::values::set;
 use sqlite_items::{Boxed, Items};
 use std::alloc::Global;
 use vh_ast::{Decl, Event, Expr, Id, Set};
 use vh_base::Place;
+use vh_parse_decl::{Exprs, declaration, event, further, set};
 use vh_parse_expr::{At, Read, expression, id, then_sign};
 use vh_syntax::{Class, Group, Sign};
 
@@ -127,6 +124,6 @@ pub(crate) fn case_values<'t>(alloc: Global, depth: usize, at: At<'t>) -> Read<'
     let place = first.place;
     let mut all = Items::new(alloc);
     all.push(first)?;
-    let (all, rest) = further(alloc, depth, true, all, more)?;
+    let (all, rest) = further::<Exprs>(alloc, depth, true, all, more)?;
     Ok((Boxed::new(alloc, Values { place, all })?, rest))
 }

@@ -7,17 +7,16 @@ ghost use Rattle.vh_ast.specs.Views.{delay_tree, lv_tree, stmt_tree};
 ghost use Rattle.vh_syntax.specs.Names as names;
 ghost use Rattle.vh_syntax.specs.Statements as parts;
 ghost use Rattle.vh_parse_expr.specs.Views.{Reads, tokens_seen, path_tree, exprs_seen};
-ghost use Rattle.vh_parse_stmt.specs.Pieces.{sign_of_assignment, delay_behind, assigned_part, written_arguments, barred_name, last_branches};
+ghost use Rattle.vh_parse_stmt.specs.Pieces.{sign_of_assignment, assigned_part, written_arguments, barred_name, last_branches};
 ghost use Rattle.vh_parse_stmt.specs.Views.{value_pair};
 
 use crate::made;
 use crate::rows::{assign_word, force_word, release_word};
 use crate::system::system;
-use crate::timing::boxed_delay;
-use crate::values::{ended, list_in_parens, set};
 use sqlite_items::{Boxed, Items};
 use std::alloc::Global;
 use vh_ast::{AssignWord, Delay, Expr, Lv, Simple, Stmt};
+use vh_parse_decl::{ended, list_in_parens, set, written_delay};
 use vh_parse_expr::{At, Path, Read, Standing, braced, path, sign, single, target, then_sign};
 use vh_syntax::{Class, Group, Rows, Sign};
 
@@ -27,17 +26,6 @@ fn assignment_sign<'t>(inside: bool, at: At<'t>) -> Read<'t, AssignWord>
 {
     let shown = inside && at.next_is(Class::Is(Sign::LessEqual));
     assign_word(at.marked(at.tokens, shown))
-}
-
-// `[ delay ]`
-fn written_delay<'t>(alloc: Global, depth: usize, at: At<'t>) -> Read<'t, Option<Boxed<Delay>>>
-    ensures { Reads (option_map delay_tree) depth delay_behind at.entry result }
-{
-    if !at.next_is(Class::Is(Sign::Hash)) {
-        return Ok((None, at));
-    }
-    let (delay, rest) = boxed_delay(alloc, depth, at)?;
-    Ok((Some(delay), rest))
 }
 
 // The cursor, where a delay may be next that is left out: an `@`, and any delay in a function.

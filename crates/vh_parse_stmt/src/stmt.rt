@@ -17,11 +17,10 @@ use crate::head::{boxed_event, case_values, turns_in_parens, written_label};
 use crate::made;
 use crate::rows::{case_word, loop_word};
 use crate::simple::{by_brace, by_name, empty, last_branches};
-use crate::timing::boxed_delay;
-use crate::values::in_parens;
 use sqlite_items::{Boxed, Items};
 use std::alloc::Global;
 use vh_ast::{BlockWord, Citem, Stmt};
+use vh_parse_decl::{boxed_delay, in_parens};
 use vh_parse_expr::{At, Read, sign, then_sign};
 use vh_syntax::{Class, Group, Rows, Sign, Start};
 

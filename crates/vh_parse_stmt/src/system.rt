@@ -10,11 +10,11 @@ ghost use Rattle.vh_parse_stmt.specs.Pieces.{any_slots, bracketed_slots};
 ghost use Rattle.vh_parse_stmt.specs.Views.{slots_seen};
 ghost use Rattle.vh_parse_stmt.specs.Conditions.{slot_advances};
 
-use crate::lists::{Listed, list};
 use crate::made;
 use sqlite_items::{Boxed, Items};
 use std::alloc::Global;
 use vh_ast::{Expr, Id, Simple, Stmt};
+use vh_parse_decl::{Listed, list};
 use vh_parse_expr::{At, Read, calls_in, expression, system_name, then_sign};
 use vh_syntax::{Class, Sign, Start};
 
@@ -30,7 +30,12 @@ fn slot<'t>(alloc: Global, depth: usize, calls: bool, at: At<'t>) -> Read<'t, Op
     Ok((Some(expr), rest))
 }
 
-impl Listed for Option<Expr> {
+// Arguments of a system task, in which calls may stand or not.
+struct Slots;
+
+impl Listed for Slots {
+    type Item = Option<Expr>;
+
     ghost Tree = { Option trees.ExprTree };
 
     ghost view = { option_map expr_tree };
@@ -39,8 +44,8 @@ impl Listed for Option<Expr> {
 
     ghost advances = { slot_advances };
 
-    fn read<'t>(alloc: Global, depth: usize, calls: bool, at: At<'t>) -> Read<'t, Option<Expr>> {
-        slot(alloc, depth, calls, at)
+    fn read<'t>(alloc: Global, depth: usize, form: bool, at: At<'t>) -> Read<'t, Option<Expr>> {
+        slot(alloc, depth, form, at)
     }
 }
 
@@ -56,7 +61,7 @@ fn any_slots<'t>(
     if !at.next_is(Class::Begins(Start::Slots)) {
         return Ok((Items::new(alloc), at));
     }
-    list(alloc, depth, calls, at)
+    list::<Slots>(alloc, depth, calls, at)
 }
 
 // `"(" [ expr ] { "," [ expr ] } ")"`

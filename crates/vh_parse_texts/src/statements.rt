@@ -1,6 +1,5 @@
-//! Texts with what is answered for their tokens.
+//! Statements.
 
-use crate::parse_stmt;
 use std::alloc::Global;
 use std::fmt::Write;
 use std::test::Fail;
@@ -12,8 +11,9 @@ use vh_ast::{
 use vh_base::Place;
 use vh_lex::Lexer;
 use vh_parse_expr::ParseFault;
+use vh_parse_stmt::parse_stmt;
 
-fn push_id(line: &mut String, id: &Id) -> Result<(), Fail> {
+pub(crate) fn push_id(line: &mut String, id: &Id) -> Result<(), Fail> {
     for byte in id.name.as_slice() {
         line.push(*byte as char)?;
     }
@@ -77,7 +77,7 @@ fn push_sel(line: &mut String, sel: &Option<Sel<Expr>>) -> Result<(), Fail> {
 }
 
 // An expression of more than a name or a number is `?`.
-fn push_expr(line: &mut String, expr: &Expr) -> Result<(), Fail> {
+pub(crate) fn push_expr(line: &mut String, expr: &Expr) -> Result<(), Fail> {
     match &expr.form {
         ExprForm::Primary(Primary::Number(number)) => push_number(line, number.value.number()),
         ExprForm::Primary(Primary::Name(name, sel)) => {
@@ -103,13 +103,13 @@ fn push_lv(line: &mut String, lv: &Lv) -> Result<(), Fail> {
     Ok(())
 }
 
-fn push_set(line: &mut String, set: &Set) -> Result<(), Fail> {
+pub(crate) fn push_set(line: &mut String, set: &Set) -> Result<(), Fail> {
     push_lv(line, &set.target)?;
     line.push_str(" = ")?;
     push_expr(line, &set.value)
 }
 
-fn push_delay(line: &mut String, delay: &Delay) -> Result<(), Fail> {
+pub(crate) fn push_delay(line: &mut String, delay: &Delay) -> Result<(), Fail> {
     line.push('#')?;
     match &delay.value {
         DelayValue::Number(number) => push_number(line, number.value.number()),
@@ -148,7 +148,7 @@ fn push_event(line: &mut String, event: &Event) -> Result<(), Fail> {
     }
 }
 
-fn push_range(line: &mut String, range: &Range) -> Result<(), Fail> {
+pub(crate) fn push_range(line: &mut String, range: &Range) -> Result<(), Fail> {
     line.push_str(" [")?;
     push_expr(line, &range.left)?;
     line.push(':')?;
@@ -156,7 +156,7 @@ fn push_range(line: &mut String, range: &Range) -> Result<(), Fail> {
     Ok(line.push(']')?)
 }
 
-fn push_type(line: &mut String, data_type: &DataType) -> Result<(), Fail> {
+pub(crate) fn push_type(line: &mut String, data_type: &DataType) -> Result<(), Fail> {
     if data_type.signed {
         line.push_str(" signed")?;
     }
@@ -194,7 +194,7 @@ fn push_inits(line: &mut String, inits: &[Init]) -> Result<(), Fail> {
     Ok(())
 }
 
-fn push_decl(line: &mut String, decl: &Decl) -> Result<(), Fail> {
+pub(crate) fn push_decl(line: &mut String, decl: &Decl) -> Result<(), Fail> {
     match decl {
         Decl::Reg {
             data_type,
@@ -254,7 +254,7 @@ fn release_text(word: ReleaseWord) -> &'static str {
     }
 }
 
-fn push_exprs(line: &mut String, exprs: &[Expr]) -> Result<(), Fail> {
+pub(crate) fn push_exprs(line: &mut String, exprs: &[Expr]) -> Result<(), Fail> {
     for expr in exprs {
         line.push(' ')?;
         push_expr(line, expr)?;
@@ -505,7 +505,7 @@ fn push_stmt<'e>(line: &mut String, pieces: &mut Pieces<'e>, stmt: &'e Stmt) -> 
     push_block(line, pieces, &stmt.form)
 }
 
-fn push_tree(alloc: Global, line: &mut String, stmt: &Stmt) -> Result<(), Fail> {
+pub(crate) fn push_tree(alloc: Global, line: &mut String, stmt: &Stmt) -> Result<(), Fail> {
     let mut pieces = Vec::new(alloc);
     pieces.push(Piece::Stmt(stmt))?;
     for _ in 0..u32::MAX {
@@ -883,7 +883,11 @@ fn function_texts(rt: HostRuntime) -> Result<(), Fail> {
 }
 
 // As many times the first text, then the middle one, and as many times the last.
-fn repeated(alloc: Global, times: usize, texts: (&str, &str, &str)) -> Result<String, Fail> {
+pub(crate) fn repeated(
+    alloc: Global,
+    times: usize,
+    texts: (&str, &str, &str),
+) -> Result<String, Fail> {
     let mut text = String::new(alloc);
     for _ in 0..times {
         text.push_str(texts.0)?;

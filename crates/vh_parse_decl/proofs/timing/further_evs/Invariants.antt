@@ -3,8 +3,8 @@ use Rattle.std.proofs.Common.{◌≡◌, length, map}
 use Rattle.vh_grammar.specs.Marking.{joined_marks}
 use Rattle.vh_ast.specs.Views.{ev_tree}
 use Rattle.vh_parse_expr.specs.Views.{read_from}
-use Rattle.vh_parse_stmt.specs.Pieces.{more_evs}
-use Rattle.vh_parse_stmt.proofs.timing.further_evs.Given as goal
+use Rattle.vh_parse_decl.specs.Pieces.{more_evs}
+use Rattle.vh_parse_decl.proofs.timing.further_evs.Given as goal
 
 abbrev pub invariant-all : goal.invariant-all
 invariant-all l = joined_marks (map ev_tree l.initial.all) (read_from l.depth more_evs l.initial.rest) ≡ joined_marks (map ev_tree l.all) (read_from l.depth more_evs l.rest)

@@ -3,8 +3,8 @@ use Rattle.std.proofs.Common.{◌≡◌, sym, ◌∙◌}
 use Rattle.std.proofs.lemmas.List.{map-append}
 use Rattle.vh_parse_expr.specs.Views.{tokens_seen}
 use Rattle.vh_parse_expr.proofs.Loops.{fewer}
-use Rattle.vh_parse_stmt.proofs.Loops.{evs_go_on, ev_less}
-use Rattle.vh_parse_stmt.proofs.timing.further_evs.Goals as goal
+use Rattle.vh_parse_decl.proofs.Loops.{evs_go_on, ev_less}
+use Rattle.vh_parse_decl.proofs.timing.further_evs.Goals as goal
 
 pub all-smaller : goal.all-smaller
 all-smaller c = fewer _ _ (ev_less _ _ _ _ _ c.in_ok-next.ensures)

@@ -9,7 +9,7 @@ ghost use Rattle.vh_syntax.specs.Tokens.{is};
 ghost use Rattle.vh_syntax.specs.Declarations as parts;
 ghost use Rattle.vh_syntax.specs.Declarations.{a_range, a_type, an_init, a_var, decl};
 ghost use Rattle.vh_parse_expr.specs.Views.{Reads};
-ghost use Rattle.vh_parse_stmt.specs.Conditions.{var_advances, init_advances};
+ghost use Rattle.vh_parse_decl.specs.Conditions.{var_advances, init_advances};
 
 use crate::lists::{Listed, list};
 use crate::values::{behind, value};
@@ -117,30 +117,40 @@ fn init<'t>(alloc: Global, depth: usize, at: At<'t>) -> Read<'t, Init>
     Ok((Init { id, value }, rest))
 }
 
-impl Listed for Var {
+// Registers.
+struct Vars;
+
+impl Listed for Vars {
+    type Item = Var;
+
     ghost Tree = { trees.VarTree };
 
     ghost view = { var_tree };
 
-    ghost part = { λ calls. a_var };
+    ghost part = { λ form. a_var };
 
-    ghost advances = { λ calls. var_advances };
+    ghost advances = { λ form. var_advances };
 
-    fn read<'t>(alloc: Global, depth: usize, _calls: bool, at: At<'t>) -> Read<'t, Var> {
+    fn read<'t>(alloc: Global, depth: usize, _form: bool, at: At<'t>) -> Read<'t, Var> {
         var(alloc, depth, at)
     }
 }
 
-impl Listed for Init {
+// Integer and time variables.
+struct Inits;
+
+impl Listed for Inits {
+    type Item = Init;
+
     ghost Tree = { trees.InitTree };
 
     ghost view = { init_tree };
 
-    ghost part = { λ calls. an_init };
+    ghost part = { λ form. an_init };
 
-    ghost advances = { λ calls. init_advances };
+    ghost advances = { λ form. init_advances };
 
-    fn read<'t>(alloc: Global, depth: usize, _calls: bool, at: At<'t>) -> Read<'t, Init> {
+    fn read<'t>(alloc: Global, depth: usize, _form: bool, at: At<'t>) -> Read<'t, Init> {
         init(alloc, depth, at)
     }
 }
@@ -152,7 +162,7 @@ fn reg_decl<'t>(alloc: Global, depth: usize, at: At<'t>) -> Read<'t, Decl>
 {
     let (place, more) = sign(Sign::Reg, at)?;
     let (data_type, more) = data_type(alloc, depth, more)?;
-    let (vars, more) = list(alloc, depth, true, more)?;
+    let (vars, more) = list::<Vars>(alloc, depth, true, more)?;
     let (vars, rest) = then_sign(vars, Sign::Semicolon, more)?;
     let decl = Decl::Reg {
         place,
@@ -168,7 +178,7 @@ fn integer_decl<'t>(alloc: Global, depth: usize, at: At<'t>) -> Read<'t, Decl>
     ensures { Reads decl_tree depth parts.integer_decl at.entry result }
 {
     let (place, more) = sign(Sign::Integer, at)?;
-    let (inits, more) = list(alloc, depth, true, more)?;
+    let (inits, more) = list::<Inits>(alloc, depth, true, more)?;
     let (inits, rest) = then_sign(inits, Sign::Semicolon, more)?;
     Ok((Decl::Integer(place, inits), rest))
 }
@@ -179,7 +189,7 @@ fn time_decl<'t>(alloc: Global, depth: usize, at: At<'t>) -> Read<'t, Decl>
     ensures { Reads decl_tree depth parts.time_decl at.entry result }
 {
     let (place, more) = sign(Sign::Time, at)?;
-    let (inits, more) = list(alloc, depth, true, more)?;
+    let (inits, more) = list::<Inits>(alloc, depth, true, more)?;
     let (inits, rest) = then_sign(inits, Sign::Semicolon, more)?;
     Ok((Decl::Time(place, inits), rest))
 }

@@ -63,7 +63,12 @@ pub fn in_parens<'t>(alloc: Global, depth: usize, calls: bool, at: At<'t>) -> Re
     Ok((Boxed::new(alloc, expr)?, rest))
 }
 
-impl Listed for Expr {
+/// Expressions, where calls may stand or not.
+pub struct Exprs;
+
+impl Listed for Exprs {
+    type Item = Expr;
+
     ghost Tree = { trees.ExprTree };
 
     ghost view = { expr_tree };
@@ -72,8 +77,8 @@ impl Listed for Expr {
 
     ghost advances = { expression_advances };
 
-    fn read<'t>(alloc: Global, depth: usize, calls: bool, at: At<'t>) -> Read<'t, Expr> {
-        expression(alloc, depth, calls, at)
+    fn read<'t>(alloc: Global, depth: usize, form: bool, at: At<'t>) -> Read<'t, Expr> {
+        expression(alloc, depth, form, at)
     }
 }
 
@@ -83,7 +88,7 @@ pub fn list_in_parens<'t>(alloc: Global, depth: usize, at: At<'t>) -> Read<'t, I
         Reads exprs_seen depth part at.entry result }
 {
     let opened = at.take(Class::Is(Sign::LeftParen))?;
-    let (all, closing) = list(alloc, depth, true, opened)?;
+    let (all, closing) = list::<Exprs>(alloc, depth, true, opened)?;
     let (all, rest) = then_sign(all, Sign::RightParen, closing)?;
     Ok((all, rest))
 }

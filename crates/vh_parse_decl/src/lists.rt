@@ -15,47 +15,51 @@ use std::alloc::Global;
 use vh_parse_expr::{At, Read};
 use vh_syntax::{Class, Sign};
 
-/// What stands in lists: a production with its tree. Where calls make no difference to it, `calls` says
+/// What stands in lists: a production with what is read by it. Most have two forms, by whether calls may
+/// stand in them or whether a range is left out behind them; where there is one alone, `form` says
 /// nothing.
-pub trait Listed: Drop {
+pub trait Listed {
+    /// What is read.
+    type Item: Drop;
+
     /// The trees of the table.
     ghost Tree: { Type 0 };
-    /// The tree, as the table has it.
-    ghost view: { Self → Tree };
+    /// What is read, as the table has it.
+    ghost view: { Self.Item → Tree };
     /// The production.
     ghost part: { Bool → G Tree };
 
     /// Reads one, with so many levels left below it.
-    fn read<'t>(alloc: Global, depth: usize, calls: bool, at: At<'t>) -> Read<'t, Self>
-        ensures { Reads view depth (part calls) at.entry result };
+    fn read<'t>(alloc: Global, depth: usize, form: bool, at: At<'t>) -> Read<'t, Self::Item>
+        ensures { Reads view depth (part form) at.entry result };
 
     /// Each turn of a repetition in it takes a token.
-    ghost advances: { (calls : Bool) → Advances (part calls) };
+    ghost advances: { (form : Bool) → Advances (part form) };
 }
 
 // One behind a comma.
-fn next<'t, T: Listed>(alloc: Global, depth: usize, calls: bool, at: At<'t>) -> Read<'t, T>
-    ensures { Reads T.view depth (after (the sign.Comma) (T.part calls)) at.entry result }
+fn next<'t, T: Listed>(alloc: Global, depth: usize, form: bool, at: At<'t>) -> Read<'t, T::Item>
+    ensures { Reads T.view depth (after (the sign.Comma) (T.part form)) at.entry result }
 {
     let behind = at.take(Class::Is(Sign::Comma))?;
-    T::read(alloc, depth, calls, behind)
+    T::read(alloc, depth, form, behind)
 }
 
 /// Further ones behind commas.
 pub fn further<'t, T: Listed>(
     alloc: Global,
     depth: usize,
-    calls: bool,
-    first: Items<T>,
+    form: bool,
+    first: Items<T::Item>,
     at: At<'t>,
-) -> Read<'t, Items<T>>
-    ensures { let read = read_from depth (comma_more (T.part calls)) at.entry in
+) -> Read<'t, Items<T::Item>>
+    ensures { let read = read_from depth (comma_more (T.part form)) at.entry in
         Says word_seen (map T.view) (joined_marks (map T.view first) read) result }
 {
     let mut all = first;
     let mut rest = at;
     'all: while rest.next_is(Class::Is(Sign::Comma)) {
-        let (item, end) = next(alloc, depth, calls, rest)?;
+        let (item, end) = next::<T>(alloc, depth, form, rest)?;
         all.push(item)?;
         rest = end;
     }
@@ -66,13 +70,13 @@ pub fn further<'t, T: Listed>(
 pub fn list<'t, T: Listed>(
     alloc: Global,
     depth: usize,
-    calls: bool,
+    form: bool,
     at: At<'t>,
-) -> Read<'t, Items<T>>
-    ensures { Reads (map T.view) depth (comma_list (T.part calls)) at.entry result }
+) -> Read<'t, Items<T::Item>>
+    ensures { Reads (map T.view) depth (comma_list (T.part form)) at.entry result }
 {
-    let (first, rest) = T::read(alloc, depth, calls, at)?;
+    let (first, rest) = T::read(alloc, depth, form, at)?;
     let mut all = Items::new(alloc);
     all.push(first)?;
-    further(alloc, depth, calls, all, rest)
+    further::<T>(alloc, depth, form, all, rest)
 }

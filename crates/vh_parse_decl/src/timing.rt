@@ -1,6 +1,6 @@
 //! Delays and events.
 
-ghost use Rattle.std.specs.Prelude.{◌≡◌, Bool, map};
+ghost use Rattle.std.specs.Prelude.{◌≡◌, Bool, Option, option_map, map};
 ghost use Rattle.vh_grammar.specs.Part.{only, after, listed};
 ghost use Rattle.vh_grammar.specs.Marking.{joined_marks};
 ghost use Rattle.vh_grammar.specs.Says.{Says};
@@ -9,7 +9,7 @@ ghost use Rattle.vh_syntax.specs.Classes.{word_seen};
 ghost use Rattle.vh_syntax.specs.Statements as parts;
 ghost use Rattle.vh_syntax.specs.Statements.{is_expr, is_or, ev};
 ghost use Rattle.vh_parse_expr.specs.Views.{Reads, read_from};
-ghost use Rattle.vh_parse_stmt.specs.Pieces.{delay_front, more_evs, ev_list};
+ghost use Rattle.vh_parse_decl.specs.Pieces.{delay_front, delay_behind, more_evs, ev_list};
 
 use crate::rows::{delay_number, edge};
 use crate::values::behind;
@@ -79,12 +79,23 @@ pub fn delay<'t>(alloc: Global, depth: usize, at: At<'t>) -> Read<'t, Delay>
     delay_end(depth, front, more)
 }
 
-// `delay`, in a box.
-pub(crate) fn boxed_delay<'t>(alloc: Global, depth: usize, at: At<'t>) -> Read<'t, Boxed<Delay>>
+/// `delay`, in a box.
+pub fn boxed_delay<'t>(alloc: Global, depth: usize, at: At<'t>) -> Read<'t, Boxed<Delay>>
     ensures { Reads delay_tree depth parts.delay at.entry result }
 {
     let (delay, rest) = delay(alloc, depth, at)?;
     Ok((Boxed::new(alloc, delay)?, rest))
+}
+
+/// `[ delay ]`
+pub fn written_delay<'t>(alloc: Global, depth: usize, at: At<'t>) -> Read<'t, Option<Boxed<Delay>>>
+    ensures { Reads (option_map delay_tree) depth delay_behind at.entry result }
+{
+    if !at.next_is(Class::Is(Sign::Hash)) {
+        return Ok((None, at));
+    }
+    let (delay, rest) = boxed_delay(alloc, depth, at)?;
+    Ok((Some(delay), rest))
 }
 
 // `ev`

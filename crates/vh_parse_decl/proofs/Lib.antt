@@ -1,0 +1,2 @@
+-- A turn of each loop of the parser
+pub mod Loops

@@ -1,0 +1,42 @@
+//! Numbers of delays, and edges, where they stand.
+
+ghost use Rattle.vh_grammar.specs.Part.{act};
+ghost use Rattle.vh_ast.specs.Statements.{delay_number};
+ghost use Rattle.vh_ast.specs.Views.{delay_value_tree};
+ghost use Rattle.vh_syntax.specs.Parts.{a_number, placed_row};
+ghost use Rattle.vh_syntax.specs.Statements.{edge_rows};
+ghost use Rattle.vh_parse_expr.specs.Views.{Reads};
+
+use vh_ast::{DelayValue, Edge, Number};
+use vh_base::Place;
+use vh_lex::Kind;
+use vh_parse_expr::{At, Read};
+
+// `NUMBER`, as that of a delay.
+pub(crate) fn delay_number<'t>(at: At<'t>) -> Read<'t, DelayValue>
+    ensures { Reads delay_value_tree 0 (act (λ n. delay_number n.1) a_number) at.entry result }
+{
+    let [first, rest @ ..] = at.tokens else {
+        return Err(at.lost());
+    };
+    match first.token.kind {
+        Kind::Number(value, sized) => {
+            let number = Number { value, sized };
+            Ok((DelayValue::Number(number), at.before(rest)))
+        }
+        _ => Err(at.lost()),
+    }
+}
+
+// `"posedge" | "negedge"`
+pub(crate) fn edge<'t>(at: At<'t>) -> Read<'t, (Place, Edge)>
+    ensures { Reads (λ w. w) 0 (placed_row edge_rows) at.entry result }
+{
+    let [first, rest @ ..] = at.tokens else {
+        return Err(at.lost());
+    };
+    match first.edge() {
+        Some(edge) => Ok(((first.token.place, edge), at.before(rest))),
+        None => Err(at.lost()),
+    }
+}

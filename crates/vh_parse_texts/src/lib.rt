@@ -1,0 +1,6 @@
+//! Texts with what the parsers answer for their tokens: tests of the crates below, which have none of
+//! their own, so that a change of a test proves nothing again.
+#![tactic(auto)]
+
+#[cfg(test)]
+mod statements;
