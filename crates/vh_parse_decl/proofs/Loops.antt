@@ -1,5 +1,5 @@
 -- A turn of each loop of the parser.
-use Rattle.std.proofs.Common.{◌≡◌, ℕ, ◌<◌, true, List, [], ◌∷◌, ◌++◌, length, refl}
+use Rattle.std.proofs.Common.{◌≡◌, ℕ, ◌<◌, true, false, List, [], ◌∷◌, ◌++◌, length, refl}
 use Rattle.vh_grammar.specs.Part.{only, after}
 use Rattle.vh_grammar.specs.Conditions.{Advances}
 use Rattle.vh_grammar.specs.Reading.{got, next_is}
