@@ -31,9 +31,9 @@ fn slot<'t>(alloc: Global, depth: usize, calls: bool, at: At<'t>) -> Read<'t, Op
 }
 
 // Arguments of a system task, in which calls may stand or not.
-struct Slots;
+struct Arguments;
 
-impl Listed for Slots {
+impl Listed for Arguments {
     type Item = Option<Expr>;
 
     ghost Tree = { Option trees.ExprTree };
@@ -61,7 +61,7 @@ fn any_slots<'t>(
     if !at.next_is(Class::Begins(Start::Slots)) {
         return Ok((Items::new(alloc), at));
     }
-    list::<Slots>(alloc, depth, calls, at)
+    list::<Arguments>(alloc, depth, calls, at)
 }
 
 // `"(" [ expr ] { "," [ expr ] } ")"`
