@@ -1,11 +1,11 @@
 -- Lemmas on `specs/Laws.antt`: the laws of the queue.
-use Rattle.std.proofs.Common.{◌≡◌, ◌∙◌, ℕ, zero, suc, ◌<◌, ◌≤◌, List, [], ◌∷◌, filter, Bool, true, false, not, ◌&&◌, ◌||◌, ◌==◌, cond, nat_lt, Option, Some, None, find, slice_get, refl, sym, ap, arith, ⊎_elim}
+use Rattle.std.proofs.Common.{◌≡◌, ◌∙◌, ℕ, zero, suc, ◌<◌, ◌≤◌, List, [], ◌∷◌, filter, Bool, true, false, not, ◌&&◌, ◌||◌, ◌==◌, cond, Some, None, find, slice_get, refl, sym, ap, ⊎_elim}
 use Rattle.std.proofs.lemmas.Bool.{and_parts, cases_lt, lt-ltb, eqb-true, eqb-false, ne_eqb}
 use Rattle.std.specs.List.{list_any}
 use Rattle.vh_queue.specs.declared.entry.Entry.{Entry}
 use Rattle.vh_queue.specs.declared.region.Region.TheVariants as region
 use Rattle.vh_queue.specs.Entries.{is_due, is_update, is_active}
-use Rattle.vh_queue.specs.Events.{Events, is_behind, is_ready, is_eligible}
+use Rattle.vh_queue.specs.Events.{is_behind, is_ready, is_eligible}
 use Rattle.vh_queue.specs.Laws.{UpdatesInOrder, OneIsGone, OthersStand}
 
 -- What is among those that pass a test passes it.

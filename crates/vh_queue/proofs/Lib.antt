@@ -2,6 +2,8 @@
 pub mod EventsLemmas
 -- What an index tells of its entries.
 pub mod PlacesLemmas
+-- What the least place tells of a range.
+pub mod EndsLemmas
 -- What is least and greatest, and what may be picked.
 pub mod SerialsLemmas
 -- Entries as they are seen, by where they wait.

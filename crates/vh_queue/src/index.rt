@@ -87,14 +87,20 @@ impl Index {
     pub(crate) fn first_dated(&self, below: u64) -> Option<u64>
         ensures { result ≡ slice_get (dated_in below self.now.untimed) 0 }
     {
-        let end = Bound::Excluded(below);
-        self.untimed.range((Bound::Unbounded, end)).next().copied()
+        let least = self.untimed.first()?;
+        if below <= *least {
+            return None;
+        }
+        Some(*least)
     }
 
     // The last one.
     pub(crate) fn last_dated(&self, below: u64) -> Option<u64>
         ensures { result ≡ last_of (dated_in below self.now.untimed) }
     {
+        if self.untimed.is_empty() {
+            return None;
+        }
         let end = Bound::Excluded(below);
         let serial = self.untimed.range((Bound::Unbounded, end)).next_back()?;
         Some(*serial)
@@ -104,6 +110,9 @@ impl Index {
     pub(crate) fn count_dated(&self, below: u64) -> usize
         ensures { result ≡ length (dated_in below self.now.untimed) }
     {
+        if self.untimed.is_empty() {
+            return 0;
+        }
         let end = Bound::Excluded(below);
         self.untimed.range((Bound::Unbounded, end)).count()
     }

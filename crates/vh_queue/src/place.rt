@@ -1,4 +1,4 @@
-ghost use Rattle.std.specs.Prelude.{◌≡◌, ◌≤◌, ◌<◌, ◌^◌, length, slice_get, IfSome, IfNone, []};
+ghost use Rattle.std.specs.Prelude.{◌≡◌, ◌≤◌, ◌<◌, ◌^◌, length, slice_get, is_some, IfSome, IfNone, []};
 ghost use Rattle.vh_queue.specs.Places.{serials_of, IsLeastTime};
 ghost use Rattle.vh_queue.specs.Lanes.{first_four, last_four, count_four};
 ghost use Rattle.vh_queue.specs.Events.{earlier_of};
@@ -39,6 +39,13 @@ pub(crate) fn first_of(places: &Places, time: u64, rank: u8, from: u64, below: u
         rank,
         serial: below,
     };
+    let least = places.first()?;
+    if end <= *least {
+        return None;
+    }
+    if first <= *least {
+        return Some(least.serial);
+    }
     let place = places
         .range((Bound::Included(first), Bound::Excluded(end)))
         .next()?;
@@ -60,6 +67,10 @@ pub(crate) fn last_of(places: &Places, time: u64, rank: u8, from: u64, below: u6
         rank,
         serial: below,
     };
+    let least = places.first()?;
+    if end <= *least {
+        return None;
+    }
     let place = places
         .range((Bound::Included(first), Bound::Excluded(end)))
         .next_back()?;
@@ -84,6 +95,12 @@ pub(crate) fn count_of(places: &Places, time: u64, rank: u8, from: u64, below: u
         rank,
         serial: below,
     };
+    let Some(least) = places.first() else {
+        return 0;
+    };
+    if end <= *least {
+        return 0;
+    }
     places
         .range((Bound::Included(first), Bound::Excluded(end)))
         .count()
@@ -126,6 +143,23 @@ pub(crate) fn first_four(places: &Places, time: u64, own: u64, marks: &Marks) ->
     );
     let monitor = first_of(places, time, Region::Monitor as u8, 0, marks.monitor);
     earlier(earlier(active, inactive), earlier(nonblocking, monitor))
+}
+
+// Is there one?
+pub(crate) fn any_four(places: &Places, time: u64, own: u64, marks: &Marks) -> bool
+    ensures { result ≡ is_some (first_four time own marks.now places.now) }
+{
+    first_of(places, time, Region::Active as u8, 0, own).is_some()
+        || first_of(places, time, Region::Inactive as u8, 0, marks.inactive).is_some()
+        || first_of(
+            places,
+            time,
+            Region::Nonblocking as u8,
+            0,
+            marks.nonblocking,
+        )
+        .is_some()
+        || first_of(places, time, Region::Monitor as u8, 0, marks.monitor).is_some()
 }
 
 // The last one.

@@ -11,7 +11,7 @@ use crate::fault::AddFault;
 use crate::index::{Index, count_start};
 use crate::marks::Marks;
 use crate::place::{
-    count_four, earlier, first_four, first_of, first_time, last_four, last_of, later,
+    any_four, count_four, earlier, first_four, first_of, first_time, last_four, last_of, later,
 };
 use crate::region::Region;
 use crate::work::Work;
@@ -373,8 +373,8 @@ impl Queue {
             monitor: self.next,
             dated: 0,
         };
-        first_four(&self.index.plain, time, self.next, &all).is_some()
-            || first_four(&self.index.updates, time, self.next, &all).is_some()
+        any_four(&self.index.plain, time, self.next, &all)
+            || any_four(&self.index.updates, time, self.next, &all)
     }
 
     /// Time goes on to the least time of an entry, whose inactive entries become active; an entry without
