@@ -1,0 +1,23 @@
+#!/bin/sh
+# Runs the measurements of docs/PERFORMANCE.md that this folder can make, and prints a line of the page's table for
+# each: "Runs", then "Callbacks", with the figures of Icarus Verilog where it is there ("-" where it isn't). Run it
+# after ./vhost has built the program; it takes some minutes where valgrind is there.
+folder=$(dirname -- "$0")
+
+# figure NAME: the number behind these words in what a script said, or "-".
+figure() { printf '%s\n' "$said" | sed -n "s/^\(.* \)*$1 \([0-9.]*\).*\$/\2/p" | head -1 | grep . || echo -; }
+
+echo '| Blocks | Labels | Lines | `vhost run` | Labels a second | Instructions a label | `vvp` |'
+echo '|---|---|---|---|---|---|---|'
+for blocks in 1000 5000 10000; do
+    said=$(sh "$folder/run.sh" "$blocks") || exit 1
+    echo "| $blocks | $(figure labels) | $(figure lines) | $(figure seconds) s | $(figure 'a second') | $(figure 'instructions a label') | $(figure 'icarus seconds') s |"
+done
+echo
+echo '| Callbacks | Changes | Elsewhere | Fires | Fires a second | Instructions a fire | `vhost run` | `vvp` |'
+echo '|---|---|---|---|---|---|---|---|'
+for row in '1000 2000 0' '10 20000 0' '10 20000 1000' '10 20000 10000' '10 20000 20000'; do
+    set -- $row
+    said=$(sh "$folder/callbacks.sh" "$1" "$2" "$3") || exit 1
+    echo "| $1 | $2 | $3 | $(figure fires) | $(figure 'a second') | $(figure 'instructions a fire') | $(figure seconds) s | $(figure 'icarus seconds') s |"
+done
