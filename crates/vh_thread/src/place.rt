@@ -88,7 +88,12 @@ pub(crate) fn up_to_outermost(d: &Design, root: ProcId, target: ObjId, calls: &[
 }
 
 // Is a repeat inside the block, by how many calls there are up to that one's, and its blocks?
-pub(crate) fn is_repeat_within(blocks: &[Block], depth: usize, target: ObjId, repeat: &Repeat) -> bool
+pub(crate) fn is_repeat_within(
+    blocks: &[Block],
+    depth: usize,
+    target: ObjId,
+    repeat: &Repeat,
+) -> bool
     ensures { result ≡ repeats_within blocks.now depth target repeat.now }
 {
     let own = repeat.depth as usize;

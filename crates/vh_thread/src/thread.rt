@@ -1,5 +1,6 @@
 ghost use Rattle.std.specs.Prelude.{◌≡◌, ◌<◌, ◌≤◌, length, option_copied, true, IfOk, OnOk, OnErr, IfErr};
 ghost use Rattle.vh_nodes.specs.Fits.{has_body};
+ghost use Rattle.vh_design.specs.Shape.{Shape};
 ghost use Rattle.vh_thread.specs.Control.{Runs, HasCause, has_turn, next_of, process_of, branch_of, goes_on, called, is_inside, disabled, repeat_turned, repeating, depth_of, routine_of, gone_past};
 
 use crate::call::{Call, CallFault, MOST_CALLS, Repeat};
@@ -54,7 +55,8 @@ impl Thread {
 
     /// A branch that begins there, in the code of the `fork` at which this thread stands.
     pub fn branch(&self, alloc: Global, place: u32) -> Result<Thread, NoMemory>
-        ensures { IfOk result (λ t. t ≡ branch_of place self.now) }
+        ensures branch { IfOk result (λ t. t ≡ branch_of place self.now) }
+        ensures runs { (d : Shape) → Runs d self.now → IfOk result (Runs d) }
     {
         let mut calls = Vec::new(alloc);
         calls.push(Call {
@@ -145,6 +147,7 @@ impl Thread {
     pub fn begin_repeat(&mut self, block: Option<u32>, left: u64) -> Result<(), NoMemory>
         ensures begun { OnOk result (self.new ≡ repeating block left self.old) }
         ensures kept { OnErr result (self.new ≡ self.old) }
+        ensures runs { (d : Shape) → Runs d self.old → Runs d self.new }
     {
         let depth = self.calls.len() as u32;
         self.repeats.push(Repeat { depth, block, left })?;
@@ -155,6 +158,7 @@ impl Thread {
     pub fn take_turn(&mut self) -> bool
         ensures turn { result ≡ has_turn (self.old).repeats }
         ensures turned { self.new ≡ repeat_turned self.old }
+        ensures runs { (d : Shape) → Runs d self.old → Runs d self.new }
     {
         let Some(repeat) = self.repeats.last_mut() else {
             return false;
