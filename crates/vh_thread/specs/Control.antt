@@ -1,4 +1,4 @@
--- What a thread has still to do, and what becomes of it. (IEEE 1364-2005, 9.6, 9.8, 10.2, 10.4 and 11.3)
+-- What a thread has still to do, and what becomes of it. (IEEE 1364-2005, 9.6, 9.8 and 10.2 to 10.4)
 use Rattle.std.specs.Prelude.{◌≡◌, ◌<◌, ◌≤◌, ⊤, ℕ, ◌+◌, ◌-◌, List, [], ◌∷◌, filter, length, Bool, true, false, not, ◌&&◌, ◌||◌, ◌==◌, nat_lt, Option, Some, None, is_some, IfSome, unwrap_or, slice_get, if◌then◌else◌}
 use Rattle.std.specs.List.{AllByRecursion}
 use Rattle.std.specs.Option.{option_map, option_and_then}
@@ -103,7 +103,7 @@ turned (r ∷ rs) = if nat_lt 0 r.left then (record r { left = r.left - 1 } ∷ 
 abbrev pub repeat_turned : Control → Control
 repeat_turned t = record t { repeats = turned t.repeats }
 
--- Whether a call is one of this task, and the block of that object in which it stands. (11.3)
+-- Whether a call is one of this task, and the block of that object in which it stands. (10.3)
 abbrev pub is_routine : ℕ → Option ℕ → Bool
 is_routine target None = false
 is_routine target (Some routine) = routine == target
@@ -132,7 +132,7 @@ abbrev pub outermost : (Call → Bool) → List Call → List Call
 outermost test [] = []
 outermost test (c ∷ cs) = or_these (outermost test cs) (if test c then c ∷ cs else [])
 
--- Whether the thread is inside the block or task. (11.3)
+-- Whether the thread is inside the block or task. (10.3)
 abbrev pub is_inside : Shape → ℕ → Control → Bool
 is_inside d target t = nat_lt 0 (length (outermost (is_within d t.root target) t.calls))
 
@@ -141,7 +141,7 @@ abbrev pub repeats_within : List Block → ℕ → ℕ → Repeat → Bool
 repeats_within bs depth target r = nat_lt depth r.depth || (r.depth == depth && is_some (block_of bs target r.block))
 
 -- A disable of the block or task: it goes on behind the outermost. Behind a task's call that is behind the end of the
--- call, whose outputs aren't written. (11.3)
+-- call, whose outputs aren't written. (10.3)
 abbrev pub past : Shape → ℕ → List Call → List Call
 past d root [] = []
 past d root (c ∷ cs) = gone d root (behind d root c) (c ∷ cs)

@@ -1,4 +1,4 @@
-//! What one thread of the simulation has still to do (IEEE 1364-2005, 9.6, 9.8, 10.2, 10.4, 11.3).
+//! What one thread of the simulation has still to do (IEEE 1364-2005, 9.6, 9.8, 10.2 to 10.4).
 //!
 //! A thread is a process, or a branch of a `fork`. It is in calls of tasks and functions, stands at an
 //! instruction of each, and is inside `repeat`s that have turns left.

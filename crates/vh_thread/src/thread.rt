@@ -180,7 +180,7 @@ impl Thread {
     }
 
     /// The named block or task is disabled: where it is inside, it goes on behind the outermost such block
-    /// or call (IEEE 1364-2005, 11.3).
+    /// or call (IEEE 1364-2005, 10.3).
     pub fn disable(&mut self, d: &Design, target: ObjId)
         requires { Runs d.now self.old }
         ensures disabled { self.new ≡ disabled d.now target self.old }
