@@ -119,10 +119,7 @@ fn design(alloc: Global) -> Result<Option<Design>, NoMemory> {
     let mut bodies = Vec::new(alloc);
     bodies.push(body(alloc)?)?;
     bodies.push(nothing(alloc))?;
-    let mut stmts = Vec::new(alloc);
-    for _ in 0..12 {
-        stmts.push(statement())?;
-    }
+    let stmts = vec![in alloc; statement(); 12]?;
     Ok(Design::build(Parts {
         objects,
         exprs: Vec::new(alloc),
