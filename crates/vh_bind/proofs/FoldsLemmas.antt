@@ -11,35 +11,36 @@ use Rattle.vh_ast.specs.declared.expr.Expr.{Expr}
 use Rattle.vh_ast.specs.declared.expr.Link.{Link}
 use Rattle.vh_ast.specs.Expressions.{name, steps, exprs, links}
 use Rattle.vh_ast.specs.Views.{expr_tree, link_tree, name_tree, index_by, step_by}
+use Rattle.vh_bind.specs.declared.scope.Mode.{Mode}
 use Rattle.vh_bind.specs.Steps.{Fault, Nodes, and_then}
 use Rattle.vh_bind.specs.Scopes.{Scope}
 use Rattle.vh_bind.specs.Constants.{bound, entry, entries_bound, links_bound, with_number, sole_bound, name_value}
 use Rattle.vh_bind.proofs.NodesLemmas.{all_before-later, all_before-push}
 
-pub entries-step : (s : Scope) (parts : List Expr) (i : ℕ) (d : Expr) (nums nums' : Option (List ℕ)) (ns ns' : Nodes) (a : Option ℕ)
+pub entries-step : (m : Mode) (s : Scope) (parts : List Expr) (i : ℕ) (d : Expr) (nums nums' : Option (List ℕ)) (ns ns' : Nodes) (a : Option ℕ)
     (target : Result (Option (List ℕ) × Nodes) Fault) → i < length parts
-    → entries_bound s nums (exprs (map expr_tree (drop i parts))) ns ≡ target
-    → entry (expr_tree (get_or parts i d)) (bound s (expr_tree (get_or parts i d))) ns ≡ Ok (a, ns')
+    → entries_bound m s nums (exprs (map expr_tree (drop i parts))) ns ≡ target
+    → entry (expr_tree (get_or parts i d)) (bound m s (expr_tree (get_or parts i d))) ns ≡ Ok (a, ns')
     → nums' ≡ with_number nums a
-    → entries_bound s nums' (exprs (map expr_tree (drop (i + 1) parts))) ns' ≡ target
-entries-step s parts i d nums nums' ns ns' a target inside is one more =
+    → entries_bound m s nums' (exprs (map expr_tree (drop (i + 1) parts))) ns' ≡ target
+entries-step m s parts i d nums nums' ns ns' a target inside is one more =
     let rest = exprs (map expr_tree (drop (i + 1) parts)) in
-    ap (λ (n : Option (List ℕ)). entries_bound s n rest ns') more
-    ∙ sym (ap (λ (r : Result (Option ℕ × Nodes) Fault). and_then r (λ b. entries_bound s (with_number nums b) rest)) one)
-    ∙ sym (at_drop_more (λ xs. entries_bound s nums (exprs (map expr_tree xs)) ns) parts i d inside)
+    ap (λ (n : Option (List ℕ)). entries_bound m s n rest ns') more
+    ∙ sym (ap (λ (r : Result (Option ℕ × Nodes) Fault). and_then r (λ b. entries_bound m s (with_number nums b) rest)) one)
+    ∙ sym (at_drop_more (λ xs. entries_bound m s nums (exprs (map expr_tree xs)) ns) parts i d inside)
     ∙ is
 
-pub links-step : (s : Scope) (parts : List (Link Expr)) (i : ℕ) (d : Link Expr) (nums nums' : Option (List ℕ)) (ns ns' : Nodes) (a : Option ℕ)
+pub links-step : (m : Mode) (s : Scope) (parts : List (Link Expr)) (i : ℕ) (d : Link Expr) (nums nums' : Option (List ℕ)) (ns ns' : Nodes) (a : Option ℕ)
     (target : Result (Option (List ℕ) × Nodes) Fault) → i < length parts
-    → links_bound s nums (links (map link_tree (drop i parts))) ns ≡ target
-    → bound s (expr_tree (get_or parts i d).operand) ns ≡ Ok (a, ns')
+    → links_bound m s nums (links (map link_tree (drop i parts))) ns ≡ target
+    → bound m s (expr_tree (get_or parts i d).operand) ns ≡ Ok (a, ns')
     → nums' ≡ with_number nums a
-    → links_bound s nums' (links (map link_tree (drop (i + 1) parts))) ns' ≡ target
-links-step s parts i d nums nums' ns ns' a target inside is one more =
+    → links_bound m s nums' (links (map link_tree (drop (i + 1) parts))) ns' ≡ target
+links-step m s parts i d nums nums' ns ns' a target inside is one more =
     let rest = links (map link_tree (drop (i + 1) parts)) in
-    ap (λ (n : Option (List ℕ)). links_bound s n rest ns') more
-    ∙ sym (ap (λ (r : Result (Option ℕ × Nodes) Fault). and_then r (λ b. links_bound s (with_number nums b) rest)) one)
-    ∙ sym (at_drop_more (λ xs. links_bound s nums (links (map link_tree xs)) ns) parts i d inside)
+    ap (λ (n : Option (List ℕ)). links_bound m s n rest ns') more
+    ∙ sym (ap (λ (r : Result (Option ℕ × Nodes) Fault). and_then r (λ b. links_bound m s (with_number nums b) rest)) one)
+    ∙ sym (at_drop_more (λ xs. links_bound m s nums (links (map link_tree xs)) ns) parts i d inside)
     ∙ is
 
 -- The numbers stay below those of the nodes.
@@ -54,15 +55,15 @@ numbers-below nums nums' a m k below up here more = rw more (by nums a below her
     by (Some ns) (Some e) below here = all_before-push k e ns (all_before-later m k ns below up) here
 
 -- Of no argument, or of more than one, none is the only one.
-pub sole_none : (s : Scope) (all : List Expr) → (length all ≡ 1 → ⊥) → sole_bound s (exprs (map expr_tree all)) ≡ None
-sole_none s [] h = refl
-sole_none s (e ∷ []) h = absurd (h refl)
-sole_none s (e ∷ f ∷ all) h = refl
+pub sole_none : (m : Mode) (s : Scope) (all : List Expr) → (length all ≡ 1 → ⊥) → sole_bound m s (exprs (map expr_tree all)) ≡ None
+sole_none m s [] h = refl
+sole_none m s (e ∷ []) h = absurd (h refl)
+sole_none m s (e ∷ f ∷ all) h = refl
 
-pub sole_one : (s : Scope) (all : List Expr) (d : Expr) → length all ≡ 1 → sole_bound s (exprs (map expr_tree all)) ≡ Some (bound s (expr_tree (get_or all 0 d)))
-sole_one s [] d h = absurd (cc)
-sole_one s (e ∷ []) d h = refl
-sole_one s (e ∷ f ∷ all) d h = absurd (cc)
+pub sole_one : (m : Mode) (s : Scope) (all : List Expr) (d : Expr) → length all ≡ 1 → sole_bound m s (exprs (map expr_tree all)) ≡ Some (bound m s (expr_tree (get_or all 0 d)))
+sole_one m s [] d h = absurd (cc)
+sole_one m s (e ∷ []) d h = refl
+sole_one m s (e ∷ f ∷ all) d h = absurd (cc)
 
 -- A name with an index, or with more than one part, is no constant.
 indexed : (s : Scope) (id : Id) (i : Option Expr) (more : List (NameStep Expr)) → is_some i ≡ true

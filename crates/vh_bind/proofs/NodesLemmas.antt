@@ -10,15 +10,15 @@ use Rattle.vh_logic.specs.declared.vector.TheConstants.{MAX_WIDTH}
 use Rattle.vh_nodes.specs.declared.expr.ExprKind.{ExprKind}
 use Rattle.vh_nodes.specs.declared.expr.ExprKind.TheVariants as kind
 use Rattle.vh_nodes.specs.declared.expr.ExprNode.{ExprNode}
+use Rattle.vh_nodes.specs.declared.object.ObjectInfo.{ObjectInfo}
 use Rattle.vh_nodes.specs.Widths.{width_of, signed_of, widest, summed, all_signed, operands, is_reduction, kind_width, kind_signed}
 use Rattle.vh_nodes.specs.Fits.{is_width, same_sign, all_before, fits_kind, fits_node}
 use Rattle.vh_nodes.proofs.FitsLemmas.{and_left, and_right}
 use Rattle.vh_design.specs.Validity.{AllFit}
-use Rattle.vh_store.specs.Opening.{is_call}
 use Rattle.vh_bind.specs.declared.nodes.TheConstants.{MOST_EXPRS}
 use Rattle.vh_bind.specs.declared.operators.Operator.{Operator}
 use Rattle.vh_bind.specs.declared.operators.Operator.TheVariants as operator
-use Rattle.vh_bind.specs.Nodes.{node_of, as_arithmetic, as_shift, as_comparison, as_logic, with_link, links_by, chain_kind, IsSound}
+use Rattle.vh_bind.specs.Nodes.{as_arithmetic, as_shift, as_comparison, as_logic, with_link, links_by, chain_kind, AreSound}
 use Rattle.vh_bind.specs.Steps.{Nodes}
 
 -- A node of before is where it was.
@@ -71,106 +71,111 @@ all_signed-kept ns x e (p ∷ ps) h up =
     (all_signed-kept ns x e ps (and_right (nat_lt p e) (all_before e ps) h) up)
 
 -- What a kind's parts give is what they gave.
-kind_width-kept : (ns : Nodes) (x : ExprNode) (e : ℕ) (k : ExprKind) → fits_kind [] 0 e k ≡ true → e ≤ length ns
-    → kind_width (ns ++ x ∷ []) [] k ≡ kind_width ns [] k
-kind_width-kept ns x e (kind.Literal v) h up = refl
-kind_width-kept ns x e (kind.Selected s) h up = refl
-kind_width-kept ns x e (kind.Unary op p) h up =
+kind_width-kept : (os : List ObjectInfo) (p : ℕ) (ns : Nodes) (x : ExprNode) (e : ℕ) (k : ExprKind) → fits_kind os p e k ≡ true → e ≤ length ns
+    → kind_width (ns ++ x ∷ []) os k ≡ kind_width ns os k
+kind_width-kept os pr ns x e (kind.Literal v) h up = refl
+kind_width-kept os pr ns x e (kind.Selected s) h up = refl
+kind_width-kept os pr ns x e (kind.Unary op p) h up =
     ap (λ (w : ℕ). if is_reduction op then 1 else w) (width-kept ns x p (inside_by p e (length ns) h up))
-kind_width-kept ns x e (kind.Arithmetic first rest) h up =
+kind_width-kept os pr ns x e (kind.Arithmetic first rest) h up =
     let here = inside_by first e (length ns) (and_left (nat_lt first e) (all_before e (operands rest)) h) up in
     ap (λ (w : ℕ). widest (ns ++ x ∷ []) w (operands rest)) (width-kept ns x first here)
     ∙ widest-kept ns x e (width_of ns first) (operands rest) (and_right (nat_lt first e) (all_before e (operands rest)) h) up
-kind_width-kept ns x e (kind.Shift first rest) h up =
+kind_width-kept os pr ns x e (kind.Shift first rest) h up =
     width-kept ns x first
     (inside_by first e (length ns) (and_left (nat_lt first e) (all_before e (operands rest)) h) up)
-kind_width-kept ns x e (kind.Comparison first rest) h up = refl
-kind_width-kept ns x e (kind.Logic first rest) h up = refl
-kind_width-kept ns x e (kind.Choice condition left right) h up =
+kind_width-kept os pr ns x e (kind.Comparison first rest) h up = refl
+kind_width-kept os pr ns x e (kind.Logic first rest) h up = refl
+kind_width-kept os pr ns x e (kind.Choice condition left right) h up =
     let both = and_left (nat_lt condition e && nat_lt left e) (nat_lt right e) h in
     let one = inside_by left e (length ns) (and_right (nat_lt condition e) (nat_lt left e) both) up in
     let other = inside_by right e (length ns) (and_right (nat_lt condition e && nat_lt left e) (nat_lt right e) h) up in
     ap (λ (w : ℕ). max w (width_of (ns ++ x ∷ []) right)) (width-kept ns x left one)
     ∙ ap (λ (w : ℕ). max (width_of ns left) w) (width-kept ns x right other)
-kind_width-kept ns x e (kind.Join first rest) h up =
+kind_width-kept os pr ns x e (kind.Join first rest) h up =
     let here = inside_by first e (length ns) (and_left (nat_lt first e) (all_before e rest) h) up in
     ap (λ (w : ℕ). summed (ns ++ x ∷ []) w rest) (width-kept ns x first here)
     ∙ summed-kept ns x e (width_of ns first) rest (and_right (nat_lt first e) (all_before e rest) h) up
-kind_width-kept ns x e (kind.Repeat count p) h up =
+kind_width-kept os pr ns x e (kind.Repeat count p) h up =
     ap (λ (w : ℕ). min (count * w) (MAX_WIDTH + 1)) (width-kept ns x p (inside_by p e (length ns) h up))
-kind_width-kept ns x e (kind.Marked p signed) h up = width-kept ns x p (inside_by p e (length ns) h up)
-kind_width-kept ns x e (kind.Time unit) h up = refl
-kind_width-kept ns x e (kind.Call function result arguments) h up = refl
-kind_width-kept ns x e (kind.SysCall o) h up = refl
+kind_width-kept os pr ns x e (kind.Marked p signed) h up = width-kept ns x p (inside_by p e (length ns) h up)
+kind_width-kept os pr ns x e (kind.Time unit) h up = refl
+kind_width-kept os pr ns x e (kind.Call function result arguments) h up = refl
+kind_width-kept os pr ns x e (kind.SysCall o) h up = refl
 
-kind_signed-kept : (ns : Nodes) (x : ExprNode) (e : ℕ) (k : ExprKind) → fits_kind [] 0 e k ≡ true → e ≤ length ns
-    → kind_signed (ns ++ x ∷ []) [] k ≡ kind_signed ns [] k
-kind_signed-kept ns x e (kind.Literal v) h up = refl
-kind_signed-kept ns x e (kind.Selected s) h up = refl
-kind_signed-kept ns x e (kind.Unary op p) h up =
+kind_signed-kept : (os : List ObjectInfo) (p : ℕ) (ns : Nodes) (x : ExprNode) (e : ℕ) (k : ExprKind) → fits_kind os p e k ≡ true → e ≤ length ns
+    → kind_signed (ns ++ x ∷ []) os k ≡ kind_signed ns os k
+kind_signed-kept os pr ns x e (kind.Literal v) h up = refl
+kind_signed-kept os pr ns x e (kind.Selected s) h up = refl
+kind_signed-kept os pr ns x e (kind.Unary op p) h up =
     ap (λ (g : Bool). if is_reduction op then false else g) (signed-kept ns x p (inside_by p e (length ns) h up))
-kind_signed-kept ns x e (kind.Arithmetic first rest) h up =
+kind_signed-kept os pr ns x e (kind.Arithmetic first rest) h up =
     let here = inside_by first e (length ns) (and_left (nat_lt first e) (all_before e (operands rest)) h) up in
     ap (λ (g : Bool). g && all_signed (ns ++ x ∷ []) (operands rest)) (signed-kept ns x first here)
     ∙ ap (λ (g : Bool). signed_of ns first && g)
     (all_signed-kept ns x e (operands rest) (and_right (nat_lt first e) (all_before e (operands rest)) h) up)
-kind_signed-kept ns x e (kind.Shift first rest) h up =
+kind_signed-kept os pr ns x e (kind.Shift first rest) h up =
     signed-kept ns x first
     (inside_by first e (length ns) (and_left (nat_lt first e) (all_before e (operands rest)) h) up)
-kind_signed-kept ns x e (kind.Comparison first rest) h up = refl
-kind_signed-kept ns x e (kind.Logic first rest) h up = refl
-kind_signed-kept ns x e (kind.Choice condition left right) h up =
+kind_signed-kept os pr ns x e (kind.Comparison first rest) h up = refl
+kind_signed-kept os pr ns x e (kind.Logic first rest) h up = refl
+kind_signed-kept os pr ns x e (kind.Choice condition left right) h up =
     let both = and_left (nat_lt condition e && nat_lt left e) (nat_lt right e) h in
     let one = inside_by left e (length ns) (and_right (nat_lt condition e) (nat_lt left e) both) up in
     let other = inside_by right e (length ns) (and_right (nat_lt condition e && nat_lt left e) (nat_lt right e) h) up in
     ap (λ (g : Bool). g && signed_of (ns ++ x ∷ []) right) (signed-kept ns x left one)
     ∙ ap (λ (g : Bool). signed_of ns left && g) (signed-kept ns x right other)
-kind_signed-kept ns x e (kind.Join first rest) h up = refl
-kind_signed-kept ns x e (kind.Repeat count p) h up = refl
-kind_signed-kept ns x e (kind.Marked p signed) h up = refl
-kind_signed-kept ns x e (kind.Time unit) h up = refl
-kind_signed-kept ns x e (kind.Call function result arguments) h up = refl
-kind_signed-kept ns x e (kind.SysCall o) h up = refl
+kind_signed-kept os pr ns x e (kind.Join first rest) h up = refl
+kind_signed-kept os pr ns x e (kind.Repeat count p) h up = refl
+kind_signed-kept os pr ns x e (kind.Marked p signed) h up = refl
+kind_signed-kept os pr ns x e (kind.Time unit) h up = refl
+kind_signed-kept os pr ns x e (kind.Call function result arguments) h up = refl
+kind_signed-kept os pr ns x e (kind.SysCall o) h up = refl
 
 -- A node that fits goes on fitting.
-fits-kept : (ns : Nodes) (x : ExprNode) (e : ℕ) (n : ExprNode) → e ≤ length ns → fits_node ns [] 0 e n ≡ true
-    → fits_node (ns ++ x ∷ []) [] 0 e n ≡ true
-fits-kept ns x e n up h =
-    let k = fits_kind [] 0 e n.kind in
-    let w = n.width == kind_width ns [] n.kind in
-    let fits = and_left k w (and_left (k && w) (is_width n.width) (and_left (k && w && is_width n.width) (same_sign n.signed (kind_signed ns [] n.kind)) h)) in
-    rw (kind_width-kept ns x e n.kind fits up, kind_signed-kept ns x e n.kind fits up) h
+fits-kept : (os : List ObjectInfo) (pr : ℕ) (ns : Nodes) (x : ExprNode) (e : ℕ) (n : ExprNode) → e ≤ length ns
+    → fits_node ns os pr e n ≡ true → fits_node (ns ++ x ∷ []) os pr e n ≡ true
+fits-kept os pr ns x e n up h =
+    let k = fits_kind os pr e n.kind in
+    let w = n.width == kind_width ns os n.kind in
+    let fits = and_left k w (and_left (k && w) (is_width n.width) (and_left (k && w && is_width n.width) (same_sign n.signed (kind_signed ns os n.kind)) h)) in
+    rw (kind_width-kept os pr ns x e n.kind fits up, kind_signed-kept os pr ns x e n.kind fits up) h
 
 same_sign-refl : (b : Bool) → same_sign b b ≡ true
 same_sign-refl true = refl
 same_sign-refl false = refl
 
--- One whose parts are there fits behind them.
-fits-new : (ns : Nodes) (k : ExprKind) → fits_kind [] 0 (length ns) k ≡ true → is_width (kind_width ns [] k) ≡ true
-    → fits_node ns [] 0 (length ns) (node_of ns k) ≡ true
-fits-new ns k fits wide =
-    both_true (both_true (both_true fits (eq-eqb (kind_width ns [] k) (kind_width ns [] k) refl)) wide)
-    (same_sign-refl (kind_signed ns [] k))
+-- The node of a kind.
+abbrev made : List ObjectInfo → Nodes → ExprKind → ExprNode
+made os ns k = record { kind = k; width = kind_width ns os k; signed = kind_signed ns os k }
 
-all_fit-push : (ns : Nodes) (k : ExprKind) → AllFit (fits_node ns [] 0) ns → fits_kind [] 0 (length ns) k ≡ true
-    → is_width (kind_width ns [] k) ≡ true → AllFit (fits_node (ns ++ node_of ns k ∷ []) [] 0) (ns ++ node_of ns k ∷ [])
-all_fit-push ns k fit fits wide e n at = by (nat_lt e (length ns)) refl
+-- One whose parts are there fits behind them.
+fits-new : (os : List ObjectInfo) (pr : ℕ) (ns : Nodes) (k : ExprKind) → fits_kind os pr (length ns) k ≡ true
+    → is_width (kind_width ns os k) ≡ true → fits_node ns os pr (length ns) (made os ns k) ≡ true
+fits-new os pr ns k fits wide =
+    both_true (both_true (both_true fits (eq-eqb (kind_width ns os k) (kind_width ns os k) refl)) wide)
+    (same_sign-refl (kind_signed ns os k))
+
+all_fit-push : (os : List ObjectInfo) (pr : ℕ) (ns : Nodes) (k : ExprKind) → AllFit (fits_node ns os pr) ns
+    → fits_kind os pr (length ns) k ≡ true → is_width (kind_width ns os k) ≡ true
+    → AllFit (fits_node (ns ++ made os ns k ∷ []) os pr) (ns ++ made os ns k ∷ [])
+all_fit-push os pr ns k fit fits wide e n at = by (nat_lt e (length ns)) refl
   where
-    by : (b : Bool) → nat_lt e (length ns) ≡ b → fits_node (ns ++ node_of ns k ∷ []) [] 0 e n ≡ true
+    by : (b : Bool) → nat_lt e (length ns) ≡ b → fits_node (ns ++ made os ns k ∷ []) os pr e n ≡ true
     by true is =
         let inside = ltb-true e (length ns) is in
-        fits-kept ns (node_of ns k) e n (omega (arith, inside)) (fit e n (sym (kept_at ns (node_of ns k) e inside) ∙ at))
+        fits-kept os pr ns (made os ns k) e n (omega (arith, inside)) (fit e n (sym (kept_at ns (made os ns k) e inside) ∙ at))
     by false is =
-        let x = node_of ns k in
+        let x = made os ns k in
         let past = ltb-false e (length ns) is in
         let within = slice_get_within (ns ++ x ∷ []) e n at in
         let last : e ≡ length ns = omega (arith, within, past, length-append ns (x ∷ [])) in
         let there : Some x ≡ Some n =
         sym (new_at ns x) ∙ ap (λ (j : ℕ). slice_get (ns ++ x ∷ []) j) (sym last) ∙ at in
         let same : x ≡ n = cc in
-        let whole = fits-kept ns x (length ns) x (omega arith) (fits-new ns k fits wide) in
-        ap (λ (j : ℕ). fits_node (ns ++ x ∷ []) [] 0 j n) last
-        ∙ ap (λ (m : ExprNode). fits_node (ns ++ x ∷ []) [] 0 (length ns) m) (sym same) ∙ whole
+        let whole = fits-kept os pr ns x (length ns) x (omega arith) (fits-new os pr ns k fits wide) in
+        ap (λ (j : ℕ). fits_node (ns ++ x ∷ []) os pr j n) last
+        ∙ ap (λ (m : ExprNode). fits_node (ns ++ x ∷ []) os pr (length ns) m) (sym same) ∙ whole
 
 list_all-push : {A : Type 0} (test : A → Bool) (xs : List A) (x : A) → list_all test xs ≡ true → test x ≡ true
     → list_all test (xs ++ x ∷ []) ≡ true
@@ -179,12 +184,12 @@ list_all-push test (y ∷ ys) x h g =
     both_true (and_left (test y) (list_all test ys) h) (list_all-push test ys x (and_right (test y) (list_all test ys) h) g)
 
 -- Sound nodes, and one more.
-pub sound-push : (ns : Nodes) (k : ExprKind) → IsSound ns → fits_kind [] 0 (length ns) k ≡ true → is_call k ≡ false
-    → is_width (kind_width ns [] k) ≡ true → length ns < MOST_EXPRS → IsSound (ns ++ node_of ns k ∷ [])
-sound-push ns k sound fits calm wide small = record {
-  fit = all_fit-push ns k sound.fit fits wide;
-  calm = list_all-push (λ n. not (is_call n.kind)) ns (node_of ns k) sound.calm (ap not calm);
-  small = omega (arith, small, length-append ns (node_of ns k ∷ []));
+pub sound-push : (os : List ObjectInfo) (pr : ℕ) (ns : Nodes) (k : ExprKind) → AreSound os pr ns
+    → fits_kind os pr (length ns) k ≡ true → is_width (kind_width ns os k) ≡ true → length ns < MOST_EXPRS
+    → AreSound os pr (ns ++ made os ns k ∷ [])
+sound-push os pr ns k sound fits wide small = record {
+  fit = all_fit-push os pr ns k sound.fit fits wide;
+  small = omega (arith, small, length-append ns (made os ns k ∷ []));
 }
 
 -- Numbers that are below one are below a greater one.
@@ -210,18 +215,12 @@ links_before {Op} pick e (o ∷ os) (p ∷ es) h =
     by None rest = rest
     by (Some op) rest = both_true (and_left (nat_lt p e) (all_before e es) h) rest
 
-pub chain_fits : (o : Operator) (os : List Operator) (first : ℕ) (rest : List ℕ) (e : ℕ) → first < e → all_before e rest ≡ true
-    → fits_kind [] 0 e (chain_kind o os first rest) ≡ true
-chain_fits (operator.Arithmetic op) os first rest e lt h = both_true (below_so first e lt) (links_before as_arithmetic e os rest h)
-chain_fits (operator.Shift op) os first rest e lt h = both_true (below_so first e lt) (links_before as_shift e os rest h)
-chain_fits (operator.Comparison op) os first rest e lt h = both_true (below_so first e lt) (links_before as_comparison e os rest h)
-chain_fits (operator.Logic op) os first rest e lt h = both_true (below_so first e lt) (links_before as_logic e os rest h)
-
-pub chain_calm : (o : Operator) (os : List Operator) (first : ℕ) (rest : List ℕ) → is_call (chain_kind o os first rest) ≡ false
-chain_calm (operator.Arithmetic op) os first rest = refl
-chain_calm (operator.Shift op) os first rest = refl
-chain_calm (operator.Comparison op) os first rest = refl
-chain_calm (operator.Logic op) os first rest = refl
+pub chain_fits : (ob : List ObjectInfo) (pr : ℕ) (o : Operator) (os : List Operator) (first : ℕ) (rest : List ℕ) (e : ℕ) → first < e → all_before e rest ≡ true
+    → fits_kind ob pr e (chain_kind o os first rest) ≡ true
+chain_fits ob pr (operator.Arithmetic op) os first rest e lt h = both_true (below_so first e lt) (links_before as_arithmetic e os rest h)
+chain_fits ob pr (operator.Shift op) os first rest e lt h = both_true (below_so first e lt) (links_before as_shift e os rest h)
+chain_fits ob pr (operator.Comparison op) os first rest e lt h = both_true (below_so first e lt) (links_before as_comparison e os rest h)
+chain_fits ob pr (operator.Logic op) os first rest e lt h = both_true (below_so first e lt) (links_before as_logic e os rest h)
 
 -- A chain has as many links as it has operators with operands behind them.
 pub links-no_operator : {Op : Type 0} (pick : Operator → Option Op) (os : List Operator) (es : List ℕ) → length os ≡ 0

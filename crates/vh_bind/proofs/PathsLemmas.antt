@@ -14,7 +14,8 @@ use Rattle.vh_ast.specs.Views.{expr_tree, name_tree, index_by, step_by}
 use Rattle.vh_bind.specs.Steps.{Fault}
 use Rattle.vh_bind.specs.Scopes.{Scope}
 use Rattle.vh_bind.specs.Selects.{Outcome, with_ok}
-use Rattle.vh_bind.specs.Paths.{part_meant, steps_meant, path_meant, alone_meant, name_meant}
+use Rattle.vh_bind.specs.Paths.{alone_meant}
+use Rattle.vh_bind.specs.Constants.{part_meant, steps_meant, path_meant, name_meant}
 
 -- The parts of a path behind the first, as they are seen.
 abbrev pub steps_seen : List (NameStep Expr) → Steps

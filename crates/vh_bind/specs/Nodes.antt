@@ -1,6 +1,6 @@
 -- Nodes of each kind of expression. (IEEE 1364-2005, 5.1, 5.4 and 5.5)
-use Rattle.std.specs.Prelude.{◌≡◌, ℕ, ◌≤◌, List, [], ◌∷◌, ◌++◌, length, true, false, not, if◌then◌else◌, nat_le, nat_lt, Option, Some, None, Ok, Err}
-use Rattle.std.specs.List.{fold, list_all}
+use Rattle.std.specs.Prelude.{ℕ, ◌≤◌, List, [], ◌∷◌, ◌++◌, length, true, false, not, if◌then◌else◌, nat_le, nat_lt, Option, Some, None, Ok, Err}
+use Rattle.std.specs.List.{fold}
 use Rattle.vh_logic.specs.declared.vector.TheConstants.{MAX_WIDTH}
 use Rattle.vh_base.specs.declared.faults.DesignFault.TheVariants.{N3, N11}
 use Rattle.vh_base.specs.declared.place.Place.{Place}
@@ -22,10 +22,10 @@ use Rattle.vh_nodes.specs.declared.expr.Link.{Link}
 use Rattle.vh_nodes.specs.declared.expr.ExprKind.{ExprKind}
 use Rattle.vh_nodes.specs.declared.expr.ExprKind.TheVariants as kind
 use Rattle.vh_nodes.specs.declared.expr.ExprNode.{ExprNode}
+use Rattle.vh_nodes.specs.declared.object.ObjectInfo.{ObjectInfo}
 use Rattle.vh_nodes.specs.Widths.{kind_width, kind_signed}
 use Rattle.vh_nodes.specs.Fits.{is_width, fits_node}
 use Rattle.vh_design.specs.Validity.{AllFit}
-use Rattle.vh_store.specs.Opening.{is_call}
 use Rattle.vh_ast.specs.declared.operator.Unary.{Unary as Sign}
 use Rattle.vh_ast.specs.declared.operator.Unary.TheVariants as sign
 use Rattle.vh_ast.specs.declared.operator.Binary.{Binary}
@@ -33,24 +33,33 @@ use Rattle.vh_ast.specs.declared.operator.Binary.TheVariants as by
 use Rattle.vh_bind.specs.declared.operators.Operator.{Operator}
 use Rattle.vh_bind.specs.declared.operators.Operator.TheVariants as operator
 use Rattle.vh_bind.specs.declared.nodes.TheConstants.{MOST_EXPRS}
-use Rattle.vh_bind.specs.Steps.{Nodes, Step}
+use Rattle.vh_bind.specs.declared.scope.Mode.{Mode}
+use Rattle.vh_bind.specs.Steps.{Nodes, Step, refused}
+use Rattle.vh_bind.specs.Scopes.{Scope, objects_of, precision_of}
 
--- A node with the width and the sign that its parts give. (5.4.1 and 5.5.1)
-abbrev pub node_of : Nodes → ExprKind → ExprNode
-node_of ns k = record { kind = k; width = kind_width ns [] k; signed = kind_signed ns [] k }
+-- A node with the width and the sign that its parts and what it reads give. (5.4.1 and 5.5.1)
+abbrev pub node_of : Mode → Scope → Nodes → ExprKind → ExprNode
+node_of m s ns k = record {
+  kind = k;
+  width = kind_width ns (objects_of m s) k;
+  signed = kind_signed ns (objects_of m s) k;
+}
 
 -- One node more, under the next number: its width is from 1 to 64. (5.4.1)
-abbrev pub pushed : Place → ExprKind → Step (Option ℕ)
-pushed place k = λ ns.
-    if not (is_width (kind_width ns [] k)) then Err (N3, place)
-    else (if nat_lt (length ns) MOST_EXPRS then Ok (Some (length ns), ns ++ node_of ns k ∷ [])
+abbrev pub pushed : Mode → Scope → Place → ExprKind → Step (Option ℕ)
+pushed m s place k = λ ns.
+    if not (is_width (kind_width ns (objects_of m s) k)) then Err (N3, place)
+    else (if nat_lt (length ns) MOST_EXPRS then Ok (Some (length ns), ns ++ node_of m s ns k ∷ [])
     else Err (N11, place))
 
--- Nodes that read no object, and of which each has its parts before it.
-pub record IsSound (ns : Nodes) : Type 0 where
-  pub fit : AllFit (fits_node ns [] 0) ns
-  pub calm : list_all (λ n. not (is_call n.kind)) ns ≡ true
+-- Nodes of which each has its parts before it, and reads of these objects what it may.
+pub record AreSound (os : List ObjectInfo) (precision : ℕ) (ns : Nodes) : Type 0 where
+  pub fit : AllFit (fits_node ns os precision) ns
   pub small : length ns ≤ MOST_EXPRS
+
+-- The same of the objects that an expression may read there.
+abbrev pub IsSound : Mode → Scope → Nodes → Type 0
+IsSound m s ns = AreSound (objects_of m s) (precision_of m s) ns
 
 -- A unary operator. (Table 5-1)
 abbrev pub unary_of : Sign → Unary
@@ -135,19 +144,19 @@ chain_kind (operator.Shift op) os first rest = kind.Shift first (links_by as_shi
 chain_kind (operator.Comparison op) os first rest = kind.Comparison first (links_by as_comparison os rest)
 chain_kind (operator.Logic op) os first rest = kind.Logic first (links_by as_logic os rest)
 
-abbrev pub chained : Place → List Operator → ℕ → List ℕ → Step (Option ℕ)
-chained place [] first rest = λ ns. Ok (Some first, ns)
-chained place (o ∷ os) first rest = pushed place (chain_kind o (o ∷ os) first rest)
+abbrev pub chained : Mode → Scope → Place → List Operator → ℕ → List ℕ → Step (Option ℕ)
+chained m s place [] first rest = λ ns. Ok (Some first, ns)
+chained m s place (o ∷ os) first rest = pushed m s place (chain_kind o (o ∷ os) first rest)
 
 -- A concatenation: one of nothing has no width. (5.1.14)
-abbrev pub joined : Place → List ℕ → Step (Option ℕ)
-joined place [] = λ ns. Err (N3, place)
-joined place (e ∷ es) = pushed place (kind.Join e es)
+abbrev pub joined : Mode → Scope → Place → List ℕ → Step (Option ℕ)
+joined m s place [] = refused N3 place
+joined m s place (e ∷ es) = pushed m s place (kind.Join e es)
 
 -- So many times a concatenation. (5.1.14)
-abbrev pub repeated : Place → ℕ → ℕ → Step (Option ℕ)
-repeated place count e =
-    if nat_le count MAX_WIDTH then pushed place (kind.Repeat count e) else (λ ns. Err (N3, place))
+abbrev pub repeated : Mode → Scope → Place → ℕ → ℕ → Step (Option ℕ)
+repeated m s place count e =
+    if nat_le count MAX_WIDTH then pushed m s place (kind.Repeat count e) else refused N3 place
 
 -- A string as a number: 8 digits a byte, the last byte lowest; an empty one has 8 digits. (3.6 and 4.2.3)
 abbrev pub byte_value : ℕ → Vector
@@ -160,6 +169,6 @@ abbrev pub text_value : List ℕ → Vector
 text_value [] = filled 8 Zero false
 text_value (b ∷ bs) = fold with_byte (byte_value b) bs
 
-abbrev pub text_pushed : Place → List ℕ → Step (Option ℕ)
-text_pushed place bytes =
-    if nat_le (length bytes) 8 then pushed place (kind.Literal (text_value bytes)) else (λ ns. Err (N3, place))
+abbrev pub text_pushed : Mode → Scope → Place → List ℕ → Step (Option ℕ)
+text_pushed m s place bytes =
+    if nat_le (length bytes) 8 then pushed m s place (kind.Literal (text_value bytes)) else refused N3 place

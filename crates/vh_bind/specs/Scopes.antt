@@ -1,4 +1,4 @@
--- What a name stands for where a constant is needed. (IEEE 1364-2005, 4.10 and 12.4)
+-- Where expressions stand, and what a name stands for where a constant is needed. (IEEE 1364-2005, 4.10 and 12.4)
 use Rattle.std.specs.Prelude.{ℕ, List, [], ◌∷◌, if◌then◌else◌, ◌&&◌, ◌==◌, bytes_eq, Option, Some, None, slice_get}
 use Rattle.vh_base.specs.declared.faults.DesignFault.TheVariants.{N1, N4}
 use Rattle.vh_logic.specs.Vector.{Vector}
@@ -17,9 +17,14 @@ use Rattle.vh_scope.specs.LookUp.{found}
 use Rattle.vh_bind.specs.declared.named.Named.{Named}
 use Rattle.vh_bind.specs.declared.named.Named.TheVariants as it
 use Rattle.vh_bind.specs.declared.scope.Genvar.{Genvar}
+use Rattle.vh_bind.specs.declared.scope.Mode.{Mode}
+use Rattle.vh_bind.specs.declared.scope.Mode.TheVariants as mode
+use Rattle.vh_bind.specs.declared.scope.Routine.{Routine}
+use Rattle.vh_bind.specs.Steps.{Nodes}
 
--- Where a constant or a name stands: what is declared; the scopes around it, from the inside out; the top, and
--- its name; the genvars that have a value; and the objects and expressions of the design so far.
+-- Where an expression stands: what is declared; the scopes around it, from the inside out; the top, and its name;
+-- the genvars that have a value; the objects and expressions of the design so far; what is known of its tasks and
+-- functions, by the numbers of their bodies; the time unit of the module, and the precision.
 pub record Scope : Type 0 where
   pub names : Names
   pub around : List ℕ
@@ -28,6 +33,22 @@ pub record Scope : Type 0 where
   pub genvars : List Genvar
   pub objects : List ObjectInfo
   pub exprs : List ExprNode
+  pub routines : List Routine
+  pub unit : ℕ
+  pub precision : ℕ
+
+-- The objects that an expression may read: a constant reads none. (4.10)
+abbrev pub objects_of : Mode → Scope → List ObjectInfo
+objects_of mode.Constant s = []
+objects_of mode.Value s = s.objects
+
+abbrev pub precision_of : Mode → Scope → ℕ
+precision_of mode.Constant s = 0
+precision_of mode.Value s = s.precision
+
+-- Where a value stands, parameters have their values in the expressions so far.
+abbrev pub here : Scope → Nodes → Scope
+here s ns = record s { exprs = ns }
 
 -- The value of a genvar, where it has one. (12.4.1)
 abbrev pub genvar_value : List Genvar → ℕ → List ℕ → Option Vector

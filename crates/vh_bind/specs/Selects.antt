@@ -6,6 +6,8 @@ use Rattle.vh_logic.specs.declared.vector.TheConstants.{MAX_WIDTH}
 use Rattle.vh_logic.specs.Vector.{Vector}
 use Rattle.vh_logic.specs.Number.{integer_of}
 use Rattle.vh_nodes.specs.declared.expr.Range.{Range}
+use Rattle.vh_nodes.specs.declared.expr.Select.{Select}
+use Rattle.vh_nodes.specs.declared.expr.Select.TheVariants as select
 use Rattle.vh_eval.specs.Selects.{digits_from, place_of, selected}
 use Rattle.vh_bind.specs.Steps.{Fault}
 
@@ -73,3 +75,15 @@ abbrev pub part_of : Place → Option Bounded → Option Vector → Option Vecto
 part_of place v left right =
     with_ok (number_in place 0 most_bound left) (λ l. with_ok (number_in place 0 most_bound right) (λ r.
     with_some v (λ b. with_some l (λ from. with_some r (λ to. slice_of place b from to)))))
+
+-- The same of an object's digits: which of them. (5.2.1)
+abbrev pub slice_select : Place → Range → ℕ → ℕ → Outcome (Option Select)
+slice_select place r left right =
+    if goes_with r left right && nat_le (span left right) MAX_WIDTH then
+    Ok (Some (select.Slice r right (span left right)))
+    else Err (N3, place)
+
+abbrev pub part_select : Place → Range → Option Vector → Option Vector → Outcome (Option Select)
+part_select place r left right =
+    with_ok (number_in place 0 most_bound left) (λ l. with_ok (number_in place 0 most_bound right) (λ t.
+    with_some l (λ from. with_some t (λ to. slice_select place r from to))))

@@ -37,6 +37,10 @@ abbrev pub lifted : {A : Type 0} → Result A Fault → Step A
 lifted (Ok a) = pure a
 lifted (Err fault) = λ ns. Err fault
 
+-- What only looks at the expressions so far.
+abbrev pub looking : {A : Type 0} → (Nodes → Result A Fault) → Step A
+looking f = λ ns. lifted (f ns) ns
+
 -- What needs something that is passed over is passed over too.
 abbrev pub needing : {A B : Type 0} → Option A → (A → Step (Option B)) → Step (Option B)
 needing None f = pure None

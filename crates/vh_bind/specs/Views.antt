@@ -9,7 +9,7 @@ use Rattle.std.specs.Option.{option_map}
 use Rattle.vh_bind.specs.declared.scope.Scope as code
 use Rattle.vh_bind.specs.Scopes.{Scope}
 
--- Where a constant stands.
+-- Where an expression stands.
 abbrev pub scope_seen : code.Scope → Scope
 scope_seen s = record {
   names = s.names.now;
@@ -19,6 +19,9 @@ scope_seen s = record {
   genvars = s.genvars.now;
   objects = s.objects.now;
   exprs = s.exprs.now;
+  routines = s.routines.now;
+  unit = s.unit;
+  precision = s.precision;
 }
 
 -- Numbers of expressions, where none is passed over.

@@ -6,20 +6,24 @@ ghost use Rattle.vh_ast.specs.Expressions.{exprs};
 ghost use Rattle.vh_ast.specs.Views.{expr_tree, link_tree, name_tree, sel_tree};
 ghost use Rattle.vh_bind.specs.Steps.{Steps, Gives};
 ghost use Rattle.vh_bind.specs.Nodes.{IsSound};
-ghost use Rattle.vh_bind.specs.Constants.{bound, marked_pushed, unary_pushed, chain_pushed, concat_pushed, times_pushed, choice_pushed, entry, entries_bound, links_bound, operators, is_unsized, with_number, name_value, sel_value, mark_of, system_row, sole_bound, literal, constant};
+ghost use Rattle.vh_bind.specs.Constants.{bound, entry, entries_bound, links_bound, name_value, sel_value, mark_of, system_row, sole_bound, constant};
+ghost use Rattle.vh_bind.specs.declared.scope.Mode.TheVariants as mode;
 ghost use Rattle.vh_bind.specs.Views.{scope_seen, numbers_of};
 
 use crate::fault::ElabFault;
 use crate::named::{Named, look_up};
-use crate::nodes::{push, push_chain, push_join, push_repeat, push_text};
-use crate::operators::{Operator, operator_of, unary_of};
-use crate::scope::Scope;
+use crate::nodes::{push, push_text};
+use crate::parts::{
+    chain_operators, is_unsized, mark_of, push_choice, push_concat, push_links, push_literal,
+    push_marked, push_times, push_unary, sequence, with_number,
+};
+use crate::scope::{Mode, Scope};
 use crate::selects::{Bounded, bit_of, indexed_of, number_in, part_of};
 use crate::value::value_at;
 use sqlite_items::Items;
 use std::alloc::Global;
-use vh_ast::{Expr, ExprForm, Id, Link, Name, Part, Primary, Sel, Unary};
-use vh_base::{DesignFault, ExprId, NoMemory, Place, Sequence};
+use vh_ast::{Expr, ExprForm, Id, Link, Name, Part, Primary, Sel};
+use vh_base::{DesignFault, ExprId, Place};
 use vh_logic::Vec4;
 use vh_nodes::{ExprIds, ExprKind, ExprNode};
 
@@ -50,71 +54,74 @@ fn bind(
     nodes: &mut Vec<ExprNode>,
     e: &Expr,
 ) -> Result<Option<ExprId>, ElabFault>
-    requires sound { IsSound nodes.old.items }
-    ensures step { Steps (bound (scope_seen scope.now) (expr_tree e.now) nodes.old.items) result nodes.new.items }
-    ensures sound { OnOk result (IsSound nodes.new.items) }
+    requires sound { IsSound mode.Constant (scope_seen scope.now) nodes.old.items }
+    ensures step { Steps (bound mode.Constant (scope_seen scope.now) (expr_tree e.now) nodes.old.items) result nodes.new.items }
+    ensures sound { OnOk result (IsSound mode.Constant (scope_seen scope.now) nodes.new.items) }
     ensures below { IfOk result (λ o. IfSome o (λ n. n < length nodes.new.items)) }
     ensures grows { OnOk result (length nodes.old.items ≤ length nodes.new.items) }
 {
     let place = e.place;
     match &e.form {
         ExprForm::Primary(primary) => match primary {
-            Primary::Number(n) => push(nodes, place, ExprKind::Literal(n.value)),
-            Primary::Text(bytes) => push_text(nodes, place, bytes.as_slice()),
+            Primary::Number(n) => push(
+                scope,
+                Mode::Constant,
+                nodes,
+                place,
+                ExprKind::Literal(n.value),
+            ),
+            Primary::Text(bytes) => push_text(
+                scope,
+                Mode::Constant,
+                nodes,
+                place,
+                bytes.as_slice(),
+            ),
             Primary::Name(name, sel) => {
                 let value = name_value(scope, name)?;
                 let value = sel_value(alloc, scope, place, value, sel)?;
-                push_literal(nodes, place, value)
+                push_literal(scope, Mode::Constant, nodes, place, value)
             }
             Primary::Call(_, _) => Err(ElabFault::Refused(DesignFault::N4, place)),
             Primary::System(id, arguments) => { bind_system(alloc, scope, nodes, id, arguments) }
             Primary::Paren(inner) => bind(alloc, scope, nodes, inner.get()),
             Primary::Concat(parts) => {
                 let parts = bind_entries(alloc, scope, nodes, parts)?;
-                push_concat(alloc, nodes, place, parts)
+                push_concat(alloc, scope, Mode::Constant, nodes, place, parts)
             }
             Primary::Repeat(count, parts) => {
                 let count = constant_in(alloc, scope, count.get())?;
                 let count = number_in(place, 1, u64::MAX, count)?;
                 let parts = bind_entries(alloc, scope, nodes, parts)?;
-                let joined = push_concat(alloc, nodes, place, parts)?;
-                push_times(nodes, place, count, joined)
+                let joined = push_concat(alloc, scope, Mode::Constant, nodes, place, parts)?;
+                push_times(scope, Mode::Constant, nodes, place, count, joined)
             }
         },
         ExprForm::Unary(sign, operand) => {
             let part = bind(alloc, scope, nodes, operand.get())?;
-            push_unary(nodes, place, *sign, part)
+            push_unary(scope, Mode::Constant, nodes, place, *sign, part)
         }
         ExprForm::Chain(first, links) => {
             let first = bind(alloc, scope, nodes, first.get())?;
             let rest = bind_links(alloc, scope, nodes, links)?;
-            let operators = operators(alloc, links.as_slice())?;
-            push_links(alloc, nodes, place, &operators, first, rest)
+            let operators = chain_operators(alloc, links.as_slice())?;
+            push_links(
+                alloc,
+                scope,
+                Mode::Constant,
+                nodes,
+                place,
+                &operators,
+                first,
+                rest,
+            )
         }
         ExprForm::Choice { test, holds, fails } => {
             let condition = bind(alloc, scope, nodes, test.get())?;
             let yes = bind(alloc, scope, nodes, holds.get())?;
             let no = bind(alloc, scope, nodes, fails.get())?;
-            push_choice(nodes, place, condition, yes, no)
+            push_choice(scope, Mode::Constant, nodes, place, condition, yes, no)
         }
-    }
-}
-
-// What is written of a value, where there is one.
-fn push_literal(
-    nodes: &mut Vec<ExprNode>,
-    place: Place,
-    value: Option<Vec4>,
-) -> Result<Option<ExprId>, ElabFault>
-    requires sound { IsSound nodes.old.items }
-    ensures step { Steps (literal place value nodes.old.items) result nodes.new.items }
-    ensures sound { OnOk result (IsSound nodes.new.items) }
-    ensures below { IfOk result (λ o. IfSome o (λ n. n < length nodes.new.items)) }
-    ensures grows { OnOk result (length nodes.old.items ≤ length nodes.new.items) }
-{
-    match value {
-        None => Ok(None),
-        Some(v) => push(nodes, place, ExprKind::Literal(v)),
     }
 }
 
@@ -133,9 +140,10 @@ fn name_value(scope: &Scope, name: &Name<Expr>) -> Result<Option<Bounded>, ElabF
     }
 }
 
-// What a select names of a value.
+/// What a constant select names of a value that has a name (IEEE 1364-2005, 5.2.1): a second bracket
+/// stands at a memory alone. None where a value that it needs has none; the place is that of the name.
 #[cycle(bind)]
-fn sel_value(
+pub fn sel_value(
     alloc: Global,
     scope: &Scope,
     place: Place,
@@ -187,19 +195,6 @@ fn constant_in(alloc: Global, scope: &Scope, e: &Expr) -> Result<Option<Vec4>, E
     }
 }
 
-// How `$signed` or `$unsigned` marks its argument.
-fn mark_of(name: &[u8]) -> Option<bool>
-    ensures { result ≡ mark_of name.now }
-{
-    if name == b"$signed".as_slice() {
-        return Some(true);
-    }
-    if name == b"$unsigned".as_slice() {
-        return Some(false);
-    }
-    None
-}
-
 // A system call: `$signed` and `$unsigned` of one argument are constants.
 #[cycle(bind)]
 fn bind_system(
@@ -209,11 +204,11 @@ fn bind_system(
     id: &Id,
     arguments: &Items<Expr>,
 ) -> Result<Option<ExprId>, ElabFault>
-    requires sound { IsSound nodes.old.items }
+    requires sound { IsSound mode.Constant (scope_seen scope.now) nodes.old.items }
     ensures step { Steps
-        (system_row id.now.place (mark_of id.now.name)
-        (sole_bound (scope_seen scope.now) (exprs (map expr_tree arguments.now))) nodes.old.items) result nodes.new.items }
-    ensures sound { OnOk result (IsSound nodes.new.items) }
+        (system_row mode.Constant (scope_seen scope.now) id.now (exprs (map expr_tree arguments.now)) (mark_of id.now.name)
+        (sole_bound mode.Constant (scope_seen scope.now) (exprs (map expr_tree arguments.now))) nodes.old.items) result nodes.new.items }
+    ensures sound { OnOk result (IsSound mode.Constant (scope_seen scope.now) nodes.new.items) }
     ensures below { IfOk result (λ o. IfSome o (λ n. n < length nodes.new.items)) }
     ensures grows { OnOk result (length nodes.old.items ≤ length nodes.new.items) }
 {
@@ -225,17 +220,7 @@ fn bind_system(
         return Err(ElabFault::Refused(DesignFault::N10, id.place));
     }
     let part = bind(alloc, scope, nodes, &arguments[0])?;
-    push_marked(nodes, id.place, signed, part)
-}
-
-// Whether an expression is a number without a size.
-fn is_unsized(e: &Expr) -> bool
-    ensures { result ≡ is_unsized (expr_tree e.now) }
-{
-    match &e.form {
-        ExprForm::Primary(Primary::Number(n)) => !n.sized,
-        _ => false,
-    }
+    push_marked(scope, Mode::Constant, nodes, id.place, signed, part)
 }
 
 // An entry of a concatenation.
@@ -246,11 +231,11 @@ fn bind_entry(
     nodes: &mut Vec<ExprNode>,
     e: &Expr,
 ) -> Result<Option<ExprId>, ElabFault>
-    requires sound { IsSound nodes.old.items }
+    requires sound { IsSound mode.Constant (scope_seen scope.now) nodes.old.items }
     ensures step { Steps
-        (entry (expr_tree e.now) (bound (scope_seen scope.now) (expr_tree e.now)) nodes.old.items)
+        (entry (expr_tree e.now) (bound mode.Constant (scope_seen scope.now) (expr_tree e.now)) nodes.old.items)
         result nodes.new.items }
-    ensures sound { OnOk result (IsSound nodes.new.items) }
+    ensures sound { OnOk result (IsSound mode.Constant (scope_seen scope.now) nodes.new.items) }
     ensures below { IfOk result (λ o. IfSome o (λ n. n < length nodes.new.items)) }
     ensures grows { OnOk result (length nodes.old.items ≤ length nodes.new.items) }
 {
@@ -258,23 +243,6 @@ fn bind_entry(
         return Err(ElabFault::Refused(DesignFault::N3, e.place));
     }
     bind(alloc, scope, nodes, e)
-}
-
-// One number more, where none is passed over.
-fn with_number(
-    numbers: Option<Vec<ExprId>>,
-    number: Option<ExprId>,
-) -> Result<Option<Vec<ExprId>>, NoMemory>
-    ensures { IfOk result (λ ns. numbers_of ns ≡ with_number (numbers_of numbers) number) }
-{
-    let Some(mut numbers) = numbers else {
-        return Ok(None);
-    };
-    let Some(number) = number else {
-        return Ok(None);
-    };
-    numbers.push(number)?;
-    Ok(Some(numbers))
 }
 
 // The entries of a concatenation, from the left.
@@ -285,11 +253,11 @@ fn bind_entries(
     nodes: &mut Vec<ExprNode>,
     parts: &Items<Expr>,
 ) -> Result<Option<ExprIds>, ElabFault>
-    requires sound { IsSound nodes.old.items }
+    requires sound { IsSound mode.Constant (scope_seen scope.now) nodes.old.items }
     ensures step { Steps
-        (entries_bound (scope_seen scope.now) (Some []) (exprs (map expr_tree parts.now)) nodes.old.items)
+        (entries_bound mode.Constant (scope_seen scope.now) (Some []) (exprs (map expr_tree parts.now)) nodes.old.items)
         result nodes.new.items }
-    ensures sound { OnOk result (IsSound nodes.new.items) }
+    ensures sound { OnOk result (IsSound mode.Constant (scope_seen scope.now) nodes.new.items) }
     ensures below { IfOk result (λ o. IfSome o (λ ns. all_before (length nodes.new.items) ns ≡ true)) }
     ensures grows { OnOk result (length nodes.old.items ≤ length nodes.new.items) }
 {
@@ -301,27 +269,6 @@ fn bind_entries(
     Ok(sequence(numbers))
 }
 
-// The numbers as a sequence.
-fn sequence(numbers: Option<Vec<ExprId>>) -> Option<ExprIds>
-    ensures { result ≡ numbers_of numbers }
-{
-    match numbers {
-        None => None,
-        Some(numbers) => Some(Sequence::new(numbers)),
-    }
-}
-
-// The operators of a chain.
-fn operators(alloc: Global, links: &[Link<Expr>]) -> Result<Vec<Operator>, NoMemory>
-    ensures { IfOk result (λ os. os.items ≡ operators (Expressions.links (map link_tree links.now))) }
-{
-    let mut operators = Vec::new(alloc);
-    for link in links {
-        operators.push(operator_of(link.operator))?;
-    }
-    Ok(operators)
-}
-
 // The operands of a chain behind the first, from the left.
 #[cycle(bind)]
 fn bind_links(
@@ -330,11 +277,11 @@ fn bind_links(
     nodes: &mut Vec<ExprNode>,
     links: &Items<Link<Expr>>,
 ) -> Result<Option<ExprIds>, ElabFault>
-    requires sound { IsSound nodes.old.items }
+    requires sound { IsSound mode.Constant (scope_seen scope.now) nodes.old.items }
     ensures step { Steps
-        (links_bound (scope_seen scope.now) (Some []) (Expressions.links (map link_tree links.now)) nodes.old.items)
+        (links_bound mode.Constant (scope_seen scope.now) (Some []) (Expressions.links (map link_tree links.now)) nodes.old.items)
         result nodes.new.items }
-    ensures sound { OnOk result (IsSound nodes.new.items) }
+    ensures sound { OnOk result (IsSound mode.Constant (scope_seen scope.now) nodes.new.items) }
     ensures below { IfOk result (λ o. IfSome o (λ ns. all_before (length nodes.new.items) ns ≡ true)) }
     ensures grows { OnOk result (length nodes.old.items ≤ length nodes.new.items) }
 {
@@ -344,140 +291,4 @@ fn bind_links(
         numbers = with_number(numbers, number)?;
     }
     Ok(sequence(numbers))
-}
-
-// What is made of parts where none is passed over.
-fn push_marked(
-    nodes: &mut Vec<ExprNode>,
-    place: Place,
-    signed: bool,
-    part: Option<ExprId>,
-) -> Result<Option<ExprId>, ElabFault>
-    requires sound { IsSound nodes.old.items }
-    requires part { IfSome part (λ n. n < length nodes.old.items) }
-    ensures step { Steps (marked_pushed place signed part nodes.old.items) result nodes.new.items }
-    ensures sound { OnOk result (IsSound nodes.new.items) }
-    ensures below { IfOk result (λ o. IfSome o (λ n. n < length nodes.new.items)) }
-    ensures grows { OnOk result (length nodes.old.items ≤ length nodes.new.items) }
-{
-    match part {
-        None => Ok(None),
-        Some(part) => push(nodes, place, ExprKind::Marked { part, signed }),
-    }
-}
-
-fn push_unary(
-    nodes: &mut Vec<ExprNode>,
-    place: Place,
-    sign: Unary,
-    part: Option<ExprId>,
-) -> Result<Option<ExprId>, ElabFault>
-    requires sound { IsSound nodes.old.items }
-    requires part { IfSome part (λ n. n < length nodes.old.items) }
-    ensures step { Steps (unary_pushed place sign part nodes.old.items) result nodes.new.items }
-    ensures sound { OnOk result (IsSound nodes.new.items) }
-    ensures below { IfOk result (λ o. IfSome o (λ n. n < length nodes.new.items)) }
-    ensures grows { OnOk result (length nodes.old.items ≤ length nodes.new.items) }
-{
-    match part {
-        None => Ok(None),
-        Some(part) => {
-            let op = unary_of(sign);
-            push(nodes, place, ExprKind::Unary { op, part })
-        }
-    }
-}
-
-fn push_links(
-    alloc: Global,
-    nodes: &mut Vec<ExprNode>,
-    place: Place,
-    operators: &[Operator],
-    first: Option<ExprId>,
-    rest: Option<ExprIds>,
-) -> Result<Option<ExprId>, ElabFault>
-    requires sound { IsSound nodes.old.items }
-    requires first { IfSome first (λ n. n < length nodes.old.items) }
-    requires rest { IfSome rest (λ ns. all_before (length nodes.old.items) ns ≡ true) }
-    ensures step { Steps (chain_pushed place operators.now first rest nodes.old.items) result nodes.new.items }
-    ensures sound { OnOk result (IsSound nodes.new.items) }
-    ensures below { IfOk result (λ o. IfSome o (λ n. n < length nodes.new.items)) }
-    ensures grows { OnOk result (length nodes.old.items ≤ length nodes.new.items) }
-{
-    let Some(first) = first else {
-        return Ok(None);
-    };
-    let Some(rest) = rest else {
-        return Ok(None);
-    };
-    push_chain(alloc, nodes, place, operators, first, rest.as_slice())
-}
-
-fn push_concat(
-    alloc: Global,
-    nodes: &mut Vec<ExprNode>,
-    place: Place,
-    parts: Option<ExprIds>,
-) -> Result<Option<ExprId>, ElabFault>
-    requires sound { IsSound nodes.old.items }
-    requires parts { IfSome parts (λ ns. all_before (length nodes.old.items) ns ≡ true) }
-    ensures step { Steps (concat_pushed place parts nodes.old.items) result nodes.new.items }
-    ensures sound { OnOk result (IsSound nodes.new.items) }
-    ensures below { IfOk result (λ o. IfSome o (λ n. n < length nodes.new.items)) }
-    ensures grows { OnOk result (length nodes.old.items ≤ length nodes.new.items) }
-{
-    match parts {
-        None => Ok(None),
-        Some(parts) => push_join(alloc, nodes, place, parts.as_slice()),
-    }
-}
-
-fn push_times(
-    nodes: &mut Vec<ExprNode>,
-    place: Place,
-    count: Option<u64>,
-    part: Option<ExprId>,
-) -> Result<Option<ExprId>, ElabFault>
-    requires sound { IsSound nodes.old.items }
-    requires part { IfSome part (λ n. n < length nodes.old.items) }
-    ensures step { Steps (times_pushed place count part nodes.old.items) result nodes.new.items }
-    ensures sound { OnOk result (IsSound nodes.new.items) }
-    ensures below { IfOk result (λ o. IfSome o (λ n. n < length nodes.new.items)) }
-    ensures grows { OnOk result (length nodes.old.items ≤ length nodes.new.items) }
-{
-    let Some(count) = count else {
-        return Ok(None);
-    };
-    let Some(part) = part else {
-        return Ok(None);
-    };
-    push_repeat(nodes, place, count, part)
-}
-
-fn push_choice(
-    nodes: &mut Vec<ExprNode>,
-    place: Place,
-    condition: Option<ExprId>,
-    yes: Option<ExprId>,
-    no: Option<ExprId>,
-) -> Result<Option<ExprId>, ElabFault>
-    requires sound { IsSound nodes.old.items }
-    requires condition { IfSome condition (λ n. n < length nodes.old.items) }
-    requires yes { IfSome yes (λ n. n < length nodes.old.items) }
-    requires no { IfSome no (λ n. n < length nodes.old.items) }
-    ensures step { Steps (choice_pushed place condition yes no nodes.old.items) result nodes.new.items }
-    ensures sound { OnOk result (IsSound nodes.new.items) }
-    ensures below { IfOk result (λ o. IfSome o (λ n. n < length nodes.new.items)) }
-    ensures grows { OnOk result (length nodes.old.items ≤ length nodes.new.items) }
-{
-    let Some(condition) = condition else {
-        return Ok(None);
-    };
-    let Some(yes) = yes else {
-        return Ok(None);
-    };
-    let Some(no) = no else {
-        return Ok(None);
-    };
-    push(nodes, place, ExprKind::Choice { condition, yes, no })
 }

@@ -15,15 +15,24 @@ mod fault;
 mod named;
 mod nodes;
 mod operators;
+mod parts;
 mod paths;
+mod readable;
 mod scope;
 mod selects;
 #[cfg(test)]
 mod tests;
 mod value;
 
-pub use binding::constant;
+pub use binding::{constant, sel_value};
 pub use fault::ElabFault;
-pub use nodes::MOST_EXPRS;
+pub use nodes::{MOST_EXPRS, push, push_text};
+pub use operators::Operator;
+pub use parts::{
+    chain_operators, is_unsized, mark_of, push_choice, push_concat, push_links, push_literal,
+    push_marked, push_times, push_unary, sequence, with_number,
+};
 pub use paths::meaning;
-pub use scope::{Genvar, Scope};
+pub use readable::{Function, Readable, alone_read, path_read};
+pub use scope::{Genvar, Mode, Routine, Scope};
+pub use selects::{Bounded, number_in, part_select};

@@ -20,8 +20,8 @@ pub(crate) enum Named {
     Wrong(DesignFault),
 }
 
-// The value of a genvar, where it has one.
-fn genvar_value(genvars: &[Genvar], scope: ObjId, name: &[u8]) -> Option<Vec4>
+/// The value of a genvar, where it has one.
+pub(crate) fn genvar_value(genvars: &[Genvar], scope: ObjId, name: &[u8]) -> Option<Vec4>
     ensures { result ≡ genvar_value genvars.now scope name.now }
 {
     for genvar in genvars {
@@ -51,8 +51,8 @@ fn literal_at(exprs: &[ExprNode], e: ExprId) -> Option<Vec4>
     }
 }
 
-// The value of a parameter.
-fn constant_in(exprs: &[ExprNode], detail: &Detail) -> Option<Vec4>
+/// The value of a parameter.
+pub(crate) fn constant_in(exprs: &[ExprNode], detail: &Detail) -> Option<Vec4>
     ensures { result ≡ constant_in exprs.now detail.now }
 {
     match detail {

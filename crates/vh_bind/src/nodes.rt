@@ -1,35 +1,52 @@
 ghost use Rattle.std.specs.Prelude.{◌≡◌, ◌<◌, ◌≤◌, ◌++◌, ◌∷◌, [], true, false, length, IfOk, IfSome, OnOk};
 ghost use Rattle.vh_nodes.specs.Fits.{fits_kind, all_before};
-ghost use Rattle.vh_store.specs.Opening.{is_call};
 ghost use Rattle.vh_bind.specs.Steps.{Steps};
 ghost use Rattle.vh_bind.specs.Nodes.{pushed, chained, chain_kind, joined, repeated, byte_value, text_value, text_pushed, IsSound};
 ghost use Rattle.vh_logic.specs.Vector.{width_of};
+ghost use Rattle.vh_bind.specs.Scopes.{objects_of, precision_of};
+ghost use Rattle.vh_bind.specs.Views.{scope_seen};
 
 use crate::fault::ElabFault;
 use crate::operators::{Operator, links_of};
+use crate::scope::{Mode, Scope};
 use std::alloc::Global;
 use vh_base::{DesignFault, ExprId, NoMemory, Place, Sequence};
 use vh_logic::{Digit, MAX_WIDTH, Vec4, concat};
-use vh_nodes::{ExprKind, ExprNode, is_width, kind_signed, kind_width};
+use vh_nodes::{ExprKind, ExprNode, ObjectInfo, is_width, kind_signed, kind_width};
 
 /// The greatest number of expressions.
 pub const MOST_EXPRS: usize = 0x8000_0000;
 
+// The objects that an expression may read: a constant reads none.
+fn objects_of<'a>(scope: &Scope<'a, '_>, mode: Mode) -> &'a [ObjectInfo]
+    ensures { result.now ≡ objects_of mode (scope_seen scope.now) }
+{
+    match mode {
+        Mode::Constant => &[],
+        Mode::Value => scope.objects,
+    }
+}
+
 /// One node more, under the next number.
-pub(crate) fn push(
+pub fn push(
+    scope: &Scope,
+    mode: Mode,
     nodes: &mut Vec<ExprNode>,
     place: Place,
     kind: ExprKind,
 ) -> Result<Option<ExprId>, ElabFault>
-    requires sound { IsSound nodes.old.items }
-    requires fits { fits_kind [] 0 (length nodes.old.items) kind ≡ true }
-    requires calm { is_call kind ≡ false }
-    ensures step { Steps (pushed place kind nodes.old.items) result nodes.new.items }
-    ensures sound { OnOk result (IsSound nodes.new.items) }
+    requires sound { IsSound mode (scope_seen scope.now) nodes.old.items }
+    requires fits { fits_kind
+        (objects_of mode (scope_seen scope.now)) (precision_of mode (scope_seen scope.now))
+        (length nodes.old.items) kind ≡ true }
+    ensures step { Steps
+        (pushed mode (scope_seen scope.now) place kind nodes.old.items) result nodes.new.items }
+    ensures sound { OnOk result (IsSound mode (scope_seen scope.now) nodes.new.items) }
     ensures below { IfOk result (λ o. IfSome o (λ e. e < length nodes.new.items)) }
     ensures grows { OnOk result (length nodes.old.items ≤ length nodes.new.items) }
 {
-    let width = kind_width(nodes, &[], &kind);
+    let objects = objects_of(scope, mode);
+    let width = kind_width(nodes, objects, &kind);
     if !is_width(width) {
         return Err(ElabFault::Refused(DesignFault::N3, place));
     }
@@ -37,7 +54,7 @@ pub(crate) fn push(
     if number >= MOST_EXPRS {
         return Err(ElabFault::Refused(DesignFault::N11, place));
     }
-    let signed = kind_signed(nodes, &[], &kind);
+    let signed = kind_signed(nodes, objects, &kind);
     let node = ExprNode {
         kind,
         width,
@@ -86,19 +103,22 @@ fn chain_kind(
 }
 
 /// A chain of operators of one kind, with an operand before each and one behind the last.
-pub(crate) fn push_chain(
+pub fn push_chain(
     alloc: Global,
+    scope: &Scope,
+    mode: Mode,
     nodes: &mut Vec<ExprNode>,
     place: Place,
     operators: &[Operator],
     first: ExprId,
     rest: &[ExprId],
 ) -> Result<Option<ExprId>, ElabFault>
-    requires sound { IsSound nodes.old.items }
+    requires sound { IsSound mode (scope_seen scope.now) nodes.old.items }
     requires first { first < length nodes.old.items }
     requires rest { all_before (length nodes.old.items) rest.now ≡ true }
-    ensures step { Steps (chained place operators.now first rest.now nodes.old.items) result nodes.new.items }
-    ensures sound { OnOk result (IsSound nodes.new.items) }
+    ensures step { Steps
+        (chained mode (scope_seen scope.now) place operators.now first rest.now nodes.old.items) result nodes.new.items }
+    ensures sound { OnOk result (IsSound mode (scope_seen scope.now) nodes.new.items) }
     ensures below { IfOk result (λ o. IfSome o (λ e. e < length nodes.new.items)) }
     ensures grows { OnOk result (length nodes.old.items ≤ length nodes.new.items) }
 {
@@ -106,20 +126,23 @@ pub(crate) fn push_chain(
         return Ok(Some(first));
     };
     let kind = chain_kind(alloc, operators, *operator, first, rest)?;
-    push(nodes, place, kind)
+    push(scope, mode, nodes, place, kind)
 }
 
 /// A concatenation of these, the highest first.
-pub(crate) fn push_join(
+pub fn push_join(
     alloc: Global,
+    scope: &Scope,
+    mode: Mode,
     nodes: &mut Vec<ExprNode>,
     place: Place,
     parts: &[ExprId],
 ) -> Result<Option<ExprId>, ElabFault>
-    requires sound { IsSound nodes.old.items }
+    requires sound { IsSound mode (scope_seen scope.now) nodes.old.items }
     requires parts { all_before (length nodes.old.items) parts.now ≡ true }
-    ensures step { Steps (joined place parts.now nodes.old.items) result nodes.new.items }
-    ensures sound { OnOk result (IsSound nodes.new.items) }
+    ensures step { Steps
+        (joined mode (scope_seen scope.now) place parts.now nodes.old.items) result nodes.new.items }
+    ensures sound { OnOk result (IsSound mode (scope_seen scope.now) nodes.new.items) }
     ensures below { IfOk result (λ o. IfSome o (λ e. e < length nodes.new.items)) }
     ensures grows { OnOk result (length nodes.old.items ≤ length nodes.new.items) }
 {
@@ -128,6 +151,8 @@ pub(crate) fn push_join(
     };
     let rest = Sequence::from_slice(alloc, rest)?;
     push(
+        scope,
+        mode,
         nodes,
         place,
         ExprKind::Join {
@@ -138,16 +163,19 @@ pub(crate) fn push_join(
 }
 
 /// So many times an expression.
-pub(crate) fn push_repeat(
+pub fn push_repeat(
+    scope: &Scope,
+    mode: Mode,
     nodes: &mut Vec<ExprNode>,
     place: Place,
     count: u64,
     part: ExprId,
 ) -> Result<Option<ExprId>, ElabFault>
-    requires sound { IsSound nodes.old.items }
+    requires sound { IsSound mode (scope_seen scope.now) nodes.old.items }
     requires part { part < length nodes.old.items }
-    ensures step { Steps (repeated place count part nodes.old.items) result nodes.new.items }
-    ensures sound { OnOk result (IsSound nodes.new.items) }
+    ensures step { Steps
+        (repeated mode (scope_seen scope.now) place count part nodes.old.items) result nodes.new.items }
+    ensures sound { OnOk result (IsSound mode (scope_seen scope.now) nodes.new.items) }
     ensures below { IfOk result (λ o. IfSome o (λ e. e < length nodes.new.items)) }
     ensures grows { OnOk result (length nodes.old.items ≤ length nodes.new.items) }
 {
@@ -155,7 +183,7 @@ pub(crate) fn push_repeat(
         return Err(ElabFault::Refused(DesignFault::N3, place));
     }
     let count = count as u32;
-    push(nodes, place, ExprKind::Repeat { count, part })
+    push(scope, mode, nodes, place, ExprKind::Repeat { count, part })
 }
 
 // The 8 digits of a byte.
@@ -182,19 +210,28 @@ fn text_value(bytes: &[u8]) -> Vec4
 }
 
 /// A string as a number.
-pub(crate) fn push_text(
+pub fn push_text(
+    scope: &Scope,
+    mode: Mode,
     nodes: &mut Vec<ExprNode>,
     place: Place,
     bytes: &[u8],
 ) -> Result<Option<ExprId>, ElabFault>
-    requires sound { IsSound nodes.old.items }
-    ensures step { Steps (text_pushed place bytes.now nodes.old.items) result nodes.new.items }
-    ensures sound { OnOk result (IsSound nodes.new.items) }
+    requires sound { IsSound mode (scope_seen scope.now) nodes.old.items }
+    ensures step { Steps
+        (text_pushed mode (scope_seen scope.now) place bytes.now nodes.old.items) result nodes.new.items }
+    ensures sound { OnOk result (IsSound mode (scope_seen scope.now) nodes.new.items) }
     ensures below { IfOk result (λ o. IfSome o (λ e. e < length nodes.new.items)) }
     ensures grows { OnOk result (length nodes.old.items ≤ length nodes.new.items) }
 {
     if bytes.len() > 8 {
         return Err(ElabFault::Refused(DesignFault::N3, place));
     }
-    push(nodes, place, ExprKind::Literal(text_value(bytes)))
+    push(
+        scope,
+        mode,
+        nodes,
+        place,
+        ExprKind::Literal(text_value(bytes)),
+    )
 }

@@ -8,7 +8,7 @@ use vh_nodes::{Arithmetic, Comparison, Link, Links, Logic, Shift, Unary};
 
 /// A binary operator, by the kind of its chain.
 #[derive(Clone, Copy)]
-pub(crate) enum Operator {
+pub enum Operator {
     Arithmetic(Arithmetic),
     Shift(Shift),
     Comparison(Comparison),

@@ -2,7 +2,8 @@ ghost use Rattle.std.specs.Prelude.{◌≡◌, map};
 ghost use Rattle.vh_ast.specs.Expressions.{steps};
 ghost use Rattle.vh_ast.specs.Views.{expr_tree, name_tree, index_by, step_by};
 ghost use Rattle.vh_bind.specs.Steps.{Gives};
-ghost use Rattle.vh_bind.specs.Paths.{is_blocks, meant, block_meant, part_meant, path_meant, alone_meant, name_meant};
+ghost use Rattle.vh_bind.specs.Paths.{is_blocks, meant, block_meant, alone_meant};
+ghost use Rattle.vh_bind.specs.Constants.{part_meant, path_meant, name_meant};
 ghost use Rattle.vh_bind.specs.Views.{scope_seen};
 
 use crate::binding::constant;

@@ -12,15 +12,36 @@ pub struct Genvar {
     pub value: Vec4,
 }
 
-/// Where a constant stands: what is declared, the scopes around it from the inside out up to its
+/// What is known of a task or function: how many arguments it declares, and a function's result, the
+/// variable of its name (IEEE 1364-2005, 10.2 and 10.4).
+#[derive(Clone, Copy)]
+pub struct Routine {
+    pub result: Option<ObjId>,
+    pub arguments: u32,
+}
+
+/// What an expression is bound for: a constant, or a value that may read objects (IEEE 1364-2005, 4.10
+/// and 5.2).
+#[derive(Clone, Copy)]
+pub enum Mode {
+    Constant,
+    Value,
+}
+
+/// Where an expression stands: what is declared, the scopes around it from the inside out up to its
 /// module, the top of the design, the genvars that have a value there, and the objects and expressions
 /// of the design so far, in which parameters have their values.
 #[derive(Clone, Copy)]
-pub struct Scope<'a> {
+pub struct Scope<'a, 'b> {
     pub names: &'a Names,
     pub around: &'a [ObjId],
     pub top: Top<'a>,
     pub genvars: &'a [Genvar],
     pub objects: &'a [ObjectInfo],
-    pub exprs: &'a [ExprNode],
+    pub exprs: &'b [ExprNode],
+    /// The tasks and functions, by the numbers of their bodies.
+    pub routines: &'a [Routine],
+    /// The module's time unit, and the precision of the design, from 0 for 1 fs to 17 for 100 s.
+    pub unit: u8,
+    pub precision: u8,
 }

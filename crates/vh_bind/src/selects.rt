@@ -1,22 +1,22 @@
 ghost use Rattle.std.specs.Prelude.{◌≡◌, ◌≤◌, ◌<◌, ◌^◌, IfOk, IfSome};
 ghost use Rattle.vh_logic.specs.Number.{integer_of};
 ghost use Rattle.vh_bind.specs.Steps.{Gives};
-ghost use Rattle.vh_bind.specs.Selects.{integer_in, number_in, most_bound, bit_of, indexed_of, goes_with, span, slice_of, part_of};
+ghost use Rattle.vh_bind.specs.Selects.{integer_in, number_in, most_bound, bit_of, indexed_of, goes_with, span, slice_of, part_of, slice_select, part_select};
 
 use crate::fault::ElabFault;
 use vh_base::{DesignFault, Place};
 use vh_eval::{integer, selected, sliced};
 use vh_logic::{MAX_WIDTH, Vec4};
-use vh_nodes::Range;
+use vh_nodes::{Range, Select};
 
 /// A value that has a name, with the bounds of its digits.
-pub(crate) type Bounded = (Range, Vec4);
+pub type Bounded = (Range, Vec4);
 
 // The greatest bound.
 const MOST_BOUND: u64 = 0x7fff_ffff;
 
 /// A number of a range, at whose place anything else is a fault; none where there is no value.
-pub(crate) fn number_in(
+pub fn number_in(
     place: Place,
     low: u64,
     high: u64,
@@ -111,4 +111,46 @@ pub(crate) fn part_of(
         return Ok(None);
     };
     slice_of(place, &value, left as u32, right as u32)
+}
+
+// Which digits of an object, between two bounds.
+fn slice_select(
+    place: Place,
+    range: Range,
+    left: u32,
+    right: u32,
+) -> Result<Option<Select>, ElabFault>
+    requires left { left < 2 ^ 31 }
+    requires right { right < 2 ^ 31 }
+    ensures { Gives (slice_select place range left right) result }
+{
+    let width = left.abs_diff(right) + 1;
+    if !goes_with(range, left, right) || width > MAX_WIDTH {
+        return Err(ElabFault::Refused(DesignFault::N3, place));
+    }
+    Ok(Some(Select::Slice {
+        range,
+        lowest: right,
+        width,
+    }))
+}
+
+/// Which digits of an object, between two bounds, which go the way of the declared ones.
+pub fn part_select(
+    place: Place,
+    range: Range,
+    left: Option<Vec4>,
+    right: Option<Vec4>,
+) -> Result<Option<Select>, ElabFault>
+    ensures { Gives (part_select place range left right) result }
+{
+    let left = number_in(place, 0, MOST_BOUND, left)?;
+    let right = number_in(place, 0, MOST_BOUND, right)?;
+    let Some(left) = left else {
+        return Ok(None);
+    };
+    let Some(right) = right else {
+        return Ok(None);
+    };
+    slice_select(place, range, left as u32, right as u32)
 }

@@ -173,6 +173,9 @@ fn value_of(alloc: Global, world: &World, e: &Expr, least: u32) -> Result<Option
         genvars: &world.genvars,
         objects: &world.objects,
         exprs: &world.exprs,
+        routines: &[],
+        unit: 6,
+        precision: 6,
     };
     constant(alloc, &scope, e, least.min(64))
 }
@@ -195,6 +198,9 @@ fn meaning_of(
         genvars: &world.genvars,
         objects: &world.objects,
         exprs: &world.exprs,
+        routines: &[],
+        unit: 6,
+        precision: 6,
     };
     meaning(alloc, &scope, name, call)
 }

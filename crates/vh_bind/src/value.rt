@@ -1,6 +1,6 @@
-ghost use Rattle.std.specs.Prelude.{◌≡◌, ◌<◌, ◌≤◌, length, IfOk};
+ghost use Rattle.std.specs.Prelude.{◌≡◌, ◌<◌, ◌≤◌, [], length, IfOk};
 ghost use Rattle.vh_logic.specs.declared.vector.TheConstants.{MAX_WIDTH};
-ghost use Rattle.vh_bind.specs.Nodes.{IsSound};
+ghost use Rattle.vh_bind.specs.Nodes.{AreSound};
 ghost use Rattle.vh_bind.specs.Constants.{bare, value_at};
 
 use std::alloc::Global;
@@ -13,7 +13,7 @@ use vh_store::Store;
 
 // The design of some nodes alone.
 fn bare(alloc: Global, nodes: Vec<ExprNode>) -> Design
-    requires { IsSound nodes.items }
+    requires { AreSound [] 0 nodes.items }
     ensures { result ≡ bare nodes.items }
 {
     let parts = Parts {
@@ -40,7 +40,7 @@ pub(crate) fn value_at(
     e: ExprId,
     least: u32,
 ) -> Result<Vec4, NoMemory>
-    requires sound { IsSound nodes.items }
+    requires sound { AreSound [] 0 nodes.items }
     requires known { e < length nodes.items }
     requires small { least ≤ MAX_WIDTH }
     ensures { IfOk result (λ v. v ≡ value_at least nodes.items e) }

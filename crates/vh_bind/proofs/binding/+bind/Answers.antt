@@ -4,6 +4,7 @@ use Rattle.vh_ast.specs.declared.expr.Link.{Link}
 use Rattle.vh_ast.specs.declared.expr.Primary.{Primary}
 use Rattle.vh_ast.specs.Expressions.{expr}
 use Rattle.vh_ast.specs.Views.{expr_tree}
+use Rattle.vh_bind.specs.declared.scope.Mode.TheVariants as mode
 use Rattle.vh_bind.specs.Constants.{bound, entry, with_number, mark_of}
 use Rattle.vh_bind.specs.Views.{scope_seen, numbers_of, primary_tree}
 use Rattle.vh_bind.proofs.FoldsLemmas.{entries-step, links-step, numbers-below, sole_none}
@@ -80,9 +81,9 @@ bind_entries-loop-part-preserved t c =
     let more : numbers_of c.in_ok-numbers.numbers ≡ with_number (numbers_of c.loop-part.numbers) a =
     c.in_ok-numbers.ensures in
     let one =
-    ap (λ (e : Expr). entry (expr_tree e) (bound s (expr_tree e)) ns) (sym c.part-item.is) ∙ c.in_ok-number.ensures.step in
+    ap (λ (e : Expr). entry (expr_tree e) (bound mode.Constant s (expr_tree e)) ns) (sym c.part-item.is) ∙ c.in_ok-number.ensures.step in
     record {
-      step = entries-step s parts c.loop-part.part-index _ _ _ ns ns' a _ c.loop-part-test.true before.step one more;
+      step = entries-step mode.Constant s parts c.loop-part.part-index _ _ _ ns ns' a _ c.loop-part-test.true before.step one more;
       sound = c.in_ok-number.ensures.sound;
       below = numbers-below _ _ a (length ns) (length ns') before.below c.in_ok-number.ensures.grows c.in_ok-number.ensures.below more;
       grows = omega (arith, before.grows, c.in_ok-number.ensures.grows);
@@ -99,9 +100,9 @@ bind_links-loop-link-preserved t c =
     let more : numbers_of c.in_ok-numbers.numbers ≡ with_number (numbers_of c.loop-link.numbers) a =
     c.in_ok-numbers.ensures in
     let one =
-    ap (λ (l : Link Expr). bound s (expr_tree l.operand) ns) (sym c.link-item.is) ∙ c.in_ok-number.ensures.step in
+    ap (λ (l : Link Expr). bound mode.Constant s (expr_tree l.operand) ns) (sym c.link-item.is) ∙ c.in_ok-number.ensures.step in
     record {
-      step = links-step s parts c.loop-link.link-index _ _ _ ns ns' a _ c.loop-link-test.true before.step one more;
+      step = links-step mode.Constant s parts c.loop-link.link-index _ _ _ ns ns' a _ c.loop-link-test.true before.step one more;
       sound = c.in_ok-number.ensures.sound;
       below = numbers-below _ _ a (length ns) (length ns') before.below c.in_ok-number.ensures.grows c.in_ok-number.ensures.below more;
       grows = omega (arith, before.grows, c.in_ok-number.ensures.grows);
@@ -112,6 +113,6 @@ bind_system-returns-then-arguments-ne1-clause-step t c =
     let s = scope_seen c.args.scope.now in
     let all = c.args.arguments.now in
     let other : length all ≡ 1 → ⊥ = λ one. c.if-arguments-ne1.true (ap length c.as_slice-arguments.ensures ∙ one) in
-    let none = sole_none s all other in
+    let none = sole_none mode.Constant s all other in
     let mark : mark_of c.args.id.now.name ≡ Some c.in-Some.signed = search rules in
     rw (mark, none) refl

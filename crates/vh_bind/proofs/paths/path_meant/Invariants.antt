@@ -1,5 +1,5 @@
 use Rattle.std.proofs.Common.{◌≡◌, drop}
-use Rattle.vh_bind.specs.Paths.{steps_meant}
+use Rattle.vh_bind.specs.Constants.{steps_meant}
 use Rattle.vh_bind.specs.Views.{scope_seen}
 use Rattle.vh_bind.proofs.PathsLemmas.{steps_seen}
 use Rattle.vh_bind.proofs.paths.path_meant.Given as goal

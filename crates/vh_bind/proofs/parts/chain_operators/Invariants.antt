@@ -3,7 +3,7 @@ use Rattle.std.specs.Prelude.{map}
 use Rattle.vh_ast.specs.Expressions.{links}
 use Rattle.vh_ast.specs.Views.{link_tree}
 use Rattle.vh_bind.specs.Constants.{operators}
-use Rattle.vh_bind.proofs.binding.operators.Given as goal
+use Rattle.vh_bind.proofs.parts.chain_operators.Given as goal
 
 -- The operators so far, with those that are left, are those of the chain.
 abbrev pub invariant-loop-link : goal.invariant-loop-link

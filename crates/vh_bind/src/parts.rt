@@ -1,0 +1,274 @@
+ghost use Rattle.std.specs.Prelude.{◌≡◌, ◌<◌, ◌≤◌, true, length, map, IfOk, IfSome, OnOk};
+ghost use Rattle.vh_nodes.specs.Fits.{all_before};
+ghost use Rattle.vh_ast.specs.Expressions;
+ghost use Rattle.vh_ast.specs.Views.{expr_tree, link_tree};
+ghost use Rattle.vh_bind.specs.Steps.{Steps};
+ghost use Rattle.vh_bind.specs.Nodes.{IsSound};
+ghost use Rattle.vh_bind.specs.Constants.{literal, marked_pushed, unary_pushed, chain_pushed, concat_pushed, times_pushed, choice_pushed, operators, is_unsized, with_number, mark_of};
+ghost use Rattle.vh_bind.specs.Views.{scope_seen, numbers_of};
+
+use crate::fault::ElabFault;
+use crate::nodes::{push, push_chain, push_join, push_repeat};
+use crate::operators::{Operator, operator_of, unary_of};
+use crate::scope::{Mode, Scope};
+use std::alloc::Global;
+use vh_ast::{Expr, ExprForm, Link, Primary, Unary};
+use vh_base::{ExprId, NoMemory, Place, Sequence};
+use vh_logic::Vec4;
+use vh_nodes::{ExprIds, ExprKind, ExprNode};
+
+/// How `$signed` or `$unsigned` marks its argument.
+pub fn mark_of(name: &[u8]) -> Option<bool>
+    ensures { result ≡ mark_of name.now }
+{
+    if name == b"$signed".as_slice() {
+        return Some(true);
+    }
+    if name == b"$unsigned".as_slice() {
+        return Some(false);
+    }
+    None
+}
+
+/// Whether an expression is a number without a size.
+pub fn is_unsized(e: &Expr) -> bool
+    ensures { result ≡ is_unsized (expr_tree e.now) }
+{
+    match &e.form {
+        ExprForm::Primary(Primary::Number(n)) => !n.sized,
+        _ => false,
+    }
+}
+
+/// One number more, where none is passed over.
+pub fn with_number(
+    numbers: Option<Vec<ExprId>>,
+    number: Option<ExprId>,
+) -> Result<Option<Vec<ExprId>>, NoMemory>
+    ensures { IfOk result (λ ns. numbers_of ns ≡ with_number (numbers_of numbers) number) }
+{
+    let Some(mut numbers) = numbers else {
+        return Ok(None);
+    };
+    let Some(number) = number else {
+        return Ok(None);
+    };
+    numbers.push(number)?;
+    Ok(Some(numbers))
+}
+
+/// The numbers as a sequence.
+pub fn sequence(numbers: Option<Vec<ExprId>>) -> Option<ExprIds>
+    ensures { result ≡ numbers_of numbers }
+{
+    match numbers {
+        None => None,
+        Some(numbers) => Some(Sequence::new(numbers)),
+    }
+}
+
+/// The operators of a chain.
+pub fn chain_operators(alloc: Global, links: &[Link<Expr>]) -> Result<Vec<Operator>, NoMemory>
+    ensures { IfOk result (λ os. os.items ≡ operators (Expressions.links (map link_tree links.now))) }
+{
+    let mut operators = Vec::new(alloc);
+    for link in links {
+        operators.push(operator_of(link.operator))?;
+    }
+    Ok(operators)
+}
+
+/// What is written of a value, where there is one.
+pub fn push_literal(
+    scope: &Scope,
+    mode: Mode,
+    nodes: &mut Vec<ExprNode>,
+    place: Place,
+    value: Option<Vec4>,
+) -> Result<Option<ExprId>, ElabFault>
+    requires sound { IsSound mode (scope_seen scope.now) nodes.old.items }
+    ensures step { Steps
+        (literal mode (scope_seen scope.now) place value nodes.old.items) result nodes.new.items }
+    ensures sound { OnOk result (IsSound mode (scope_seen scope.now) nodes.new.items) }
+    ensures below { IfOk result (λ o. IfSome o (λ n. n < length nodes.new.items)) }
+    ensures grows { OnOk result (length nodes.old.items ≤ length nodes.new.items) }
+{
+    match value {
+        None => Ok(None),
+        Some(v) => push(scope, mode, nodes, place, ExprKind::Literal(v)),
+    }
+}
+
+/// `$signed` or `$unsigned` of a part, where it is not passed over.
+pub fn push_marked(
+    scope: &Scope,
+    mode: Mode,
+    nodes: &mut Vec<ExprNode>,
+    place: Place,
+    signed: bool,
+    part: Option<ExprId>,
+) -> Result<Option<ExprId>, ElabFault>
+    requires sound { IsSound mode (scope_seen scope.now) nodes.old.items }
+    requires part { IfSome part (λ n. n < length nodes.old.items) }
+    ensures step { Steps
+        (marked_pushed mode (scope_seen scope.now) place signed part nodes.old.items) result nodes.new.items }
+    ensures sound { OnOk result (IsSound mode (scope_seen scope.now) nodes.new.items) }
+    ensures below { IfOk result (λ o. IfSome o (λ n. n < length nodes.new.items)) }
+    ensures grows { OnOk result (length nodes.old.items ≤ length nodes.new.items) }
+{
+    match part {
+        None => Ok(None),
+        Some(part) => push(scope, mode, nodes, place, ExprKind::Marked { part, signed }),
+    }
+}
+
+/// A unary operator on a part, where it is not passed over.
+pub fn push_unary(
+    scope: &Scope,
+    mode: Mode,
+    nodes: &mut Vec<ExprNode>,
+    place: Place,
+    sign: Unary,
+    part: Option<ExprId>,
+) -> Result<Option<ExprId>, ElabFault>
+    requires sound { IsSound mode (scope_seen scope.now) nodes.old.items }
+    requires part { IfSome part (λ n. n < length nodes.old.items) }
+    ensures step { Steps
+        (unary_pushed mode (scope_seen scope.now) place sign part nodes.old.items) result nodes.new.items }
+    ensures sound { OnOk result (IsSound mode (scope_seen scope.now) nodes.new.items) }
+    ensures below { IfOk result (λ o. IfSome o (λ n. n < length nodes.new.items)) }
+    ensures grows { OnOk result (length nodes.old.items ≤ length nodes.new.items) }
+{
+    match part {
+        None => Ok(None),
+        Some(part) => {
+            let op = unary_of(sign);
+            push(scope, mode, nodes, place, ExprKind::Unary { op, part })
+        }
+    }
+}
+
+/// A chain of operators, where no operand is passed over.
+pub fn push_links(
+    alloc: Global,
+    scope: &Scope,
+    mode: Mode,
+    nodes: &mut Vec<ExprNode>,
+    place: Place,
+    operators: &[Operator],
+    first: Option<ExprId>,
+    rest: Option<ExprIds>,
+) -> Result<Option<ExprId>, ElabFault>
+    requires sound { IsSound mode (scope_seen scope.now) nodes.old.items }
+    requires first { IfSome first (λ n. n < length nodes.old.items) }
+    requires rest { IfSome rest (λ ns. all_before (length nodes.old.items) ns ≡ true) }
+    ensures step { Steps
+        (chain_pushed mode (scope_seen scope.now) place operators.now first rest nodes.old.items) result nodes.new.items }
+    ensures sound { OnOk result (IsSound mode (scope_seen scope.now) nodes.new.items) }
+    ensures below { IfOk result (λ o. IfSome o (λ n. n < length nodes.new.items)) }
+    ensures grows { OnOk result (length nodes.old.items ≤ length nodes.new.items) }
+{
+    let Some(first) = first else {
+        return Ok(None);
+    };
+    let Some(rest) = rest else {
+        return Ok(None);
+    };
+    push_chain(
+        alloc,
+        scope,
+        mode,
+        nodes,
+        place,
+        operators,
+        first,
+        rest.as_slice(),
+    )
+}
+
+/// A concatenation, where no entry is passed over.
+pub fn push_concat(
+    alloc: Global,
+    scope: &Scope,
+    mode: Mode,
+    nodes: &mut Vec<ExprNode>,
+    place: Place,
+    parts: Option<ExprIds>,
+) -> Result<Option<ExprId>, ElabFault>
+    requires sound { IsSound mode (scope_seen scope.now) nodes.old.items }
+    requires parts { IfSome parts (λ ns. all_before (length nodes.old.items) ns ≡ true) }
+    ensures step { Steps
+        (concat_pushed mode (scope_seen scope.now) place parts nodes.old.items) result nodes.new.items }
+    ensures sound { OnOk result (IsSound mode (scope_seen scope.now) nodes.new.items) }
+    ensures below { IfOk result (λ o. IfSome o (λ n. n < length nodes.new.items)) }
+    ensures grows { OnOk result (length nodes.old.items ≤ length nodes.new.items) }
+{
+    match parts {
+        None => Ok(None),
+        Some(parts) => push_join(alloc, scope, mode, nodes, place, parts.as_slice()),
+    }
+}
+
+/// So many times a part, where neither is passed over.
+pub fn push_times(
+    scope: &Scope,
+    mode: Mode,
+    nodes: &mut Vec<ExprNode>,
+    place: Place,
+    count: Option<u64>,
+    part: Option<ExprId>,
+) -> Result<Option<ExprId>, ElabFault>
+    requires sound { IsSound mode (scope_seen scope.now) nodes.old.items }
+    requires part { IfSome part (λ n. n < length nodes.old.items) }
+    ensures step { Steps
+        (times_pushed mode (scope_seen scope.now) place count part nodes.old.items) result nodes.new.items }
+    ensures sound { OnOk result (IsSound mode (scope_seen scope.now) nodes.new.items) }
+    ensures below { IfOk result (λ o. IfSome o (λ n. n < length nodes.new.items)) }
+    ensures grows { OnOk result (length nodes.old.items ≤ length nodes.new.items) }
+{
+    let Some(count) = count else {
+        return Ok(None);
+    };
+    let Some(part) = part else {
+        return Ok(None);
+    };
+    push_repeat(scope, mode, nodes, place, count, part)
+}
+
+/// One of two parts by a third, where none is passed over.
+pub fn push_choice(
+    scope: &Scope,
+    mode: Mode,
+    nodes: &mut Vec<ExprNode>,
+    place: Place,
+    condition: Option<ExprId>,
+    yes: Option<ExprId>,
+    no: Option<ExprId>,
+) -> Result<Option<ExprId>, ElabFault>
+    requires sound { IsSound mode (scope_seen scope.now) nodes.old.items }
+    requires condition { IfSome condition (λ n. n < length nodes.old.items) }
+    requires yes { IfSome yes (λ n. n < length nodes.old.items) }
+    requires no { IfSome no (λ n. n < length nodes.old.items) }
+    ensures step { Steps
+        (choice_pushed mode (scope_seen scope.now) place condition yes no nodes.old.items) result nodes.new.items }
+    ensures sound { OnOk result (IsSound mode (scope_seen scope.now) nodes.new.items) }
+    ensures below { IfOk result (λ o. IfSome o (λ n. n < length nodes.new.items)) }
+    ensures grows { OnOk result (length nodes.old.items ≤ length nodes.new.items) }
+{
+    let Some(condition) = condition else {
+        return Ok(None);
+    };
+    let Some(yes) = yes else {
+        return Ok(None);
+    };
+    let Some(no) = no else {
+        return Ok(None);
+    };
+    push(
+        scope,
+        mode,
+        nodes,
+        place,
+        ExprKind::Choice { condition, yes, no },
+    )
+}
