@@ -1,0 +1,402 @@
+ghost use Rattle.std.specs.Prelude.{◌≡◌, ◌<◌, ◌≤◌, [], Some, true, length, map, IfOk, IfSome, OnOk};
+ghost use Rattle.vh_nodes.specs.Kinds.{is_vector, is_memory};
+ghost use Rattle.vh_nodes.specs.Fits.{all_before, fits_select, has_kind, is_unit};
+ghost use Rattle.vh_ast.specs.Expressions;
+ghost use Rattle.vh_ast.specs.Expressions.{exprs};
+ghost use Rattle.vh_ast.specs.Views.{expr_tree, link_tree, name_tree, part_by, sel_tree};
+ghost use Rattle.vh_bind.specs.declared.scope.Mode.TheVariants as mode;
+ghost use Rattle.vh_bind.specs.Steps.{Steps};
+ghost use Rattle.vh_bind.specs.Nodes.{IsSound};
+ghost use Rattle.vh_bind.specs.Constants.{arguments_bound, bound, entries_bound, entry, form_bound, links_bound, mark_of, memory_bound, part_bound, sole_bound, system_row, vector_bound};
+ghost use Rattle.vh_bind.specs.Views.{scope_seen, numbers_of};
+
+use crate::names::{function_called, name_read};
+use crate::reads::{
+    bit_select, indexed_select, push_call, push_selected, push_system, whole_of, word_of,
+};
+use crate::rows::{count_at, push_chained, push_genvar, push_repeated, range_at, width_at};
+use sqlite_items::Items;
+use std::alloc::Global;
+use vh_ast::{Esel, Expr, ExprForm, Id, Link, Name, Part, Primary, Sel};
+use vh_base::{DesignFault, ExprId, ObjId, Place};
+use vh_bind::{
+    ElabFault, Mode, Readable, Scope, is_unsized, mark_of, push, push_choice, push_concat,
+    push_literal, push_marked, push_text, push_unary, sequence, with_number,
+};
+use vh_nodes::{ExprIds, ExprKind, ExprNode, Range, Select};
+
+/// Adds the nodes of an expression over the objects of a design to the design's expressions, and
+/// answers the number of the last one (IEEE 1364-2005, clause 5). None where it needs a parameter
+/// that has no value. An error is the first fault of the expression, or want of memory; after it
+/// what was added is not used. The expressions of the scope are not read: parameters have their
+/// values in `exprs`.
+pub fn bind_expr(
+    alloc: Global,
+    exprs: &mut Vec<ExprNode>,
+    scope: &Scope,
+    e: &Expr,
+) -> Result<Option<ExprId>, ElabFault>
+    requires sound { IsSound mode.Value (scope_seen scope.now) exprs.old.items }
+    requires unit { is_unit (scope_seen scope.now).precision (scope_seen scope.now).unit ≡ true }
+    ensures step { Steps
+        (bound mode.Value (scope_seen scope.now) (expr_tree e.now) exprs.old.items)
+        result exprs.new.items }
+    ensures sound { OnOk result (IsSound mode.Value (scope_seen scope.now) exprs.new.items) }
+    ensures below { IfOk result (λ o. IfSome o (λ n. n < length exprs.new.items)) }
+    ensures grows { OnOk result (length exprs.old.items ≤ length exprs.new.items) }
+{
+    bind(alloc, scope, exprs, e)
+}
+
+// The nodes of an expression, a row for each form.
+#[cycle(bind)]
+fn bind(
+    alloc: Global,
+    scope: &Scope,
+    nodes: &mut Vec<ExprNode>,
+    e: &Expr,
+) -> Result<Option<ExprId>, ElabFault>
+    requires sound { IsSound mode.Value (scope_seen scope.now) nodes.old.items }
+    requires unit { is_unit (scope_seen scope.now).precision (scope_seen scope.now).unit ≡ true }
+    ensures step { Steps
+        (bound mode.Value (scope_seen scope.now) (expr_tree e.now) nodes.old.items)
+        result nodes.new.items }
+    ensures sound { OnOk result (IsSound mode.Value (scope_seen scope.now) nodes.new.items) }
+    ensures below { IfOk result (λ o. IfSome o (λ n. n < length nodes.new.items)) }
+    ensures grows { OnOk result (length nodes.old.items ≤ length nodes.new.items) }
+{
+    let place = e.place;
+    match &e.form {
+        ExprForm::Primary(primary) => match primary {
+            Primary::Number(n) => {
+                push(scope, Mode::Value, nodes, place, ExprKind::Literal(n.value))
+            }
+            Primary::Text(bytes) => push_text(scope, Mode::Value, nodes, place, bytes.as_slice()),
+            Primary::Name(name, sel) => bind_name(alloc, scope, nodes, place, sel, name),
+            Primary::Call(name, arguments) => {
+                let called = function_called(alloc, scope, nodes, place, name, arguments)?;
+                let Some(function) = called else {
+                    return Ok(None);
+                };
+                let arguments = bind_arguments(alloc, scope, nodes, arguments)?;
+                push_call(alloc, scope, nodes, place, function, arguments)
+            }
+            Primary::System(id, arguments) => bind_system(alloc, scope, nodes, id, arguments),
+            Primary::Paren(inner) => bind(alloc, scope, nodes, inner.get()),
+            Primary::Concat(parts) => {
+                let parts = bind_entries(alloc, scope, nodes, parts)?;
+                push_concat(alloc, scope, Mode::Value, nodes, place, parts)
+            }
+            Primary::Repeat(count, parts) => {
+                let count = count_at(alloc, scope, nodes, place, count.get())?;
+                let parts = bind_entries(alloc, scope, nodes, parts)?;
+                push_repeated(alloc, scope, nodes, place, count, parts)
+            }
+        },
+        ExprForm::Unary(sign, operand) => {
+            let part = bind(alloc, scope, nodes, operand.get())?;
+            push_unary(scope, Mode::Value, nodes, place, *sign, part)
+        }
+        ExprForm::Chain(first, links) => {
+            let first = bind(alloc, scope, nodes, first.get())?;
+            let rest = bind_links(alloc, scope, nodes, links)?;
+            push_chained(alloc, scope, nodes, place, links, first, rest)
+        }
+        ExprForm::Choice { test, holds, fails } => {
+            let condition = bind(alloc, scope, nodes, test.get())?;
+            let yes = bind(alloc, scope, nodes, holds.get())?;
+            let no = bind(alloc, scope, nodes, fails.get())?;
+            push_choice(scope, Mode::Value, nodes, place, condition, yes, no)
+        }
+    }
+}
+
+// A name with its select.
+#[cycle(bind)]
+fn bind_name(
+    alloc: Global,
+    scope: &Scope,
+    nodes: &mut Vec<ExprNode>,
+    place: Place,
+    sel: &Option<Sel<Expr>>,
+    name: &Name<Expr>,
+) -> Result<Option<ExprId>, ElabFault>
+    requires sound { IsSound mode.Value (scope_seen scope.now) nodes.old.items }
+    requires unit { is_unit (scope_seen scope.now).precision (scope_seen scope.now).unit ≡ true }
+    ensures step { Steps
+        (form_bound mode.Value (scope_seen scope.now) place
+        (Expressions.named (name_tree name.now) (sel_tree sel.now)) nodes.old.items)
+        result nodes.new.items }
+    ensures sound { OnOk result (IsSound mode.Value (scope_seen scope.now) nodes.new.items) }
+    ensures below { IfOk result (λ o. IfSome o (λ n. n < length nodes.new.items)) }
+    ensures grows { OnOk result (length nodes.old.items ≤ length nodes.new.items) }
+{
+    match name_read(alloc, scope, nodes, name)? {
+        Readable::Wrong => Err(ElabFault::Refused(DesignFault::N1, place)),
+        Readable::Unknown => Ok(None),
+        Readable::Genvar(value) => { push_genvar(alloc, scope, nodes, place, value, sel) }
+        Readable::Parameter(object, range, value) => {
+            if sel.is_none() {
+                return push_literal(scope, Mode::Value, nodes, place, Some(value));
+            }
+            bind_vector(alloc, scope, nodes, place, object, range, sel)
+        }
+        Readable::Vector(object, range) => {
+            bind_vector(alloc, scope, nodes, place, object, range, sel)
+        }
+        Readable::Memory(object, range) => {
+            bind_memory(alloc, scope, nodes, place, object, range, sel)
+        }
+    }
+}
+
+// Digits of a net, a variable or a parameter.
+#[cycle(bind)]
+fn bind_vector(
+    alloc: Global,
+    scope: &Scope,
+    nodes: &mut Vec<ExprNode>,
+    place: Place,
+    object: ObjId,
+    range: Range,
+    sel: &Option<Sel<Expr>>,
+) -> Result<Option<ExprId>, ElabFault>
+    requires sound { IsSound mode.Value (scope_seen scope.now) nodes.old.items }
+    requires unit { is_unit (scope_seen scope.now).precision (scope_seen scope.now).unit ≡ true }
+    requires object { has_kind is_vector (scope_seen scope.now).objects object ≡ true }
+    ensures step { Steps
+        (vector_bound (scope_seen scope.now) place object range (sel_tree sel.now) nodes.old.items)
+        result nodes.new.items }
+    ensures sound { OnOk result (IsSound mode.Value (scope_seen scope.now) nodes.new.items) }
+    ensures below { IfOk result (λ o. IfSome o (λ n. n < length nodes.new.items)) }
+    ensures grows { OnOk result (length nodes.old.items ≤ length nodes.new.items) }
+{
+    let of = whole_of(object);
+    match sel {
+        None => push_selected(scope, nodes, place, of, Some(Select::Whole)),
+        Some(Sel::Index(_, index)) => {
+            let index = bind(alloc, scope, nodes, index.get())?;
+            push_selected(scope, nodes, place, of, bit_select(range, index))
+        }
+        Some(Sel::Both { .. }) => Err(ElabFault::Refused(DesignFault::N1, place)),
+        Some(Sel::Part(last)) => {
+            let select = bind_part(alloc, scope, nodes, range, last)?;
+            push_selected(scope, nodes, place, of, select)
+        }
+    }
+}
+
+// A word of a memory, or digits of one.
+#[cycle(bind)]
+fn bind_memory(
+    alloc: Global,
+    scope: &Scope,
+    nodes: &mut Vec<ExprNode>,
+    place: Place,
+    object: ObjId,
+    range: Range,
+    sel: &Option<Sel<Expr>>,
+) -> Result<Option<ExprId>, ElabFault>
+    requires sound { IsSound mode.Value (scope_seen scope.now) nodes.old.items }
+    requires unit { is_unit (scope_seen scope.now).precision (scope_seen scope.now).unit ≡ true }
+    requires object { has_kind is_memory (scope_seen scope.now).objects object ≡ true }
+    ensures step { Steps
+        (memory_bound (scope_seen scope.now) place object range (sel_tree sel.now) nodes.old.items)
+        result nodes.new.items }
+    ensures sound { OnOk result (IsSound mode.Value (scope_seen scope.now) nodes.new.items) }
+    ensures below { IfOk result (λ o. IfSome o (λ n. n < length nodes.new.items)) }
+    ensures grows { OnOk result (length nodes.old.items ≤ length nodes.new.items) }
+{
+    match sel {
+        None | Some(Sel::Part(_)) => Err(ElabFault::Refused(DesignFault::N1, place)),
+        Some(Sel::Index(_, index)) => {
+            let index = bind(alloc, scope, nodes, index.get())?;
+            push_selected(
+                scope,
+                nodes,
+                place,
+                word_of(object, index),
+                Some(Select::Whole),
+            )
+        }
+        Some(Sel::Both { index, last, .. }) => {
+            let index = bind(alloc, scope, nodes, index.get())?;
+            let select = bind_part(alloc, scope, nodes, range, last)?;
+            push_selected(scope, nodes, place, word_of(object, index), select)
+        }
+    }
+}
+
+// Which digits the last bracket of a select names.
+#[cycle(bind)]
+fn bind_part(
+    alloc: Global,
+    scope: &Scope,
+    nodes: &mut Vec<ExprNode>,
+    range: Range,
+    last: &Esel<Expr>,
+) -> Result<Option<Select>, ElabFault>
+    requires sound { IsSound mode.Value (scope_seen scope.now) nodes.old.items }
+    requires unit { is_unit (scope_seen scope.now).precision (scope_seen scope.now).unit ≡ true }
+    ensures step { Steps
+        (part_bound (scope_seen scope.now) last.now.place range
+        (part_by expr_tree last.now.part) nodes.old.items)
+        result nodes.new.items }
+    ensures sound { OnOk result (IsSound mode.Value (scope_seen scope.now) nodes.new.items) }
+    ensures below { IfOk result
+        (λ o. IfSome o (λ x. fits_select (length nodes.new.items) x ≡ true)) }
+    ensures grows { OnOk result (length nodes.old.items ≤ length nodes.new.items) }
+{
+    let bracket = last.place;
+    match &last.part {
+        Part::Index(index) => {
+            let index = bind(alloc, scope, nodes, index.get())?;
+            Ok(bit_select(range, index))
+        }
+        Part::Range(left, right) => {
+            range_at(alloc, scope, nodes, bracket, range, left.get(), right.get())
+        }
+        Part::Up(base, width) => {
+            let base = bind(alloc, scope, nodes, base.get())?;
+            let width = width_at(alloc, scope, nodes, bracket, width.get())?;
+            Ok(indexed_select(true, range, base, width))
+        }
+        Part::Down(base, width) => {
+            let base = bind(alloc, scope, nodes, base.get())?;
+            let width = width_at(alloc, scope, nodes, bracket, width.get())?;
+            Ok(indexed_select(false, range, base, width))
+        }
+    }
+}
+
+// A system call: `$signed` and `$unsigned` mark their one argument.
+#[cycle(bind)]
+fn bind_system(
+    alloc: Global,
+    scope: &Scope,
+    nodes: &mut Vec<ExprNode>,
+    id: &Id,
+    arguments: &Items<Expr>,
+) -> Result<Option<ExprId>, ElabFault>
+    requires sound { IsSound mode.Value (scope_seen scope.now) nodes.old.items }
+    requires unit { is_unit (scope_seen scope.now).precision (scope_seen scope.now).unit ≡ true }
+    ensures step { Steps
+        (system_row mode.Value (scope_seen scope.now) id.now
+        (exprs (map expr_tree arguments.now)) (mark_of id.now.name)
+        (sole_bound mode.Value (scope_seen scope.now) (exprs (map expr_tree arguments.now)))
+        nodes.old.items) result nodes.new.items }
+    ensures sound { OnOk result (IsSound mode.Value (scope_seen scope.now) nodes.new.items) }
+    ensures below { IfOk result (λ o. IfSome o (λ n. n < length nodes.new.items)) }
+    ensures grows { OnOk result (length nodes.old.items ≤ length nodes.new.items) }
+{
+    let Some(signed) = mark_of(id.name.as_slice()) else {
+        return push_system(scope, nodes, id, arguments);
+    };
+    let arguments = arguments.as_slice();
+    if arguments.len() != 1 {
+        return Err(ElabFault::Refused(DesignFault::N10, id.place));
+    }
+    let part = bind(alloc, scope, nodes, &arguments[0])?;
+    push_marked(scope, Mode::Value, nodes, id.place, signed, part)
+}
+
+// An entry of a concatenation.
+#[cycle(bind)]
+fn bind_entry(
+    alloc: Global,
+    scope: &Scope,
+    nodes: &mut Vec<ExprNode>,
+    e: &Expr,
+) -> Result<Option<ExprId>, ElabFault>
+    requires sound { IsSound mode.Value (scope_seen scope.now) nodes.old.items }
+    requires unit { is_unit (scope_seen scope.now).precision (scope_seen scope.now).unit ≡ true }
+    ensures step { Steps
+        (entry (expr_tree e.now) (bound mode.Value (scope_seen scope.now) (expr_tree e.now))
+        nodes.old.items) result nodes.new.items }
+    ensures sound { OnOk result (IsSound mode.Value (scope_seen scope.now) nodes.new.items) }
+    ensures below { IfOk result (λ o. IfSome o (λ n. n < length nodes.new.items)) }
+    ensures grows { OnOk result (length nodes.old.items ≤ length nodes.new.items) }
+{
+    if is_unsized(e) {
+        return Err(ElabFault::Refused(DesignFault::N3, e.place));
+    }
+    bind(alloc, scope, nodes, e)
+}
+
+// The entries of a concatenation, from the left.
+#[cycle(bind)]
+fn bind_entries(
+    alloc: Global,
+    scope: &Scope,
+    nodes: &mut Vec<ExprNode>,
+    parts: &Items<Expr>,
+) -> Result<Option<ExprIds>, ElabFault>
+    requires sound { IsSound mode.Value (scope_seen scope.now) nodes.old.items }
+    requires unit { is_unit (scope_seen scope.now).precision (scope_seen scope.now).unit ≡ true }
+    ensures step { Steps
+        (entries_bound mode.Value (scope_seen scope.now) (Some [])
+        (exprs (map expr_tree parts.now)) nodes.old.items) result nodes.new.items }
+    ensures sound { OnOk result (IsSound mode.Value (scope_seen scope.now) nodes.new.items) }
+    ensures below { IfOk result
+        (λ o. IfSome o (λ ns. all_before (length nodes.new.items) ns ≡ true)) }
+    ensures grows { OnOk result (length nodes.old.items ≤ length nodes.new.items) }
+{
+    let mut numbers = Some(Vec::new(alloc));
+    for part in parts.as_slice() {
+        let number = bind_entry(alloc, scope, nodes, part)?;
+        numbers = with_number(numbers, number)?;
+    }
+    Ok(sequence(numbers))
+}
+
+// The arguments of a call, in their order.
+#[cycle(bind)]
+fn bind_arguments(
+    alloc: Global,
+    scope: &Scope,
+    nodes: &mut Vec<ExprNode>,
+    arguments: &Items<Expr>,
+) -> Result<Option<ExprIds>, ElabFault>
+    requires sound { IsSound mode.Value (scope_seen scope.now) nodes.old.items }
+    requires unit { is_unit (scope_seen scope.now).precision (scope_seen scope.now).unit ≡ true }
+    ensures step { Steps
+        (arguments_bound (scope_seen scope.now) (Some [])
+        (exprs (map expr_tree arguments.now)) nodes.old.items) result nodes.new.items }
+    ensures sound { OnOk result (IsSound mode.Value (scope_seen scope.now) nodes.new.items) }
+    ensures below { IfOk result
+        (λ o. IfSome o (λ ns. all_before (length nodes.new.items) ns ≡ true)) }
+    ensures grows { OnOk result (length nodes.old.items ≤ length nodes.new.items) }
+{
+    let mut numbers = Some(Vec::new(alloc));
+    for argument in arguments.as_slice() {
+        let number = bind(alloc, scope, nodes, argument)?;
+        numbers = with_number(numbers, number)?;
+    }
+    Ok(sequence(numbers))
+}
+
+// The operands of a chain behind the first, from the left.
+#[cycle(bind)]
+fn bind_links(
+    alloc: Global,
+    scope: &Scope,
+    nodes: &mut Vec<ExprNode>,
+    links: &Items<Link<Expr>>,
+) -> Result<Option<ExprIds>, ElabFault>
+    requires sound { IsSound mode.Value (scope_seen scope.now) nodes.old.items }
+    requires unit { is_unit (scope_seen scope.now).precision (scope_seen scope.now).unit ≡ true }
+    ensures step { Steps
+        (links_bound mode.Value (scope_seen scope.now) (Some [])
+        (Expressions.links (map link_tree links.now)) nodes.old.items) result nodes.new.items }
+    ensures sound { OnOk result (IsSound mode.Value (scope_seen scope.now) nodes.new.items) }
+    ensures below { IfOk result
+        (λ o. IfSome o (λ ns. all_before (length nodes.new.items) ns ≡ true)) }
+    ensures grows { OnOk result (length nodes.old.items ≤ length nodes.new.items) }
+{
+    let mut numbers = Some(Vec::new(alloc));
+    for link in links.as_slice() {
+        let number = bind(alloc, scope, nodes, &link.operand)?;
+        numbers = with_number(numbers, number)?;
+    }
+    Ok(sequence(numbers))
+}
