@@ -8,7 +8,7 @@ ghost use Rattle.vh_bind.specs.declared.scope.Mode.TheVariants as mode;
 ghost use Rattle.vh_bind.specs.Steps.{Steps};
 ghost use Rattle.vh_bind.specs.Nodes.{IsSound};
 ghost use Rattle.vh_bind.specs.Constants.{arguments_bound, bound, entries_bound, entry, form_bound, links_bound, mark_of, memory_bound, part_bound, sole_bound, system_row, vector_bound};
-ghost use Rattle.vh_bind.specs.Views.{scope_seen, numbers_of};
+ghost use Rattle.vh_bind.specs.Views.{scope_seen};
 
 use crate::names::{function_called, name_read};
 use crate::reads::{
