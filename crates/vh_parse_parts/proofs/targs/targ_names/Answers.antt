@@ -1,0 +1,5 @@
+-- The range is left out as the table says.
+use Rattle.vh_parse_parts.proofs.targs.targ_names.Goals as goal
+
+pub returns : goal.returns
+returns c = rw c.targ_bare.ensures at c.bare_ids.ensures

@@ -1,0 +1,265 @@
+//! Arguments of tasks and functions, and what is declared in these.
+
+ghost use Rattle.std.specs.Prelude.{◌≡◌, [], ◌∷◌, map, MatchResult};
+ghost use Rattle.vh_grammar.specs.declared.stop.Stop.TheVariants.{Memory};
+ghost use Rattle.vh_grammar.specs.Part.{act};
+ghost use Rattle.vh_ast.specs.Views.{targ_tree, local_tree};
+ghost use Rattle.vh_syntax.specs.Parts.{comma_list, in_parens, ended};
+ghost use Rattle.vh_syntax.specs.Declarations.{bare_id};
+ghost use Rattle.vh_syntax.specs.Items as parts;
+ghost use Rattle.vh_syntax.specs.Items.{targ_bare, with_targ, with_id};
+ghost use Rattle.vh_parse_expr.specs.Views.{Reads};
+ghost use Rattle.vh_parse_parts.specs.Pieces.{targ_or_name, more_targs, locals};
+ghost use Rattle.vh_parse_parts.specs.Views.{targ_head_tree, argument_tree, targs_tree};
+
+use crate::boxed::boxed_type;
+use crate::ids::bare_ids;
+use crate::rows::{task_direction, variable};
+use sqlite_items::{Boxed, Items};
+use std::alloc::Global;
+use vh_ast::{DataType, Id, Ids, Local, Targ, TaskDirection, Variable};
+use vh_base::Place;
+use vh_grammar::Stop;
+use vh_parse_decl::{bare_id, declaration};
+use vh_parse_expr::{At, Read, then_sign};
+use vh_syntax::{Class, Group, Rows, Sign};
+
+// What stands in front of the names of arguments.
+#[derive(Drop)]
+pub(crate) struct TargHead {
+    pub place: Place,
+    pub direction: TaskDirection,
+    pub variable: Option<Variable>,
+    pub data_type: Boxed<DataType>,
+}
+
+// An argument that may go on.
+#[derive(Drop)]
+pub(crate) struct Argument {
+    pub head: TargHead,
+    pub ids: Ids,
+}
+
+// Arguments so far: those that are whole, and the last one.
+#[derive(Drop)]
+pub(crate) struct Arguments {
+    pub front: Items<Targ>,
+    pub last: Argument,
+}
+
+// `( "input" | "output" | "inout" ) [ "reg" | "integer" | "time" ] type`
+#[tactic(auto, unfolding(vh_syntax::specs::Items::targ_head))]
+fn targ_head<'t>(alloc: Global, depth: usize, at: At<'t>) -> Read<'t, TargHead>
+    ensures { Reads targ_head_tree depth parts.targ_head at.entry result }
+{
+    let ((place, direction), more) = task_direction(at)?;
+    let (variable, more) = variable(more)?;
+    let (data_type, rest) = boxed_type(alloc, depth, more)?;
+    let head = TargHead {
+        place,
+        direction,
+        variable,
+        data_type,
+    };
+    Ok((head, rest))
+}
+
+// Whether a range is left out behind the name of such an argument.
+fn targ_bare(variable: Option<Variable>) -> bool
+    ensures { result ≡ targ_bare variable }
+{
+    match variable {
+        None => false,
+        Some(Variable::Reg) => false,
+        Some(Variable::Integer) => true,
+        Some(Variable::Time) => true,
+    }
+}
+
+// `ID`, behind which a range is left out where it is so behind such an argument.
+fn targ_id<'t>(alloc: Global, variable: Option<Variable>, at: At<'t>) -> Read<'t, Id>
+    ensures { Reads (λ i. i) 0 (bare_id (targ_bare variable)) at.entry result }
+{
+    bare_id(alloc, targ_bare(variable), at)
+}
+
+// `ID { "," ID }`, behind each of which a range is left out in the same way.
+fn targ_names<'t>(
+    alloc: Global,
+    depth: usize,
+    variable: Option<Variable>,
+    at: At<'t>,
+) -> Read<'t, Ids>
+    ensures { let part = comma_list (bare_id (targ_bare variable)) in
+        Reads (λ all. all) depth part at.entry result }
+{
+    bare_ids(alloc, depth, targ_bare(variable), at)
+}
+
+// Arguments of their parts.
+fn targ_of(head: TargHead, ids: Ids) -> Targ
+    ensures { targ_tree result ≡ parts.targ_of (targ_head_tree head) ids }
+{
+    Targ {
+        place: head.place,
+        direction: head.direction,
+        variable: head.variable,
+        data_type: head.data_type.into_inner(),
+        ids,
+    }
+}
+
+// `targ`
+#[tactic(auto, unfolding(vh_syntax::specs::Items::targ, vh_syntax::specs::Items::targ_ids))]
+fn targ<'t>(alloc: Global, depth: usize, at: At<'t>) -> Read<'t, Targ>
+    ensures { Reads targ_tree depth parts.targ at.entry result }
+{
+    let (head, more) = targ_head(alloc, depth, at)?;
+    let (ids, rest) = targ_names(alloc, depth, head.variable, more)?;
+    Ok((targ_of(head, ids), rest))
+}
+
+// A list of one identifier.
+fn one_id(alloc: Global, id: Id) -> Result<Ids, Stop>
+    ensures { MatchResult result (λ ids. ids ≡ id ∷ []) (λ stop. stop ≡ Memory) }
+{
+    let mut ids = Items::new(alloc);
+    ids.push(id)?;
+    Ok(ids)
+}
+
+// `targ`, up to its first `ID`.
+#[tactic(auto, unfolding(vh_syntax::specs::Items::targ_one, vh_syntax::specs::Items::targ_id))]
+fn targ_one<'t>(alloc: Global, depth: usize, at: At<'t>) -> Read<'t, Argument>
+    ensures { Reads argument_tree depth parts.targ_one at.entry result }
+{
+    let (head, more) = targ_head(alloc, depth, at)?;
+    let (id, rest) = targ_id(alloc, head.variable, more)?;
+    let ids = one_id(alloc, id)?;
+    Ok((Argument { head, ids }, rest))
+}
+
+// A `targ` behind a comma, up to its first `ID`.
+fn next_head<'t>(alloc: Global, depth: usize, all: Arguments, at: At<'t>) -> Read<'t, Arguments>
+    ensures { let part = act (with_targ (targs_tree all)) parts.targ_one in
+        Reads targs_tree depth part at.entry result }
+{
+    let (next, rest) = targ_one(alloc, depth, at)?;
+    let Arguments { mut front, last } = all;
+    front.push(targ_of(last.head, last.ids))?;
+    Ok((Arguments { front, last: next }, rest))
+}
+
+// An `ID` behind a comma, which goes on with the `targ` before it.
+fn next_name<'t>(alloc: Global, all: Arguments, at: At<'t>) -> Read<'t, Arguments>
+    ensures { let s = targs_tree all in
+        let part = act (with_id s) (bare_id (targ_bare (s.last).variable)) in
+        Reads targs_tree 0 part at.entry result }
+{
+    let (id, rest) = targ_id(alloc, all.last.head.variable, at)?;
+    let mut all = all;
+    all.last.ids.push(id)?;
+    Ok((all, rest))
+}
+
+// `targ | ID`, behind a comma
+fn targ_or_name<'t>(alloc: Global, depth: usize, all: Arguments, at: At<'t>) -> Read<'t, Arguments>
+    ensures { Reads targs_tree depth (targ_or_name (targs_tree all)) at.entry result }
+{
+    if at.next_is(Class::Row(Rows::Targ)) {
+        return next_head(alloc, depth, all, at);
+    }
+    next_name(alloc, all, at)
+}
+
+// `"," ( targ | ID )`
+#[tactic(auto, unfolding(vh_syntax::specs::Items::next_targ))]
+fn next_targ<'t>(alloc: Global, depth: usize, all: Arguments, at: At<'t>) -> Read<'t, Arguments>
+    ensures { Reads targs_tree depth (parts.next_targ (targs_tree all)) at.entry result }
+{
+    let next = at.take(Class::Is(Sign::Comma))?;
+    targ_or_name(alloc, depth, all, next)
+}
+
+// `{ "," ( targ | ID ) }`
+fn more_targs<'t>(alloc: Global, depth: usize, first: Arguments, at: At<'t>) -> Read<'t, Arguments>
+    ensures { Reads targs_tree depth (more_targs (targs_tree first)) at.entry result }
+{
+    let mut all = first;
+    let mut rest = at;
+    'targs: while rest.next_is(Class::Is(Sign::Comma)) {
+        let (longer, end) = next_targ(alloc, depth, all, rest)?;
+        all = longer;
+        rest = end;
+    }
+    Ok((all, rest))
+}
+
+// `targs`
+#[tactic(auto, unfolding(vh_syntax::specs::Items::targs, vh_syntax::specs::Items::next_targs))]
+fn targs<'t>(alloc: Global, depth: usize, at: At<'t>) -> Read<'t, Items<Targ>>
+    ensures { Reads (map targ_tree) depth parts.targs at.entry result }
+{
+    let (last, more) = targ_one(alloc, depth, at)?;
+    let front = Items::new(alloc);
+    let (all, rest) = more_targs(alloc, depth, Arguments { front, last }, more)?;
+    let Arguments { mut front, last } = all;
+    front.push(targ_of(last.head, last.ids))?;
+    Ok((front, rest))
+}
+
+// `"(" targs ")"`
+fn targs_in_parens<'t>(alloc: Global, depth: usize, at: At<'t>) -> Read<'t, Items<Targ>>
+    ensures { Reads (map targ_tree) depth (in_parens parts.targs) at.entry result }
+{
+    let opened = at.take(Class::Is(Sign::LeftParen))?;
+    let (all, closing) = targs(alloc, depth, opened)?;
+    let (all, rest) = then_sign(all, Sign::RightParen, closing)?;
+    Ok((all, rest))
+}
+
+/// `[ "(" targs ")" ]`: nothing is no arguments (IEEE 1364-2005, A.2.6 and A.2.7).
+pub fn maybe_targs<'t>(alloc: Global, depth: usize, at: At<'t>) -> Read<'t, Items<Targ>>
+    ensures { Reads (map targ_tree) depth parts.maybe_targs at.entry result }
+{
+    if !at.next_is(Class::Is(Sign::LeftParen)) {
+        return Ok((Items::new(alloc), at));
+    }
+    targs_in_parens(alloc, depth, at)
+}
+
+// `targ ";"`
+fn ended_targ<'t>(alloc: Global, depth: usize, at: At<'t>) -> Read<'t, Targ>
+    ensures { Reads targ_tree depth (ended parts.targ) at.entry result }
+{
+    let (targ, more) = targ(alloc, depth, at)?;
+    let (targ, rest) = then_sign(targ, Sign::Semicolon, more)?;
+    Ok((targ, rest))
+}
+
+// `targ ";" | decl`
+#[tactic(auto, unfolding(vh_syntax::specs::Items::local))]
+fn local<'t>(alloc: Global, depth: usize, at: At<'t>) -> Read<'t, Local>
+    ensures { Reads local_tree depth parts.local at.entry result }
+{
+    if at.next_is(Class::Row(Rows::Targ)) {
+        let (targ, rest) = ended_targ(alloc, depth, at)?;
+        return Ok((Local::Targ(targ), rest));
+    }
+    let (decl, rest) = declaration(alloc, depth, at)?;
+    Ok((Local::Decl(decl), rest))
+}
+
+/// `{ targ ";" | decl }` (IEEE 1364-2005, A.2.6 and A.2.7)
+pub fn locals<'t>(alloc: Global, depth: usize, at: At<'t>) -> Read<'t, Items<Local>>
+    ensures { Reads (map local_tree) depth locals at.entry result }
+{
+    let mut all = Items::new(alloc);
+    let mut rest = at;
+    'all: while rest.next_is(Class::Among(Group::Local)) {
+        let (next, end) = local(alloc, depth, rest)?;
+        all.push(next)?;
+        rest = end;
+    }
+    Ok((all, rest))
+}
