@@ -1,0 +1,117 @@
+//! Items in a row, with the words of `generate` regions among them: how far a row has come.
+
+ghost use Rattle.std.specs.Prelude.{◌-◌, ◌<◌, ◌≡◌};
+ghost use Rattle.vh_grammar.specs.Part.{act};
+ghost use Rattle.vh_grammar.specs.Reading.{next_is};
+ghost use Rattle.vh_grammar.specs.Marking.{mark_at};
+ghost use Rattle.vh_syntax.specs.declared.sign.Sign.TheVariants as signs;
+ghost use Rattle.vh_syntax.specs.Parts.{at_the};
+ghost use Rattle.vh_syntax.specs.Items as parts;
+ghost use Rattle.vh_syntax.specs.Items.{shows_item, region_goes, with_generate, with_endgenerate};
+ghost use Rattle.vh_parse_expr.specs.Views.{Reads, tokens_seen};
+ghost use Rattle.vh_parse_items.specs.Pieces.{written_name};
+ghost use Rattle.vh_parse_items.specs.Views.{region_tree, items_seen};
+
+use crate::made;
+use sqlite_items::Items;
+use std::alloc::Global;
+use vh_ast::{Id, Item};
+use vh_grammar::Stop;
+use vh_parse_expr::{At, Read, id, sign};
+use vh_syntax::{Class, Group, Sign, Start};
+
+// How many regions are open, and the items so far.
+#[derive(Drop)]
+pub(crate) struct Region {
+    pub open: usize,
+    pub items: Items<Item>,
+}
+
+// The cursor, where an item may be next that is left out.
+pub(crate) fn no_hidden<'t>(at: At<'t>) -> At<'t>
+    ensures tokens { result.tokens.now ≡ at.entry.tokens.now }
+    ensures mark { let seen = tokens_seen at.entry.tokens.now in
+        result.mark ≡ mark_at seen (next_is shows_item seen) at.entry.mark }
+{
+    at.marked(at.tokens, at.next_is(Class::Among(Group::Hidden)))
+}
+
+// An item could begin here.
+pub(crate) fn item_here<'t>(at: At<'t>) -> Read<'t, ()>
+    ensures { Reads (λ u. u) 0 parts.item_here at.entry result }
+{
+    Ok(((), no_hidden(at)))
+}
+
+// `"generate"`. There are never more regions open than tokens, so that the count doesn't overflow.
+pub(crate) fn opened<'t>(region: Region, at: At<'t>) -> Read<'t, Region>
+    ensures { let part = act (with_generate (region_tree region)) (at_the (signs.Generate)) in
+        Reads region_tree 0 part at.entry result }
+{
+    let (place, rest) = sign(Sign::Generate, at)?;
+    let Some(open) = region.open.checked_add(1) else {
+        return Err(Stop::Memory);
+    };
+    let mut region = region;
+    made::with_generate(&mut region.items, place)?;
+    region.open = open;
+    Ok((region, rest))
+}
+
+// `"endgenerate"`, where a region is open.
+pub(crate) fn closed<'t>(region: Region, at: At<'t>) -> Read<'t, Region>
+    requires { 0 < region.open }
+    ensures { let made = with_endgenerate (region.open - 1) (region_tree region) in
+        let part = act made (at_the (signs.Endgenerate)) in
+        Reads region_tree 0 part at.entry result }
+{
+    let (place, rest) = sign(Sign::Endgenerate, at)?;
+    let mut region = region;
+    made::with_endgenerate(&mut region.items, place)?;
+    region.open -= 1;
+    Ok((region, rest))
+}
+
+// Whether items go on, with so many regions open.
+pub(crate) fn region_goes(regions: usize, at: At<'_>) -> bool
+    ensures { result ≡ next_is (region_goes regions) (tokens_seen at.entry.tokens.now) }
+{
+    if at.next_is(Class::Is(Sign::Generate)) {
+        return true;
+    }
+    if regions > 0 && at.next_is(Class::Is(Sign::Endgenerate)) {
+        return true;
+    }
+    at.next_is(Class::Begins(Start::Item))
+}
+
+// Whether the items of a block go on, with so many regions open: up to the end of the last one.
+pub(crate) fn within_goes(regions: usize, at: At<'_>) -> bool
+    ensures { result ≡ next_is (parts.within_goes regions) (tokens_seen at.entry.tokens.now) }
+{
+    regions > 0 && region_goes(regions, at)
+}
+
+// The end of items: each region is closed.
+#[tactic(auto, unfolding(vh_syntax::specs::Items::region_end))]
+pub(crate) fn region_end<'t>(depth: usize, region: Region, at: At<'t>) -> Read<'t, Items<Item>>
+    ensures { let part = parts.region_end region.open (region_tree region) in
+        Reads items_seen depth part at.entry result }
+{
+    if region.open > 0 {
+        return Err(at.lost());
+    }
+    Ok((region.items, at))
+}
+
+// `[ ":" ID ]`
+pub(crate) fn written_name<'t>(alloc: Global, at: At<'t>) -> Read<'t, Option<Id>>
+    ensures { Reads (λ name. name) 0 written_name at.entry result }
+{
+    if !at.next_is(Class::Is(Sign::Colon)) {
+        return Ok((None, at));
+    }
+    let named = at.take(Class::Is(Sign::Colon))?;
+    let (id, rest) = id(alloc, named)?;
+    Ok((Some(id), rest))
+}
