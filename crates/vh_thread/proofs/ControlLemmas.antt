@@ -12,7 +12,7 @@ use Rattle.vh_code.specs.declared.code.Goes.TheVariants as goes
 use Rattle.vh_design.specs.Shape.{Shape}
 use Rattle.vh_thread.specs.declared.call.Call.{Call}
 use Rattle.vh_thread.specs.declared.call.Repeat.{Repeat}
-use Rattle.vh_thread.specs.Control.{Control, Runs, HasBody, gone, goes_on, behind, turned, outermost, or_these, is_within, is_call_of, disabled, left, left_task, left_block, blocks_of, block_around, gone_past, repeats_within, code_of}
+use Rattle.vh_thread.specs.Control.{Control, Runs, HasBody, gone, goes_on, behind, turned, outermost, or_these, is_within, is_call_of, disabled, left, left_task, left_block, blocks_of, block_around, gone_past, repeats_within, code_of, without_block, in_block, standing_in}
 use Rattle.vh_thread.proofs.LastLemmas.{Apart, apart, reverse-apart, last-at, last-set, each-back, each-turned, each-taken, each-last, filter-turned}
 
 -- The innermost call goes on at a place.
@@ -34,6 +34,31 @@ pub to-none : (d : Shape) (root k : ℕ) (xs : List Call) → length xs ≡ 0 �
 unfolding gone
 to-none d root k [] none = refl
 to-none d root k (x ∷ xs) none = absurd (omega (arith, none))
+
+-- It stands in a block.
+pub block-last : (block : Option ℕ) (n : ℕ) (xs : List Call) (c : Call) → n ≡ length xs - 1 → 0 < length xs → c ≡ slice_index_or xs n c
+    → reverse (slice_set xs n (record c { block = block })) ≡ in_block block (reverse xs)
+block-last block n xs c is some at = by (apart xs some)
+  where
+    by : Apart xs → reverse (slice_set xs n (record c { block = block })) ≡ in_block block (reverse xs)
+    by a =
+        let here : n ≡ length (a.front ++ a.last ∷ []) - 1 = is ∙ ap (λ (ys : List Call). length ys - 1) a.is in
+        let same : c ≡ a.last = at ∙ ap (λ (ys : List Call). slice_index_or ys n c) a.is ∙ last-at a.front a.last c n here in
+        ap (λ (ys : List Call). reverse (slice_set ys n (record c { block = block }))) a.is
+        ∙ last-set a.front a.last (record c { block = block }) n here
+        ∙ ap (λ (e : Call). (let f : Call = record e { block = block } in f) ∷ reverse a.front) same
+        ∙ sym (ap (in_block block) (ap reverse a.is ∙ reverse-apart a.front a.last))
+
+pub block-none : (block : Option ℕ) (xs : List Call) → length xs ≡ 0 → reverse xs ≡ in_block block (reverse xs)
+block-none block [] none = refl
+block-none block (x ∷ xs) none = absurd (omega (arith, none))
+
+bodies-in : (d : Shape) (block : Option ℕ) (cs : List Call) → AllByRecursion (HasBody d) cs → AllByRecursion (HasBody d) (in_block block cs)
+bodies-in d block [] all = tt
+bodies-in d block (c ∷ cs) all = all
+
+pub runs-in : (d : Shape) (block : Option ℕ) (t : Control) → Runs d t → Runs d (standing_in block t)
+runs-in d block t runs = record { root = runs.root; calls = bodies-in d block t.calls runs.calls }
 
 -- It goes back.
 pub back-more : (d : Shape) (root m n k : ℕ) (xs ys : List Call) (o : Option Call) (c : Call)
@@ -207,9 +232,9 @@ pub block-left : (d : Shape) (target root outer n : ℕ) (xs ys : List Call) (rs
     → reverse (take n xs) ≡ outermost (is_within d root target) (reverse xs)
     → Innermost ys c → is_call_of target c ≡ false → bs ≡ blocks_of d root c → Some b ≡ block_around d root target c
     → ss ≡ filter (λ r. not (repeats_within bs n target r)) rs
-    → goes_on d b.after (control root outer (reverse ys) (reverse ss)) ≡ disabled d target t
+    → without_block d b (control root outer (reverse ys) (reverse ss)) ≡ disabled d target t
 block-left d target root outer n xs ys rs ss c t bs b is taken many found inner other blocks around kept =
-    ap (λ (zs : List Repeat). goes_on d b.after (control root outer (reverse ys) zs))
+    ap (λ (zs : List Repeat). without_block d b (control root outer (reverse ys) zs))
     (ap reverse kept ∙ filter-turned (λ r. not (repeats_within bs n target r)) rs
     ∙ ap (λ (m : ℕ). filter (λ r. not (repeats_within bs m target r)) (reverse rs)) (many ∙ sym (length-reverse ys))
     ∙ ap (λ (cs : List Block). filter (λ r. not (repeats_within cs (length (reverse ys)) target r)) (reverse rs)) blocks)
@@ -261,7 +286,7 @@ pub block-cut : (d : Shape) (target root outer n : ℕ) (xs ys : List Call) (rs 
     → control root outer (reverse xs) (reverse rs) ≡ t → Cut d target root n xs ys c → is_call_of target c ≡ false
     → code_of d root c.routine ≡ Some code → bs ≡ code.blocks → Some b ≡ block_around d root target c
     → ss ≡ filter (λ r. not (repeats_within bs n target r)) rs
-    → goes_on d b.after (control root outer (reverse ys) (reverse ss)) ≡ disabled d target t
+    → without_block d b (control root outer (reverse ys) (reverse ss)) ≡ disabled d target t
 block-cut d target root outer n xs ys rs ss c t code bs b is k other there blocks around kept =
     block-left d target root outer n xs ys rs ss c t bs b is k.taken k.many k.found k.inner other
     (blocks ∙ sym (ap (λ (o : Option Code). unwrap_or (option_map (λ (e : Code). e.blocks) o) []) there)) around kept

@@ -59,7 +59,7 @@ abbrev pub start_of : Shape → ℕ → Option ℕ → Goes
 start_of d root routine = unwrap_or (option_map (λ k. k.start) (code_of d root routine)) goes.Back
 
 abbrev pub call_at : Option ℕ → ℕ → Call
-call_at routine k = record { routine = routine; place = k }
+call_at routine k = record { routine = routine; place = k; block = None }
 
 abbrev pub started : Shape → ℕ → Option ℕ → List Call → List Call
 started d root routine cs = gone d root (start_of d root routine) (call_at routine 0 ∷ cs)
@@ -71,6 +71,21 @@ process_of d p = record { root = p; outer = 0; calls = started d p None []; repe
 -- How many calls it is in, with those around it where it began. (own)
 abbrev pub depth_of : Control → ℕ
 depth_of t = t.outer + (length t.calls - 1)
+
+-- The innermost call is in that block of its code. A thread that performs a label is in the block of its instruction,
+-- and stays there while it waits. (own)
+abbrev pub in_block : Option ℕ → List Call → List Call
+in_block block [] = []
+in_block block (c ∷ cs) = record c { block = block } ∷ cs
+
+abbrev pub block_at : Option Instruction → Option ℕ
+block_at i = option_and_then (λ j. j.block) i
+
+abbrev pub standing_in : Option ℕ → Control → Control
+standing_in block t = record t { calls = in_block block t.calls }
+
+abbrev pub arrived : Shape → Control → Control
+arrived d t = standing_in (block_at (next_of d t)) t
 
 -- A branch of a fork that it stands at. (9.8.2; own: the number of nested calls is that of the parent)
 abbrev pub routine_of : Control → Option ℕ
@@ -114,11 +129,8 @@ is_call_of target c = is_routine target c.routine
 abbrev pub blocks_of : Shape → ℕ → Call → List Block
 blocks_of d root c = unwrap_or (option_map (λ k. k.blocks) (code_of d root c.routine)) []
 
-abbrev pub inner_block : Shape → ℕ → Call → Option ℕ
-inner_block d root c = option_and_then (λ i. i.block) (instruction_of d root c)
-
 abbrev pub block_around : Shape → ℕ → ℕ → Call → Option Block
-block_around d root target c = block_of (blocks_of d root c) target (inner_block d root c)
+block_around d root target c = block_of (blocks_of d root c) target c.block
 
 abbrev pub is_within : Shape → ℕ → ℕ → Call → Bool
 is_within d root target c = is_call_of target c || is_some (block_around d root target c)
@@ -155,12 +167,15 @@ left_task d cs t = record t {
   repeats = filter (λ r. nat_lt r.depth (length cs)) t.repeats;
 }
 
+abbrev pub without_block : Shape → Block → Control → Control
+without_block d b t = goes_on d b.after (standing_in b.around t)
+
 abbrev pub left_block : Shape → ℕ → List Call → List Block → Option Block → Control → Control
 left_block d target cs bs None t = record t { calls = cs }
-left_block d target cs bs (Some b) t = record t {
-  calls = gone d t.root b.after cs;
+left_block d target cs bs (Some b) t = without_block d b (record t {
+  calls = cs;
   repeats = filter (λ r. not (repeats_within bs (length cs) target r)) t.repeats;
-}
+})
 
 abbrev pub left : Shape → ℕ → Control → List Call → Control
 left d target t [] = t

@@ -13,6 +13,8 @@ pub struct Call {
     pub routine: Option<ObjId>,
     /// The instruction that comes next, or the one of the call inside.
     pub place: u32,
+    /// The innermost block of its code that it is in: that of the last label, where it waits.
+    pub block: Option<u32>,
 }
 
 /// A `repeat` that a thread is inside.

@@ -59,8 +59,7 @@ pub(crate) fn block_around(d: &Design, root: ProcId, target: ObjId, call: &Call)
     ensures { result ≡ block_around d.now root target call.now }
 {
     let code = code_of(d, root, call.routine);
-    let instruction = code.instructions.as_slice().get(call.place as usize)?;
-    block_of(code.blocks.as_slice(), target, instruction.block)
+    block_of(code.blocks.as_slice(), target, call.block)
 }
 
 // Is the call inside the block or task?
@@ -77,7 +76,8 @@ pub(crate) fn up_to_outermost(d: &Design, root: ProcId, target: ObjId, calls: &[
     requires root { root < length (d.now).codes }
     requires bodies { AllByRecursion (HasBody d.now) calls.now }
     ensures most { result ≤ length calls.now }
-    ensures found { reverse (take result calls.now) ≡ outermost (is_within d.now root target) (reverse calls.now) }
+    ensures found { reverse (take result calls.now)
+        ≡ outermost (is_within d.now root target) (reverse calls.now) }
 {
     for k in 0..calls.len() {
         if is_within(d, root, target, &calls[k]) {

@@ -141,10 +141,11 @@ enum Does {
     Repeats(Option<u32>, u64),
     Turns,
     Disables(u32),
+    IsDisabled(u32),
     Forks(u32),
 }
 
-use Does::{Calls, Disables, Forks, Repeats, Turns};
+use Does::{Calls, Disables, Forks, IsDisabled, Repeats, Turns};
 
 fn has_body(d: &Design, t: ObjId) -> bool
     ensures { result ≡ has_body (d.now).objects t }
@@ -152,12 +153,15 @@ fn has_body(d: &Design, t: ObjId) -> bool
     t.number() < d.counts().objects && d.object(t).detail.body().is_some()
 }
 
-// Does this to a thread, and answers what it answers: whether a call was begun, a turn taken, or the
-// thread inside what is disabled.
+// Does this to a thread by a label of its own, but for a disable by another thread, and answers what it
+// answers: whether a call was begun, a turn taken, or the thread inside what is disabled.
 fn perform(alloc: Global, d: &Design, thread: &mut Thread, action: Does) -> Result<bool, NoMemory>
     requires { Runs d.now thread.old }
     ensures { Runs d.now thread.new }
 {
+    if !matches!(action, IsDisabled(_)) {
+        thread.arrive(d);
+    }
     match action {
         Does::Goes(goes) => thread.go_on(d, goes),
         Calls(routine) => {
@@ -173,7 +177,7 @@ fn perform(alloc: Global, d: &Design, thread: &mut Thread, action: Does) -> Resu
         }
         Repeats(block, left) => thread.begin_repeat(block, left)?,
         Turns => return Ok(thread.take_turn()),
-        Disables(target) => {
+        Disables(target) | IsDisabled(target) => {
             let target = ObjId::new(target);
             let inside = thread.is_inside(d, target);
             thread.disable(d, target);
@@ -245,7 +249,18 @@ fn disables(rt: HostRuntime) -> Result<(), Fail> {
     let alloc = rt.alloc();
     let d = design(alloc)?.expect(&rt, "every rule is kept");
     let to = |place| Does::Goes(Goes::To(place));
-    let rows: [(&[Does], (bool, Option<u32>)); 15] = [
+    let rows: [(&[Does], (bool, Option<u32>)); 21] = [
+        // By another thread: one that hasn't begun is in no block, and one that waits is where it waits.
+        (&[IsDisabled(OUTER)], (false, Some(0))),
+        (&[to(2), IsDisabled(INNER)], (false, Some(2))),
+        (&[to(2), IsDisabled(OUTER)], (true, Some(3))),
+        (&[to(3), IsDisabled(OUTER)], (true, Some(3))),
+        (&[to(2), to(3), IsDisabled(INNER)], (true, Some(3))),
+        (
+            &[to(2), to(2), IsDisabled(INNER), IsDisabled(INNER)],
+            (false, Some(3)),
+        ),
+        // By itself.
         (&[Disables(INNER)], (false, Some(0))),
         (&[to(2), Disables(INNER)], (true, Some(3))),
         (&[to(2), Disables(OUTER)], (true, Some(3))),

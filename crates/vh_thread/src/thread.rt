@@ -1,7 +1,7 @@
 ghost use Rattle.std.specs.Prelude.{◌≡◌, ◌<◌, ◌≤◌, length, option_copied, true, IfOk, OnOk, OnErr, IfErr};
 ghost use Rattle.vh_nodes.specs.Fits.{has_body};
 ghost use Rattle.vh_design.specs.Shape.{Shape};
-ghost use Rattle.vh_thread.specs.Control.{Runs, HasCause, has_turn, next_of, process_of, branch_of, goes_on, called, is_inside, disabled, repeat_turned, repeating, depth_of, routine_of, gone_past};
+ghost use Rattle.vh_thread.specs.Control.{Runs, HasCause, has_turn, next_of, process_of, branch_of, goes_on, called, is_inside, disabled, repeat_turned, repeating, depth_of, routine_of, gone_past, arrived, standing_in, without_block};
 
 use crate::call::{Call, CallFault, MOST_CALLS, Repeat};
 use crate::place::{
@@ -10,7 +10,7 @@ use crate::place::{
 use std::alloc::Global;
 use std::marker::Model;
 use vh_base::{NoMemory, ObjId, ProcId};
-use vh_design::{Design, Goes, Instruction};
+use vh_design::{Block, Design, Goes, Instruction};
 
 /// A process, or a branch of a `fork`, which contracts see as its `Control`.
 #[derive(Drop)]
@@ -48,6 +48,7 @@ impl Thread {
         thread.calls.push(Call {
             routine: None,
             place: 0,
+            block: None,
         })?;
         thread.go_on(d, start_of(d, p, None));
         Ok(thread)
@@ -62,6 +63,7 @@ impl Thread {
         calls.push(Call {
             routine: self.routine(),
             place,
+            block: None,
         })?;
         Ok(Thread {
             root: self.root,
@@ -94,6 +96,21 @@ impl Thread {
         let call = self.calls.last()?;
         let code = code_of(d, self.root, call.routine);
         code.instructions.as_slice().get(call.place as usize)
+    }
+
+    /// It performs the label that comes next, so it is in the block of that instruction, also
+    /// while it waits
+    /// then.
+    pub fn arrive(&mut self, d: &Design)
+        requires { Runs d.now self.old }
+        ensures arrived { self.new ≡ arrived d.now self.old }
+        ensures runs { Runs d.now self.new }
+    {
+        let block = match self.next(d) {
+            Some(instruction) => instruction.block,
+            None => None,
+        };
+        self.stand_in(block);
     }
 
     /// It goes on there.
@@ -134,6 +151,7 @@ impl Thread {
         let pushed = self.calls.push(Call {
             routine: Some(routine),
             place: 0,
+            block: None,
         });
         if pushed.is_err() {
             return Err(CallFault::NoMemory);
@@ -179,7 +197,8 @@ impl Thread {
         up_to_outermost(d, self.root, target, &self.calls) > 0
     }
 
-    /// The named block or task is disabled: where it is inside, it goes on behind the outermost such block
+    /// The named block or task is disabled: where it is inside, it goes on behind the outermost
+    /// such block
     /// or call (IEEE 1364-2005, 10.3).
     pub fn disable(&mut self, d: &Design, target: ObjId)
         requires { Runs d.now self.old }
@@ -205,8 +224,29 @@ impl Thread {
             let blocks = code_of(d, self.root, call.routine).blocks.as_slice();
             self.repeats
                 .retain(|repeat| !is_repeat_within(blocks, depth, target, repeat));
-            self.go_on(d, block.after);
+            self.leave_block(d, &block);
         }
+    }
+
+    // It goes on behind this block of its code, in the one around it.
+    fn leave_block(&mut self, d: &Design, block: &Block)
+        requires { Runs d.now self.old }
+        ensures left { self.new ≡ without_block d.now block.now self.old }
+        ensures runs { Runs d.now self.new }
+    {
+        self.stand_in(block.around);
+        self.go_on(d, block.after);
+    }
+
+    // The innermost call is in this block of its code.
+    fn stand_in(&mut self, block: Option<u32>)
+        ensures stands { self.new ≡ standing_in block self.old }
+        ensures runs { (d : Shape) → Runs d self.old → Runs d self.new }
+    {
+        let Some(call) = self.calls.last_mut() else {
+            return;
+        };
+        call.block = block;
     }
 
     // It goes on behind the instruction at which it stands, without its label.

@@ -34,15 +34,20 @@ block_around-requires-clause-body c =
     body-cut c.args.d.now c.args.self.now c.up_to_outermost-depth.result c.self.inside.calls.items c.truncate.new.self.items c.deref-2.result.now c.in-Some.call.now
     c.requires (ap (λ (q : Control). q.calls) c.self.view_is) c.truncate.ensures.items c.deref-2.ensures.value c.in-Some.ensures.item.3.0 c.in-Some.ensures.item.1
 
-pub go_on-requires-in-Some-block_around : goal.go_on-requires-in-Some-block_around
-go_on-requires-in-Some-block_around c =
+pub code_of-requires-clause-body : goal.code_of-requires-clause-body
+code_of-requires-clause-body c =
+    body-cut c.args.d.now c.args.self.now c.up_to_outermost-depth.result c.self.inside.calls.items c.truncate.new.self.items c.deref-2.result.now c.in-Some.call.now
+    c.requires (ap (λ (q : Control). q.calls) c.self.view_is) c.truncate.ensures.items c.deref-2.ensures.value c.in-Some.ensures.item.3.0 c.in-Some.ensures.item.1
+
+pub leave_block-requires : goal.leave_block-requires
+leave_block-requires c =
     let i = c.self.inside in
     runs-taken c.args.d.now c.args.self.now i.root i.outer _ i.calls.items c.truncate.new.self.items _ _ c.requires c.self.view_is c.truncate.ensures.items
 
 pub returns-in-Some-block_around-clause-disabled : goal.returns-in-Some-block_around-clause-disabled
 returns-in-Some-block_around-clause-disabled c =
     let i = c.self.inside in
-    c.go_on-in-Some-block_around.ensures.on
+    c.leave_block.ensures.left
     ∙ block-cut c.args.d.now c.args.target i.root i.outer c.up_to_outermost-depth.result i.calls.items c.truncate.new.self.items i.repeats.items
     c.retain-in-Some-block_around.new.self.items c.in-Some.call.now c.args.self.now c.code_of.result.now c.as_slice-blocks.result.now c.in-Some-block_around.block c.self.view_is
     (cut c.args.d.now c.args.target i.root _ i.calls.items c.truncate.new.self.items c.deref.result.now c.deref-2.result.now c.in-Some.call.now
