@@ -1,0 +1,4 @@
+-- How many digits targets have
+mod PiecesLemmas
+-- Digits that are put into others, and values that are the same
+mod AssignedLemmas
