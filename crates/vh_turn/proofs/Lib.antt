@@ -1,0 +1,2 @@
+-- The widths of a `case`, its subject and its labels
+mod CaseLemmas
