@@ -1,0 +1,13 @@
+use Rattle.std.proofs.Common.{◌≡◌, drop}
+use Rattle.vh_design.specs.Shape.{Shape}
+use Rattle.vh_proc.specs.Processes.{AllRun, queued, branches_begun}
+use Rattle.vh_proc.proofs.threads.Threads.begin_branches.Given as goal
+
+-- The branches that are left, behind those that have begun, are all.
+abbrev pub invariant-loop-place : goal.invariant-loop-place
+invariant-loop-place l = record {
+  begun : branches_begun l.p (drop l.place-index l.places) (queued l.self l.q)
+      ≡ branches_begun l.p l.places (queued l.initial.self l.initial.q);
+  runs : (d : Shape) → AllRun d l.initial.self → AllRun d l.self;
+  now : l.q.time ≡ l.initial.q.time;
+}

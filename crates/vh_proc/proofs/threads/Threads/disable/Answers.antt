@@ -1,0 +1,7 @@
+use Rattle.vh_proc.proofs.threads.Threads.disable.Goals as goal
+
+pub leave_all-requires : goal.leave_all-requires
+leave_all-requires c = c.end_all.ensures.runs c.args.d.now c.pass.ensures.runs
+
+pub returns-clause-runs : goal.returns-clause-runs
+returns-clause-runs c = c.in_ok-resume_all.ensures.runs c.args.d.now c.leave_all.ensures.runs

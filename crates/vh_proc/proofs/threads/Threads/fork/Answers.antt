@@ -1,0 +1,4 @@
+use Rattle.vh_proc.proofs.threads.Threads.fork.Goals as goal
+
+pub returns-clause-runs : goal.returns-clause-runs
+returns-clause-runs c = c.begin_branches.ensures.runs c.args.d.now (c.wait_for.ensures.runs c.args.d.now c.requires.runs)

@@ -1,0 +1,12 @@
+use Rattle.std.proofs.Common.{◌≡◌, sym, subst, rules}
+use Rattle.vh_design.specs.Shape.{Shape}
+use Rattle.vh_proc.specs.contracts.threads.Threads.{the_view}
+use Rattle.vh_proc.specs.Processes.{AllRun, changed, with_left}
+use Rattle.vh_proc.proofs.RunsLemmas.{runs-changed}
+use Rattle.vh_proc.proofs.threads.Threads.wait_for.Goals as goal
+
+pub returns-clause-runs : goal.returns-clause-runs
+returns-clause-runs c =
+    λ (d : Shape) runs.
+    let is : the_view c.match-get_mut.self-inside ≡ changed c.args.p (with_left c.args.count) c.args.self.now = search rules in
+    subst (AllRun d) (sym is) (runs-changed d c.args.p _ c.args.self.now runs (λ t own. own))

@@ -1,0 +1,239 @@
+ghost use Rattle.std.specs.Prelude.{◌≡◌, Ok, IfOk, IfErr, OnOk};
+ghost use Rattle.vh_sense.specs.Sensitivity.{without_wait};
+ghost use Rattle.vh_thread.specs.Control.{Runs};
+ghost use Rattle.vh_proc.specs.Processes.{AllRun, process_at, queued, scheduled};
+ghost use Rattle.vh_proc.specs.Disabled.{is_among, begun_by, with_stopped, stopped, without_entry, ended_in, left_in, all_ended, all_left, resumed_but, all_resumed};
+ghost use Rattle.vh_design.specs.Shape.{Shape};
+ghost use Rattle.vh_proc.specs.Steps.{before_disable, disabled_by, after_disable};
+ghost use Rattle.vh_proc.specs.Views.{found_seen};
+ghost use Rattle.vh_turn.specs.Own.{FailsBy};
+
+use crate::threads::Threads;
+use std::alloc::Global;
+use vh_base::{NoMemory, ObjId, ProcId};
+use vh_design::{Design, Goes};
+use vh_queue::Queue;
+use vh_sense::Sense;
+use vh_turn::{Next, Process, StepFault};
+
+// The processes that a disable stops, by rising number: those that end, and those that leave.
+#[derive(Drop)]
+pub(crate) struct Stopped {
+    ends: Vec<u64>,
+    leaves: Vec<u64>,
+}
+
+// Is a number among these?
+fn has(numbers: &[u64], p: u64) -> bool
+    ensures { result ≡ is_among numbers.now p }
+{
+    numbers.iter().any(|q| *q == p)
+}
+
+impl Stopped {
+    // Has one of these begun it?
+    fn has_begun(&self, process: &Process) -> bool
+        ensures { result ≡ begun_by (found_seen self.now) process.now }
+    {
+        let Some(parent) = process.parent else {
+            return false;
+        };
+        has(&self.ends, parent.number()) || has(&self.leaves, parent.number())
+    }
+
+    // Notes a process, where it is stopped.
+    fn note(&mut self, d: &Design, target: ObjId, p: u64, process: &Process) -> Result<(), NoMemory>
+        requires { Runs d.now (process.now).thread }
+        ensures { OnOk result (found_seen self.new
+            ≡ with_stopped d.now target (found_seen self.old) p process.now) }
+    {
+        if self.has_begun(process) {
+            self.ends.push(p)?;
+        } else if process.thread.is_inside(d, target) {
+            self.leaves.push(p)?;
+        }
+        Ok(())
+    }
+}
+
+// A process waits for nothing any more.
+fn halt(sense: &mut Sense, q: &mut Queue, p: ProcId, process: &Process)
+    ensures wait { sense.new ≡ without_wait p sense.old }
+    ensures entry { q.new ≡ without_entry (process.now).entry q.old }
+    ensures kept { (sense.new).waits ≡ (sense.old).waits }
+    ensures now { (q.new).time ≡ (q.old).time }
+{
+    sense.forget(p);
+    if let Some(serial) = process.entry {
+        q.cancel(serial);
+    }
+}
+
+impl Threads {
+    // The processes that a disable stops.
+    #[tactic(auto, unfolding(crate::specs::Disabled::stopped_of))]
+    fn stopped(&self, alloc: Global, d: &Design, target: ObjId) -> Result<Stopped, NoMemory>
+        requires { AllRun d.now self.now }
+        ensures { IfOk result (λ found. found_seen found ≡ stopped d.now target self.now) }
+    {
+        let mut found = Stopped {
+            ends: Vec::new(alloc),
+            leaves: Vec::new(alloc),
+        };
+        for (p, process) in self.all.iter() {
+            found.note(d, target, *p, process)?;
+        }
+        Ok(found)
+    }
+
+    // A process ends.
+    fn end_one(&mut self, sense: &mut Sense, q: &mut Queue, p: u64)
+        ensures ended { scheduled self.new sense.new q.new
+            ≡ ended_in (process_at p self.old) p (scheduled self.old sense.old q.old) }
+        ensures waits { (sense.new).waits ≡ (sense.old).waits }
+        ensures now { (q.new).time ≡ (q.old).time }
+        ensures runs { (d : Shape) → AllRun d self.old → AllRun d self.new }
+    {
+        if let Some(process) = self.all.remove(&p) {
+            halt(sense, q, ProcId::new(p), &process);
+        }
+    }
+
+    // A process leaves the block or task.
+    fn leave_one(&mut self, d: &Design, target: ObjId, sense: &mut Sense, q: &mut Queue, p: u64)
+        requires { AllRun d.now self.old }
+        ensures left { scheduled self.new sense.new q.new
+            ≡ left_in d.now target (process_at p self.old) p (scheduled self.old sense.old q.old) }
+        ensures waits { (sense.new).waits ≡ (sense.old).waits }
+        ensures now { (q.new).time ≡ (q.old).time }
+        ensures runs { AllRun d.now self.new }
+    {
+        if let Some(process) = self.all.get_mut(&p) {
+            halt(sense, q, ProcId::new(p), process);
+            process.thread.disable(d, target);
+            process.left = 0;
+            process.entry = None;
+        }
+    }
+
+    // These processes end.
+    #[tactic(auto, unfolding(crate::specs::Disabled::all_ended))]
+    fn end_all(&mut self, sense: &mut Sense, q: &mut Queue, ends: &[u64])
+        ensures ended { scheduled self.new sense.new q.new
+            ≡ all_ended ends.now (scheduled self.old sense.old q.old) }
+        ensures waits { (sense.new).waits ≡ (sense.old).waits }
+        ensures now { (q.new).time ≡ (q.old).time }
+        ensures runs { (d : Shape) → AllRun d self.old → AllRun d self.new }
+    {
+        for p in ends {
+            self.end_one(sense, q, *p);
+        }
+    }
+
+    // These leave the block or task.
+    #[tactic(auto, unfolding(crate::specs::Disabled::all_left))]
+    fn leave_all(
+        &mut self,
+        d: &Design,
+        target: ObjId,
+        sense: &mut Sense,
+        q: &mut Queue,
+        leaves: &[u64],
+    )
+        requires { AllRun d.now self.old }
+        ensures left { scheduled self.new sense.new q.new
+            ≡ all_left d.now target leaves.now (scheduled self.old sense.old q.old) }
+        ensures waits { (sense.new).waits ≡ (sense.old).waits }
+        ensures now { (q.new).time ≡ (q.old).time }
+        ensures runs { AllRun d.now self.new }
+    {
+        for p in leaves {
+            self.leave_one(d, target, sense, q, *p);
+        }
+    }
+
+    // A process gets an evaluation entry, where it isn't the one that executes the disable.
+    fn resume_but(&mut self, q: &mut Queue, own: ProcId, p: u64) -> Result<(), StepFault>
+        ensures done { OnOk result (resumed_but own p (queued self.old q.old)
+            ≡ Ok (queued self.new q.new)) }
+        ensures fails { IfErr result (FailsBy (resumed_but own p (queued self.old q.old))) }
+        ensures now { (q.new).time ≡ (q.old).time }
+        ensures runs { (d : Shape) → AllRun d self.old → OnOk result (AllRun d self.new) }
+    {
+        if p == own.number() {
+            return Ok(());
+        }
+        self.resume(q, ProcId::new(p))
+    }
+
+    // Each of these does so.
+    #[tactic(auto, unfolding(crate::specs::Disabled::all_resumed))]
+    fn resume_all(&mut self, q: &mut Queue, own: ProcId, leaves: &[u64]) -> Result<(), StepFault>
+        ensures done { OnOk result (all_resumed own leaves.now (queued self.old q.old)
+            ≡ Ok (queued self.new q.new)) }
+        ensures fails { IfErr result (FailsBy (all_resumed own leaves.now
+            (queued self.old q.old))) }
+        ensures now { (q.new).time ≡ (q.old).time }
+        ensures runs { (d : Shape) → AllRun d self.old → OnOk result (AllRun d self.new) }
+    {
+        for p in leaves {
+            self.resume_but(q, own, *p)?;
+        }
+        Ok(())
+    }
+
+    // The process that executes a disable goes on, where it isn't inside itself.
+    fn pass(&mut self, d: &Design, own: ProcId, goes: Goes, target: ObjId)
+        requires { AllRun d.now self.old }
+        ensures on { self.new ≡ before_disable d.now target own goes self.old }
+        ensures runs { AllRun d.now self.new }
+    {
+        let Some(process) = self.all.get(&own.number()) else {
+            return;
+        };
+        if !process.thread.is_inside(d, target) {
+            self.go_on(d, own, goes);
+        }
+    }
+
+    // What it does next.
+    fn next_after(&self, found: &Stopped, own: ProcId) -> Next
+        ensures { result ≡ after_disable (found_seen found.now) own self.now }
+    {
+        match self.all.get(&own.number()) {
+            Some(process) if found.has_begun(process) => Next::Ends,
+            _ => Next::On,
+        }
+    }
+
+    // A process disables a named block or task; answers what it does next.
+    pub(crate) fn disable(
+        &mut self,
+        alloc: Global,
+        d: &Design,
+        sense: &mut Sense,
+        q: &mut Queue,
+        own: ProcId,
+        goes: Goes,
+        target: ObjId,
+    ) -> Result<Next, StepFault>
+        requires { AllRun d.now self.old }
+        ensures done { OnOk result (disabled_by d.now target own goes
+            (scheduled self.old sense.old q.old) ≡ Ok (scheduled self.new sense.new q.new)) }
+        ensures next { IfOk result (λ n. n
+            ≡ after_disable (stopped d.now target self.old) own self.old) }
+        ensures fails { IfErr result (FailsBy (disabled_by d.now target own goes
+            (scheduled self.old sense.old q.old))) }
+        ensures waits { (sense.new).waits ≡ (sense.old).waits }
+        ensures now { (q.new).time ≡ (q.old).time }
+        ensures runs { OnOk result (AllRun d.now self.new) }
+    {
+        let found = self.stopped(alloc, d, target)?;
+        let next = self.next_after(&found, own);
+        self.pass(d, own, goes, target);
+        self.end_all(sense, q, &found.ends);
+        self.leave_all(d, target, sense, q, &found.leaves);
+        self.resume_all(q, own, &found.leaves)?;
+        Ok(next)
+    }
+}

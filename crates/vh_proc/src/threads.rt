@@ -1,0 +1,297 @@
+ghost use Rattle.std.specs.Prelude.{◌≡◌, [], true, Some, Ok, IsSome, IfSome, IfOk, IfErr, OnOk};
+ghost use Rattle.std.specs.BTreeMap.{insert_entry};
+ghost use Rattle.std.specs.Ordering.{nat_cmp};
+ghost use Rattle.vh_design.specs.Shape.{Shape};
+ghost use Rattle.vh_design.specs.Validity.{IsValid};
+ghost use Rattle.vh_thread.specs.Control.{next_of};
+ghost use Rattle.vh_proc.specs.Processes.{AllRun, process_at, changed, arrived_in, gone_on, with_left, one_less, opening, noted, resumed, queued, world_of, step_with};
+ghost use Rattle.vh_proc.specs.Steps.{is_operation_said, is_said, step_of, alone, after_fork};
+ghost use Rattle.vh_turn.specs.Turns.{is_own};
+ghost use Rattle.vh_turn.specs.Own.{FailsBy};
+
+use crate::stepped::Stepped;
+use std::alloc::Global;
+use std::collections::BTreeMap;
+use std::marker::Model;
+use std::mem;
+use vh_base::{NoMemory, ProcId, Sequence, Serial};
+use vh_design::{Design, Goes, Instruction, Operation, Single};
+use vh_queue::{Queue, Region, Work};
+use vh_sense::Sense;
+use vh_store::Store;
+use vh_thread::Thread;
+use vh_turn::{Next, Process, Room, StepFault, add_entry, turn};
+
+/// The processes of a simulation, which contracts see as `Processes`.
+#[derive(Drop)]
+pub struct Threads {
+    pub(crate) all: BTreeMap<u64, Process, Global>,
+    pub(crate) next: u64,
+    room: Room,
+}
+
+impl Model for Threads {
+    ghost use Rattle.vh_proc.specs.Processes.{Processes};
+
+    ghost Value = { Processes };
+
+    ghost view = { λ s. record { all = s.all.entries; next = s.next } };
+}
+
+// What a label came to that changed no value.
+pub(crate) fn quietly(alloc: Global, next: Next) -> Stepped
+    ensures made { result.made ≡ [] }
+    ensures next { result.next ≡ next }
+{
+    Stepped {
+        made: Sequence::new(Vec::new(alloc)),
+        next,
+    }
+}
+
+// The rules that a design keeps; it is there for the prover.
+fn keeps_rules(d: &Design)
+    ensures { IsValid d.now }
+{
+    d.counts();
+}
+
+// A process gets its number.
+pub(crate) fn keep(
+    all: &mut BTreeMap<u64, Process, Global>,
+    number: u64,
+    process: Process,
+) -> Result<(), NoMemory>
+    ensures { OnOk result (all.new.entries ≡ insert_entry nat_cmp all.old.entries number process) }
+{
+    all.insert(number, process)?;
+    Ok(())
+}
+
+// Is it said what a label does?
+fn is_operation_said(operation: &Operation) -> bool
+    ensures { result ≡ is_operation_said operation.now }
+{
+    !matches!(
+        operation,
+        Operation::Drive(_)
+            | Operation::Single(Single::Force { .. })
+            | Operation::Single(Single::Release(_))
+            | Operation::Single(Single::Procedural { .. })
+            | Operation::Single(Single::Deassign(_))
+    )
+}
+
+// What a process does behind a fork with these branches.
+fn after_fork(places: &[u32]) -> Next
+    ensures { result ≡ after_fork places.now }
+{
+    if places.is_empty() {
+        return Next::On;
+    }
+    Next::Waits
+}
+
+impl Threads {
+    /// The processes of a design, each at its beginning.
+    pub fn new(alloc: Global, d: &Design) -> Result<Threads, NoMemory>
+        ensures opening { IfOk result (λ ps. ps ≡ opening d.now) }
+        ensures runs { IfOk result (AllRun d.now) }
+    {
+        let mut all = BTreeMap::new(alloc);
+        let count = u64::from(d.counts().processes);
+        for k in 0..count {
+            let process = Process {
+                thread: Thread::of_process(alloc, d, ProcId::new(k))?,
+                parent: None,
+                left: 0,
+                held: None,
+                entry: None,
+            };
+            keep(&mut all, k, process)?;
+        }
+        Ok(Threads {
+            all,
+            next: count,
+            room: Room {
+                pieces: Vec::new(alloc),
+                made: Vec::new(alloc),
+            },
+        })
+    }
+
+    /// Notes the evaluation entry that was added for a process, so that a `disable` finds it.
+    pub fn entered(&mut self, p: ProcId, e: Serial)
+        ensures noted { self.new ≡ noted p e self.old }
+        ensures runs { (d : Shape) → AllRun d self.old → AllRun d self.new }
+    {
+        if let Some(process) = self.all.get_mut(&p.number()) {
+            process.entry = Some(e);
+        }
+    }
+
+    // A process performs a label.
+    fn arrive(&mut self, d: &Design, p: ProcId)
+        requires { AllRun d.now self.old }
+        ensures arrived { self.new ≡ arrived_in d.now p self.old }
+        ensures runs { AllRun d.now self.new }
+    {
+        if let Some(process) = self.all.get_mut(&p.number()) {
+            process.thread.arrive(d);
+        }
+    }
+
+    // A process goes on there.
+    pub(crate) fn go_on(&mut self, d: &Design, p: ProcId, goes: Goes)
+        requires { AllRun d.now self.old }
+        ensures on { self.new ≡ gone_on d.now p goes self.old }
+        ensures runs { AllRun d.now self.new }
+    {
+        if let Some(process) = self.all.get_mut(&p.number()) {
+            process.thread.go_on(d, goes);
+        }
+    }
+
+    // A process waits for so many branches.
+    pub(crate) fn wait_for(&mut self, p: ProcId, count: u64)
+        ensures left { self.new ≡ changed p (with_left count) self.old }
+        ensures runs { (d : Shape) → AllRun d self.old → AllRun d self.new }
+    {
+        if let Some(process) = self.all.get_mut(&p.number()) {
+            process.left = count;
+        }
+    }
+
+    // One of these has ended.
+    pub(crate) fn lose_one(&mut self, p: ProcId)
+        ensures left { self.new ≡ changed p one_less self.old }
+        ensures runs { (d : Shape) → AllRun d self.old → AllRun d self.new }
+    {
+        if let Some(process) = self.all.get_mut(&p.number()) {
+            process.left = process.left.saturating_sub(1);
+        }
+    }
+
+    // A process gets an evaluation entry, now.
+    pub(crate) fn resume(&mut self, q: &mut Queue, p: ProcId) -> Result<(), StepFault>
+        ensures done { OnOk result (resumed p (queued self.old q.old)
+            ≡ Ok (queued self.new q.new)) }
+        ensures fails { IfErr result (FailsBy (resumed p (queued self.old q.old))) }
+        ensures now { (q.new).time ≡ (q.old).time }
+        ensures runs { (d : Shape) → AllRun d self.old → OnOk result (AllRun d self.new) }
+    {
+        let time = q.time();
+        let serial = add_entry(q, time, Region::Active, Work::Evaluate(p))?;
+        self.entered(p, serial);
+        Ok(())
+    }
+
+    // A label that touches no other process.
+    fn alone(
+        &mut self,
+        alloc: Global,
+        d: &Design,
+        s: &mut Store,
+        sense: &mut Sense,
+        q: &mut Queue,
+        p: ProcId,
+        i: &Instruction,
+    ) -> Result<Stepped, StepFault>
+        requires runs { AllRun d.now self.old }
+        requires there { IfSome (process_at p self.old) (λ t. next_of d.now t.thread ≡ Some i.now) }
+        requires known { IsSome (process_at p self.old) }
+        requires valid { IsValid d.now }
+        requires said { is_own i.now.operation ≡ true }
+        requires waits { (sense.old).waits ≡ (d.now).waits }
+        requires now { (s.old).time ≡ (q.old).time }
+        ensures done { IfSome (process_at p self.old) (λ t. IfOk result
+            (λ r. alone d.now p t i.now (world_of self.old s.old sense.old q.old)
+            ≡ Ok (step_with (world_of self.new s.new sense.new q.new) r.made r.next))) }
+        ensures fails { IfSome (process_at p self.old) (λ t.
+            IfErr result (FailsBy (alone d.now p t i.now
+            (world_of self.old s.old sense.old q.old)))) }
+        ensures time { (s.new).time ≡ (s.old).time }
+        ensures kept { (sense.new).waits ≡ (sense.old).waits }
+        ensures still { (q.new).time ≡ (q.old).time }
+        ensures runs { OnOk result (AllRun d.now self.new) }
+    {
+        self.room.made.clear();
+        let Some(process) = self.all.get_mut(&p.number()) else {
+            unreachable!();
+        };
+        let next = turn(d, process, s, sense, q, p, i, &mut self.room)?;
+        let made = mem::replace(&mut self.room.made, Vec::new(alloc));
+        Ok(Stepped {
+            made: Sequence::new(made),
+            next,
+        })
+    }
+
+    /// Has a process a next label, and is it one that [`Threads::step`] performs?
+    pub fn is_said(&self, d: &Design, p: ProcId) -> bool
+        requires { AllRun d.now self.now }
+        ensures { result ≡ is_said d.now p self.now }
+    {
+        let Some(process) = self.all.get(&p.number()) else {
+            return false;
+        };
+        match process.thread.next(d) {
+            Some(i) => is_operation_said(&i.operation),
+            None => false,
+        }
+    }
+
+    /// Performs the next label of a process.
+    pub fn step(
+        &mut self,
+        alloc: Global,
+        d: &Design,
+        s: &mut Store,
+        sense: &mut Sense,
+        q: &mut Queue,
+        p: ProcId,
+    ) -> Result<Stepped, StepFault>
+        requires runs { AllRun d.now self.old }
+        requires said { is_said d.now p self.old ≡ true }
+        requires waits { (sense.old).waits ≡ (d.now).waits }
+        requires now { (s.old).time ≡ (q.old).time }
+        ensures done { IfOk result (λ r. step_of d.now p (world_of self.old s.old sense.old q.old)
+            ≡ Ok (step_with (world_of self.new s.new sense.new q.new) r.made r.next)) }
+        ensures fails { IfErr result (FailsBy (step_of d.now p
+            (world_of self.old s.old sense.old q.old))) }
+        ensures time { (s.new).time ≡ (s.old).time }
+        ensures kept { (sense.new).waits ≡ (sense.old).waits }
+        ensures still { (q.new).time ≡ (q.old).time }
+        ensures runs { OnOk result (AllRun d.now self.new) }
+    {
+        keeps_rules(d);
+        let Some(process) = self.all.get(&p.number()) else {
+            unreachable!();
+        };
+        let Some(i) = process.thread.next(d) else {
+            unreachable!();
+        };
+        match &i.operation {
+            Operation::Fork(places) => {
+                self.arrive(d, p);
+                self.fork(alloc, d, q, p, i.next, places.as_slice())?;
+                Ok(quietly(alloc, after_fork(places.as_slice())))
+            }
+            Operation::End => {
+                self.end(d, q, p)?;
+                Ok(quietly(alloc, Next::Ends))
+            }
+            Operation::Initial { .. } => {
+                let stepped = self.alone(alloc, d, s, sense, q, p, i)?;
+                self.all.remove(&p.number());
+                Ok(stepped)
+            }
+            Operation::Single(Single::Disable(target)) => {
+                self.arrive(d, p);
+                let next = self.disable(alloc, d, sense, q, p, i.next, *target)?;
+                Ok(quietly(alloc, next))
+            }
+            _ => self.alone(alloc, d, s, sense, q, p, i),
+        }
+    }
+}
