@@ -21,8 +21,9 @@ use Rattle.vh_orders.specs.Orders.{Given}
 use Rattle.vh_kernel.specs.Outcome.{Made, Outcome, Move, after_made}
 use Rattle.vh_kernel.specs.Run.{given_in}
 use Rattle.vh_kernel.specs.Settle.{settled}
-use Rattle.vh_kernel.specs.State.{State, with_top, without_top, with_frames}
-use Rattle.vh_kernel.specs.Step.{called, activation_move, work_outcome, telling_outcome, is_end}
+use Rattle.vh_kernel.specs.State.{State, with_queue, with_top, without_top, with_frames}
+use Rattle.vh_kernel.specs.Statements.{work_outcome}
+use Rattle.vh_kernel.specs.Step.{called, activation_move, telling_outcome, is_end}
 use Rattle.vh_kernel.specs.Table.{HasTop, HasNext, TellsNext, Acts, Row, IsSound, OneStateAfter}
 use Rattle.vh_kernel.proofs.RunLemmas.{activation-shows}
 use Rattle.vh_kernel.proofs.SoundLemmas.{one_entry}
@@ -92,7 +93,7 @@ one-row s u v (label.Advance time) sound one other = one.2 ∙ sym other.2
 one-row s u v (label.Pick n shown) sound one other =
     let entry : one.entry ≡ other.entry =
     one_entry s one.choice other.choice one.entry other.entry sound one.chosen other.chosen (one.serial ∙ sym other.serial) in
-    let there = ap (λ (x : Entry). work_outcome x.work (record s { queue = without n s.queue })) entry
+    let there = ap (λ (x : Entry). work_outcome x.work (with_queue (without n s.activity.queue) s)) entry
     ∙ other.makes in
     one.leaves.1 ∙ ap (λ (m : Made). after_made m) (one-made _ one.made other.made one.makes there) ∙ sym other.leaves.1
 one-row s u v (label.Stmt p shown) sound one other =

@@ -20,7 +20,7 @@ use Rattle.vh_queue.specs.Events.{eligible, next_region, least_time, without}
 use Rattle.vh_handles.specs.Handles.{Handles}
 use Rattle.vh_kernel.specs.Occurrences.{occurrence_of}
 use Rattle.vh_kernel.specs.Settle.{settled}
-use Rattle.vh_kernel.specs.Statements.{next_statement, statement_outcome}
+use Rattle.vh_kernel.specs.Statements.{statement_outcome, work_outcome}
 use Rattle.vh_kernel.specs.declared.label.Label.{Label}
 use Rattle.vh_kernel.specs.declared.label.Label.TheVariants as label
 use Rattle.vh_dispatch.specs.Frames.{top_set}
@@ -28,8 +28,8 @@ use Rattle.vh_orders.specs.Orders.{Given, Effect, answered, effect_of, with_erro
 use Rattle.vh_orders.specs.World.{World}
 use Rattle.vh_kernel.specs.Outcome.{Outcome, Move, move_of}
 use Rattle.vh_kernel.specs.Run.{Chooser, chooser_after, move_from, moves_with, handle_in, given_in, all_given, OneRun}
-use Rattle.vh_kernel.specs.State.{State, with_top, without_top, without_item, with_variables}
-use Rattle.vh_kernel.specs.Step.{FitsAnswer, Fits, IsStep, fire_move, telling_outcome, work_outcome, time_move, region_move, pick_move, agenda_move, idle_move, answer_move, order_move, activation_move, item_move, top_move, crowded_move, is_crowded, settled_move, step_of, choices_of, is_end}
+use Rattle.vh_kernel.specs.State.{State, with_queue, with_top, without_top, without_item, with_variables}
+use Rattle.vh_kernel.specs.Step.{FitsAnswer, Fits, IsStep, fire_move, telling_outcome, time_move, region_move, pick_move, agenda_move, idle_move, answer_move, order_move, activation_move, item_move, top_move, crowded_move, is_crowded, settled_move, step_of, choices_of, is_end}
 use Rattle.vh_orders.proofs.OrdersLemmas.{IsForm, refuses, answers_only, opens_object, registers, removes, effect-form}
 
 -- By the number that its answer shows, an order is answered again.
@@ -147,7 +147,7 @@ fits-label s t (label.End e) same fits = tt
 item-fits : (s t : State) (c : Control) (k : ℕ) (g : Given) → t.world.handles ≡ s.world.handles → s.world.handles.is_given g.handle ≡ false
     → Fits s (item_move c t k g).0
 item-fits s t (top.Process p) k g same fresh = outcome-fits s (with_top (top.Process p) t) (λ shown. label.Stmt p shown)
-    (statement_outcome p (next_statement p t) t) (λ shown. tt)
+    (statement_outcome p t) (λ shown. tt)
 item-fits s t (top.Pending o) k g same fresh = outcome-fits s (with_top (top.Pending o) t)
     (λ shown. label.Occ t.occurrence o.reason o.object) (telling_outcome o t) (λ shown. tt)
 item-fits s t (top.Frame f) k g same fresh = fire-fits s t (slice_get (top_set t.world.frames) k) f
@@ -162,16 +162,16 @@ time-fits s None = tt
 time-fits s (Some time) = tt
 
 region-fits : (s : State) (o : Option Region) → Fits s (region_move o s).0
-region-fits s None = time-fits s (least_time s.queue.entries)
+region-fits s None = time-fits s (least_time s.activity.queue.entries)
 region-fits s (Some r) = tt
 
 pick-fits : (s : State) (o : Option Entry) → Fits s (pick_move o s).0
-pick-fits s None = region-fits s (next_region s.queue)
+pick-fits s None = region-fits s (next_region s.activity.queue)
 pick-fits s (Some e) = outcome-fits s s (λ shown. label.Pick e.serial shown)
-    (work_outcome e.work (record s { queue = without e.serial s.queue })) (λ shown. tt)
+    (work_outcome e.work (with_queue (without e.serial s.activity.queue) s)) (λ shown. tt)
 
 agenda-fits : (s : State) (o : Option Agendum) (k : ℕ) → Fits s (agenda_move o s k).0
-agenda-fits s None k = pick-fits s (slice_get (eligible s.queue) k)
+agenda-fits s None k = pick-fits s (slice_get (eligible s.activity.queue) k)
 agenda-fits s (Some (agendum.Startup n)) k = tt
 agenda-fits s (Some (agendum.Occurrence r)) k = outcome-fits s s
     (λ shown. label.Occ s.occurrence r None) (telling_outcome (occurrence_of r) (without_item s)) (λ shown. tt)

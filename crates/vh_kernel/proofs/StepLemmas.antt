@@ -1,12 +1,11 @@
 -- What a step leaves: which outcomes keep the queue and the phase, and that the machine goes on after a
 -- label that is no end.
-use Rattle.std.proofs.Common.{◌≡◌, ◌<◌, ◌+◌, ◌-◌, nat_le, ℕ, List, length, max, Bool, true, false, cond, Option, Some, None, Ok, Err, nat_lt, slice_get, slice_set, bytes_eq, refl, sym, ap, subst, ◌∙◌, arith}
-use Rattle.vh_base.specs.declared.limits.TheConstants.{MOST_FRAMES, MOST_NUMBERS, MOST_TIME}
+use Rattle.std.proofs.Common.{◌≡◌, ◌<◌, ◌-◌, nat_le, ℕ, List, length, max, Bool, true, false, cond, Option, Some, None, Result, Ok, Err, nat_lt, slice_get, slice_set, refl, sym, ap, subst, ◌∙◌, arith}
+use Rattle.vh_base.specs.declared.limits.TheConstants.{MOST_FRAMES, MOST_NUMBERS}
+use Rattle.vh_base.specs.declared.faults.Fault.{Fault}
 use Rattle.vh_base.specs.declared.faults.Fault.TheVariants as fault
-use Rattle.vh_base.specs.declared.first.First.{First}
-use Rattle.vh_base.specs.declared.first.FirstBit.{FirstBit}
-use Rattle.vh_base.specs.declared.first.FirstCode.{FirstCode}
-use Rattle.vh_base.specs.declared.first.FirstCode.TheVariants as code
+use Rattle.vh_design.specs.Shape.{Shape}
+use Rattle.vh_simulation.specs.Labels.{Came, Performed, performed as label_performed, worked}
 use Rattle.vh_base.specs.declared.orders.Answer.{Answer}
 use Rattle.vh_base.specs.declared.orders.Order.{Order}
 use Rattle.vh_base.proofs.ChecksLemmas.{unless-holds}
@@ -30,23 +29,23 @@ use Rattle.vh_kernel.specs.declared.occurrence.Agendum.TheVariants as agendum
 use Rattle.vh_kernel.specs.declared.occurrence.Told.{Told}
 use Rattle.vh_kernel.specs.declared.phase.Phase.{Phase}
 use Rattle.vh_kernel.specs.declared.phase.Phase.TheVariants as phase
-use Rattle.vh_queue.specs.Events.{eligible, next_region, least_time, is_full}
+use Rattle.vh_queue.specs.Events.{eligible, next_region, least_time}
 use Rattle.vh_dispatch.specs.Frames.{top_set, without_in_top}
-use Rattle.vh_kernel.specs.Occurrences.{Occurrence, occurrence_of, bit_text}
+use Rattle.vh_kernel.specs.Occurrences.{Occurrence, occurrence_of}
 use Rattle.vh_orders.specs.Orders.{Given, performed, is_return}
 use Rattle.vh_kernel.specs.Outcome.{Made, Outcome, Move, move_of}
-use Rattle.vh_kernel.specs.Settle.{settled, opening}
+use Rattle.vh_kernel.specs.Settle.{settled, Opens}
 use Rattle.vh_kernel.specs.State.{State, with_top, without_top, without_item, with_frames, with_variables}
-use Rattle.vh_kernel.specs.Statements.{next_statement, going_on, value_outcome, statement_outcome}
-use Rattle.vh_kernel.specs.Step.{telling_outcome, called, fire_move, order_move, next_move_of, activation_move, work_outcome, time_move, region_move, pick_move, started, agenda_move, idle_move, item_move, top_move, crowded_move, is_crowded, is_end, step_of, is_over, item_choices, agenda_choices, idle_choices, top_choices, choices_of}
+use Rattle.vh_kernel.specs.Statements.{performed_outcome, worked_outcome, on_control, work_outcome}
+use Rattle.vh_kernel.specs.Step.{telling_outcome, called, fire_move, order_move, next_move_of, activation_move, time_move, region_move, pick_move, started, agenda_move, idle_move, item_move, top_move, crowded_move, is_crowded, is_end, step_of, is_over, item_choices, agenda_choices, idle_choices, top_choices, choices_of}
 
--- The second state has the queue and the phase of the first.
+-- The second state has the activity and the phase of the first.
 pub record IsKept (s t : State) : Type 0 where
   pub phase : t.phase ≡ s.phase
-  pub queue : t.queue ≡ s.queue
+  pub activity : t.activity ≡ s.activity
 
 pub same : (s : State) → IsKept s s
-same s = record { phase = refl; queue = refl }
+same s = record { phase = refl; activity = refl }
 
 -- What an activation does: it returns, or it gives an order and is answered, and is on control again.
 pub data IsActing (a : Activation) (s : State) (g : Given) (m : Move) : Type 0 where
@@ -84,8 +83,8 @@ acts (Some script) (Some vars) a s g =
     order-acts (is_return next.0) next.0 a next.1 (slice_set s.world.variables a.script next.2) (with_top (top.Activation a) s) s g
 
 pub acts-kept : (a : Activation) (s : State) (g : Given) (m : Move) → IsActing a s g m → IsKept s m.1
-acts-kept a s g m (returns vars is) = subst (λ (x : Move). IsKept s x.1) (sym is) (record { phase = refl; queue = refl })
-acts-kept a s g m (orders vars o further is) = subst (λ (x : Move). IsKept s x.1) (sym is) (record { phase = refl; queue = refl })
+acts-kept a s g m (returns vars is) = subst (λ (x : Move). IsKept s x.1) (sym is) (record { phase = refl; activity = refl })
+acts-kept a s g m (orders vars o further is) = subst (λ (x : Move). IsKept s x.1) (sym is) (record { phase = refl; activity = refl })
 
 -- What holds of all that an outcome may leave.
 abbrev pub AllMade : (Made → Type 0) → Outcome → Type 0
@@ -100,34 +99,36 @@ either-made P false x y here there = there
 abbrev HasPhase : Phase → Made → Type 0
 HasPhase f m = m.state.phase ≡ f
 
-value-phase : (o : Option FirstBit) (reg : ℕ) (value : FirstBit) (s : State) → AllMade (HasPhase s.phase) (value_outcome o reg value s)
-value-phase None reg value s = refl
-value-phase (Some old) reg value s =
-    either-made (HasPhase s.phase) (bytes_eq (bit_text old) (bit_text value)) _ _ refl refl
-
-statement-phase : (p : ℕ) (o : Option FirstCode) (s : State) → AllMade (HasPhase s.phase) (statement_outcome p o s)
-statement-phase p None s = refl
-statement-phase p (Some (code.Wait d)) s =
-    unless-holds (AllMade (HasPhase s.phase)) (nat_lt MOST_TIME (s.queue.time + d)) fault.F2 _ (λ _. tt)
-    (λ _. unless-holds (AllMade (HasPhase s.phase)) (is_full s.queue) fault.F3 _ (λ _. tt) (λ _. refl))
-statement-phase p (Some (code.Assign reg value)) s = value-phase (slice_get s.store reg) reg value (going_on p s)
-statement-phase p (Some (code.Show text)) s = refl
-statement-phase p (Some code.Finish) s = refl
+statement-phase : (p : ℕ) (r : Result Performed (Option Fault)) (s : State) → AllMade (HasPhase s.phase) (performed_outcome r p s)
+statement-phase p (Err None) s = refl
+statement-phase p (Err (Some f)) s = tt
+statement-phase p (Ok r) s = refl
 
 telling-phase : (o : Occurrence) (s : State) → AllMade (HasPhase s.phase) (telling_outcome o s)
 telling-phase o s =
     unless-holds (AllMade (HasPhase s.phase)) (nat_le MOST_FRAMES (length s.world.frames)) fault.F1 _ (λ _. tt)
     (λ _. unless-holds (AllMade (HasPhase s.phase)) (nat_lt MOST_NUMBERS s.occurrence) fault.F3 _ (λ _. tt) (λ _. refl))
 
+worked-phase : (r : Result Came (Option Fault)) (s : State) → AllMade (HasPhase s.phase) (worked_outcome r s)
+worked-phase (Err None) s = refl
+worked-phase (Err (Some f)) s = tt
+worked-phase (Ok c) s = refl
+
+-- What an entry puts on control leaves all else.
+pub on-control-kept : (w : Work) (s : State) → IsKept s (on_control w s)
+on-control-kept (work.Evaluate p) s = record { phase = refl; activity = refl }
+on-control-kept (work.Drive driver value) s = same s
+on-control-kept (work.Assign object low value) s = same s
+on-control-kept (work.Follow object force) s = same s
+on-control-kept (work.Put object value) s = same s
+on-control-kept (work.Strobe n) s = same s
+on-control-kept work.MonitorShow s = same s
+on-control-kept (work.Call callback) s = same s
+
 work-phase : (w : Work) (s : State) → AllMade (HasPhase s.phase) (work_outcome w s)
-work-phase (work.Evaluate p) s = refl
-work-phase (work.Drive driver value) s = refl
-work-phase (work.Assign object low value) s = refl
-work-phase (work.Follow object force) s = refl
-work-phase (work.Put object value) s = refl
-work-phase (work.Strobe show) s = refl
-work-phase work.MonitorShow s = refl
-work-phase (work.Call callback) s = refl
+work-phase w s =
+    let P : Phase → Type 0 = λ f. AllMade (HasPhase f) (work_outcome w s) in
+    subst P (on-control-kept w s).phase (worked-phase (worked w s.activity) (on_control w s))
 
 -- A move that ends the run, or one after which it isn't over.
 abbrev Goes : Move → Type 0
@@ -141,7 +142,7 @@ outcome-goes l before f (Err e) alive has = λ open_yet. absurd (cc)
 called-phase : (r : Option Registration) (b : Option Body) (c : ℕ) (o : Occurrence) (s : State) → IsKept s (called r b c o s)
 called-phase None b c o s = same s
 called-phase (Some r) None c o s = same s
-called-phase (Some r) (Some b) c o s = record { phase = refl; queue = refl }
+called-phase (Some r) (Some b) c o s = record { phase = refl; activity = refl }
 
 pub called-kept : (r : Option Registration) (b : Option Body) (c : ℕ) (o : Occurrence) (s : State) → IsKept s (called r b c o s)
 called-kept = called-phase
@@ -158,19 +159,19 @@ time-goes None s alive = λ open_yet. refl
 time-goes (Some time) s alive = λ open_yet. alive
 
 region-goes : (o : Option Region) (s : State) → is_over s.phase ≡ false → Goes (region_move o s)
-region-goes None s alive = time-goes (least_time s.queue.entries) s alive
+region-goes None s alive = time-goes (least_time s.activity.queue.entries) s alive
 region-goes (Some r) s alive = λ open_yet. alive
 
 pick-goes : (o : Option Entry) (s : State) → is_over s.phase ≡ false → Goes (pick_move o s)
-pick-goes None s alive = region-goes (next_region s.queue) s alive
+pick-goes None s alive = region-goes (next_region s.activity.queue) s alive
 pick-goes (Some e) s alive = outcome-goes (λ shown. label.Pick e.serial shown) s s.phase _ alive (work-phase e.work _)
 
 pub started-kept : (script : Option ScriptData) (k : ℕ) (s : State) → IsKept s (started script k s)
 started-kept None k s = same s
-started-kept (Some script) k s = record { phase = refl; queue = refl }
+started-kept (Some script) k s = record { phase = refl; activity = refl }
 
 agenda-goes : (o : Option Agendum) (s : State) (k : ℕ) → is_over s.phase ≡ false → Goes (agenda_move o s k)
-agenda-goes None s k alive = pick-goes (slice_get (eligible s.queue) k) s alive
+agenda-goes None s k alive = pick-goes (slice_get (eligible s.activity.queue) k) s alive
 agenda-goes (Some (agendum.Startup n)) s k alive =
     let kept = started-kept (slice_get s.world.scripts (n - 1)) n (without_item s) in
     λ open_yet. ap is_over kept.phase ∙ alive
@@ -184,7 +185,7 @@ idle-goes (phase.Ended e) s k is = λ open_yet. absurd (cc)
 
 item-goes : (c : Control) (s : State) (k : ℕ) (g : Given) → is_over s.phase ≡ false → Goes (item_move c s k g)
 item-goes (top.Process p) s k g alive =
-    outcome-goes (λ shown. label.Stmt p shown) (with_top (top.Process p) s) s.phase _ alive (statement-phase p (next_statement p s) s)
+    outcome-goes (λ shown. label.Stmt p shown) (with_top (top.Process p) s) s.phase _ alive (statement-phase p (label_performed p s.activity) s)
 item-goes (top.Pending o) s k g alive =
     outcome-goes (λ shown. label.Occ s.occurrence o.reason o.object) (with_top (top.Pending o) s) s.phase _ alive (telling-phase o s)
 item-goes (top.Frame f) s k g alive = fire-goes (slice_get (top_set s.world.frames) k) f s alive
@@ -213,7 +214,7 @@ item-some (top.Activation a) s = omega arith
 item-some (top.Leave c) s = omega arith
 
 agenda-some : (o : Option Agendum) (s : State) → 0 < agenda_choices o s
-agenda-some None s = one-of (length (eligible s.queue))
+agenda-some None s = one-of (length (eligible s.activity.queue))
 agenda-some (Some item) s = omega arith
 
 idle-some : (f : Phase) (s : State) → is_over f ≡ false → 0 < idle_choices f s
@@ -255,8 +256,10 @@ step-goes s t k g l below is =
     subst P is (λ open_yet. settled-goes (is_end m.0) m.1 (crowded-goes (is_crowded s) s k g (not-over s k below) open_yet))
 
 -- At the opening it has one too.
-pub opening-goes : (f : First) (scripts : List ScriptData) → 0 < choices_of (opening f scripts)
-opening-goes f scripts = some-choice (opening f scripts) refl
+pub opening-goes : (d : Shape) (scripts : List ScriptData) (s : State) → Opens d scripts s → 0 < choices_of s
+opening-goes d scripts s opens =
+    let P : State → Type 0 = λ t. 0 < choices_of t in
+    subst P (sym opens.settles) (some-choice (settled opens.before) (ap is_over opens.is.phase))
 
 -- The same of a label and the state that settles after it.
 pub label-goes : (s t u : State) (k : ℕ) (g : Given) (l : Label) → k < choices_of s → crowded_move (is_crowded s) s k g ≡ (l, t)

@@ -9,8 +9,7 @@ use Rattle.vh_kernel.specs.Activations.{Activation}
 use Rattle.vh_kernel.specs.declared.control.Control.{Control}
 use Rattle.vh_kernel.specs.declared.control.Control.TheVariants as top
 use Rattle.vh_queue.specs.declared.entry.Entry.{Entry}
-use Rattle.vh_queue.specs.declared.work.Work.{Work}
-use Rattle.vh_queue.specs.declared.work.Work.TheVariants as work
+use Rattle.vh_simulation.specs.Activity.{stopped}
 use Rattle.vh_kernel.specs.declared.label.Ending.TheVariants as ending
 use Rattle.vh_kernel.specs.declared.label.Label.{Label}
 use Rattle.vh_kernel.specs.declared.label.Label.TheVariants as label
@@ -24,11 +23,11 @@ use Rattle.vh_queue.specs.Events.{eligible, without, next_region, least_time}
 use Rattle.vh_kernel.specs.Occurrences.{Occurrence, occurrence_of}
 use Rattle.vh_dispatch.specs.Frames.{top_set}
 use Rattle.vh_orders.specs.Orders.{Given}
-use Rattle.vh_kernel.specs.Outcome.{Outcome, Move, after_made, move_of, end_move}
-use Rattle.vh_kernel.specs.State.{State, with_top, without_top, without_item}
-use Rattle.vh_kernel.specs.Statements.{next_statement, statement_outcome}
-use Rattle.vh_kernel.specs.Step.{telling_outcome, fire_move, activation_move, work_outcome, time_move, region_move, pick_move, agenda_move, idle_move, item_move, top_move, crowded_move, is_crowded, is_over, settled_move, Fits, finish_move, item_choices, agenda_choices, idle_choices, top_choices, choices_of}
-use Rattle.vh_kernel.specs.Table.{IsGoing, HasTop, HasNext, IsCalm, TellsNext, Exceeds, by_processes, by_statement, by_occurrence, Row, Step, StepsByTable, TableBySteps}
+use Rattle.vh_kernel.specs.Outcome.{Outcome, Move, after_made, move_of, fault_move}
+use Rattle.vh_kernel.specs.State.{State, with_queue, with_top, without_top, without_item}
+use Rattle.vh_kernel.specs.Statements.{statement_outcome, work_outcome}
+use Rattle.vh_kernel.specs.Step.{telling_outcome, fire_move, activation_move, time_move, region_move, pick_move, agenda_move, idle_move, item_move, top_move, crowded_move, is_crowded, is_over, settled_move, Fits, finish_move, item_choices, agenda_choices, idle_choices, top_choices, choices_of}
+use Rattle.vh_kernel.specs.Table.{IsGoing, HasTop, HasNext, IsCalm, TellsNext, Exceeds, by_processes, by_statement, by_work, by_occurrence, Row, Step, StepsByTable, TableBySteps}
 use Rattle.vh_kernel.proofs.StepLemmas.{IsActing, returns, orders, acts, not-over, some-choice}
 
 abbrev HasRow : State → Move → Type 0
@@ -48,13 +47,13 @@ back (y ∷ ys) x is = let same : y ≡ x = cc in ap (λ (z : _). z ∷ ys) (sym
 put-back : (s : State) (c : Control) → slice_get s.control 0 ≡ Some c → with_top c (without_top s) ≡ s
 put-back s c on = ap (λ (xs : List Control). (let t : State = record s { control = xs } in t)) (back s.control c on)
 
-fault-row : (s before : State) (f : Fault) → before ≡ s → Exceeds s f → HasRow s (end_move (ending.Fault f) before)
+fault-row : (s before : State) (f : Fault) → before ≡ s → Exceeds s f → HasRow s (fault_move f before)
 fault-row s before f same exceeds =
-    (exceeds, ap (λ (x : State). (let y : State = record x { phase = phase.Ended (ending.Fault f) } in y)) same)
+    (exceeds, ap (λ (x : State). (let y : State = record x { activity = stopped x.activity; phase = phase.Ended (ending.Fault f) } in y)) same)
 
 -- A statement.
 statement-row : (p : ℕ) (s : State) (out : Outcome) → HasTop s (top.Process p)
-    → statement_outcome p (next_statement p s) (without_top s) ≡ out
+    → statement_outcome p (without_top s) ≡ out
     → HasRow s (move_of (λ shown. label.Stmt p shown) (with_top (top.Process p) (without_top s)) out)
 statement-row p s (Ok m) on is = record { made = m; on = on; makes = is; leaves = (refl, refl) }
 statement-row p s (Err f) on is =
@@ -102,41 +101,31 @@ acting-row a s g m on makes (orders vars o further is) fits =
     subst P (sym is) (record { who = a; given = g; on = on; fits = subst Q is fits; makes = makes ∙ is })
 
 -- With nothing on control.
-no-fault : (w : Work) (s : State) (f : Fault) → work_outcome w s ≡ Err f → ⊥
-no-fault (work.Evaluate p) s f is = absurd (cc)
-no-fault (work.Drive driver value) s f is = absurd (cc)
-no-fault (work.Assign object low value) s f is = absurd (cc)
-no-fault (work.Follow object force) s f is = absurd (cc)
-no-fault (work.Put object value) s f is = absurd (cc)
-no-fault (work.Strobe show) s f is = absurd (cc)
-no-fault work.MonitorShow s f is = absurd (cc)
-no-fault (work.Call callback) s f is = absurd (cc)
-
-time-row : (o : Option ℕ) (s : State) → IsCalm s None → least_time s.queue.entries ≡ o → HasRow s (time_move o s)
+time-row : (o : Option ℕ) (s : State) → IsCalm s None → least_time s.activity.queue.entries ≡ o → HasRow s (time_move o s)
 time-row None s calm least = (inr (calm, least, refl), refl)
 time-row (Some time) s calm least = (calm, least, refl)
 
-region-row : (o : Option Region) (s : State) → HasNext s None → eligible s.queue ≡ [] → next_region s.queue ≡ o
+region-row : (o : Option Region) (s : State) → HasNext s None → eligible s.activity.queue ≡ [] → next_region s.activity.queue ≡ o
     → HasRow s (region_move o s)
 region-row None s next none is =
-    time-row (least_time s.queue.entries) s (record { next = next; none = none; region = is }) refl
+    time-row (least_time s.activity.queue.entries) s (record { next = next; none = none; region = is }) refl
 region-row (Some r) s next none is = (record { next = next; none = none; region = is }, refl)
 
-picked-row : (e : Entry) (s : State) (k : ℕ) (out : Outcome) → HasNext s None → slice_get (eligible s.queue) k ≡ Some e
-    → work_outcome e.work (record s { queue = without e.serial s.queue }) ≡ out
+picked-row : (e : Entry) (s : State) (k : ℕ) (out : Outcome) → HasNext s None → slice_get (eligible s.activity.queue) k ≡ Some e
+    → work_outcome e.work (with_queue (without e.serial s.activity.queue) s) ≡ out
     → HasRow s (move_of (λ shown. label.Pick e.serial shown) s out)
 picked-row e s k (Ok m) next is makes =
     record { choice = k; entry = e; made = m; next = next; chosen = is; serial = refl; makes = makes; leaves = (refl, refl) }
-picked-row e s k (Err g) next is makes = absurd (no-fault e.work _ g makes)
+picked-row e s k (Err g) next is makes = fault-row s s g refl (by_work k e next is makes)
 
-pick-row : (o : Option Entry) (s : State) (k : ℕ) → HasNext s None → k < max (length (eligible s.queue)) 1
-    → slice_get (eligible s.queue) k ≡ o → HasRow s (pick_move o s)
+pick-row : (o : Option Entry) (s : State) (k : ℕ) → HasNext s None → k < max (length (eligible s.activity.queue)) 1
+    → slice_get (eligible s.activity.queue) k ≡ o → HasRow s (pick_move o s)
 pick-row None s k next below is =
-    region-row (next_region s.queue) s next (none-left (eligible s.queue) k below is) refl
+    region-row (next_region s.activity.queue) s next (none-left (eligible s.activity.queue) k below is) refl
 pick-row (Some e) s k next below is = picked-row e s k _ next is refl
 
 agenda-row : (o : Option Agendum) (s : State) (k : ℕ) → HasNext s o → k < agenda_choices o s → HasRow s (agenda_move o s k)
-agenda-row None s k next below = pick-row (slice_get (eligible s.queue) k) s k next below refl
+agenda-row None s k next below = pick-row (slice_get (eligible s.activity.queue) k) s k next below refl
 agenda-row (Some (agendum.Startup n)) s k next below = (next, refl)
 agenda-row (Some (agendum.Occurrence r)) s k next below =
     telling-row (occurrence_of r) s s (without_item s) _ (inr (r, next, refl, refl)) refl refl
@@ -266,7 +255,7 @@ by-label : (l k : Label) (u : State) → l ≡ k → (let m : Move = (l, u) in m
 by-label l k u same = ap (λ (x : Label). (let m : Move = (x, u) in m)) same
 
 -- The faults.
-fault-chosen : (s u : State) (f : Fault) → Exceeds s f → u ≡ record s { phase = phase.Ended (ending.Fault f) }
+fault-chosen : (s u : State) (f : Fault) → Exceeds s f → u ≡ record s { activity = stopped s.activity; phase = phase.Ended (ending.Fault f) }
     → Chosen s (label.End (ending.Fault f), u)
 fault-chosen s u f (by_processes alive crowded is) after = record {
   choice = 0;
@@ -274,7 +263,7 @@ fault-chosen s u f (by_processes alive crowded is) after = record {
   below = some-choice s alive;
   fits = tt;
   makes = ap (λ (b : Bool). crowded_move b s 0 nothing) crowded
-      ∙ ap (λ (x : Fault). end_move (ending.Fault x) s) (sym is) ∙ by-after (label.End (ending.Fault f)) _ u after;
+      ∙ ap (λ (x : Fault). fault_move x s) (sym is) ∙ by-after (label.End (ending.Fault f)) _ u after;
 }
 fault-chosen s u f (by_statement p on is) after = record {
   choice = 0;
@@ -283,7 +272,18 @@ fault-chosen s u f (by_statement p on is) after = record {
   fits = tt;
   makes = by-top s (top.Process p) 0 nothing on
       ∙ ap (λ (out : Outcome). move_of (λ shown. label.Stmt p shown) (with_top (top.Process p) (without_top s)) out) is
-      ∙ ap (λ (x : State). end_move (ending.Fault f) x) (put-back s (top.Process p) on.on)
+      ∙ ap (λ (x : State). fault_move f x) (put-back s (top.Process p) on.on)
+      ∙ by-after (label.End (ending.Fault f)) _ u after;
+}
+fault-chosen s u f (by_work k e next is makes) after = record {
+  choice = k;
+  given = nothing;
+  below = (let within : k < length (eligible s.activity.queue) = slice_get_within (eligible s.activity.queue) k e is in
+      let n = choices-by-agenda s None next in omega arith);
+  fits = tt;
+  makes = by-agenda s None k nothing next
+      ∙ ap (λ (o : Option Entry). pick_move o s) is
+      ∙ ap (λ (out : Outcome). move_of (λ x. label.Pick e.serial x) s out) makes
       ∙ by-after (label.End (ending.Fault f)) _ u after;
 }
 fault-chosen s u f (by_occurrence o r tells is) after = record {
@@ -369,13 +369,13 @@ row-chosen s u (label.Advance time) row = record {
 row-chosen s u (label.Pick n shown) row = record {
   choice = row.choice;
   given = nothing;
-  below = (let within : row.choice < length (eligible s.queue) = slice_get_within (eligible s.queue) row.choice row.entry row.chosen in
+  below = (let within : row.choice < length (eligible s.activity.queue) = slice_get_within (eligible s.activity.queue) row.choice row.entry row.chosen in
       let e = choices-by-agenda s None row.next in omega arith);
   fits = tt;
   makes = by-agenda s None row.choice nothing row.next
       ∙ ap (λ (o : Option Entry). pick_move o s) row.chosen
       ∙ ap (λ (k : ℕ). move_of (λ x. label.Pick k x) s
-      (work_outcome row.entry.work (record s { queue = without k s.queue }))) row.serial
+      (work_outcome row.entry.work (with_queue (without k s.activity.queue) s))) row.serial
       ∙ ap (λ (out : Outcome). move_of (λ x. label.Pick n x) s out) row.makes
       ∙ by-label (label.Pick n row.made.shown) (label.Pick n shown) _ (ap (λ (x : Option (List ℕ)). label.Pick n x) (sym row.leaves.0))
       ∙ by-after (label.Pick n shown) _ u row.leaves.1;

@@ -23,7 +23,7 @@ ending_name (ending.Fault f) = fault_name f
 
 -- A line at the present time, with its newline.
 abbrev pub stamped : List ℕ → State → List ℕ
-stamped text s = decimal s.queue.time ++ 32 ∷ text ++ 10 ∷ []
+stamped text s = decimal s.activity.queue.time ++ 32 ∷ text ++ 10 ∷ []
 
 -- The text of what was shown, if something was.
 abbrev pub shown_text : Option (List ℕ) → Option (List ℕ)

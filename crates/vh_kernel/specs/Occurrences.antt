@@ -1,9 +1,18 @@
 -- Occurrences: what callbacks may watch. (IEEE 1364-2005, 27.33)
+use Rattle.std.specs.List.{flat_map}
 use Rattle.std.specs.Prelude.{ℕ, List, [], ◌∷◌, Bool, true, false, if◌then◌else◌, Option, Some, None}
-use Rattle.vh_base.specs.declared.first.FirstBit.{FirstBit}
-use Rattle.vh_base.specs.declared.first.FirstBit.TheVariants as bit
 use Rattle.vh_base.specs.declared.orders.Object.{Object}
 use Rattle.vh_base.specs.declared.words.Reason.{Reason}
+use Rattle.vh_base.specs.declared.words.Reason.TheVariants as reason
+use Rattle.vh_code.specs.declared.change.Change.{Change}
+use Rattle.vh_code.specs.declared.change.Made.{Made}
+use Rattle.vh_logic.specs.Vector.{Vector}
+use Rattle.vh_nodes.specs.declared.object.ObjectInfo.{ObjectInfo}
+use Rattle.vh_nodes.specs.Fits.{has_kind}
+use Rattle.vh_nodes.specs.Kinds.{is_event}
+use Rattle.vh_orders.specs.Names.{whole}
+use Rattle.vh_text.specs.declared.radix.Radix.TheVariants.{Binary}
+use Rattle.vh_text.specs.Texts.{text}
 use Rattle.vh_callbacks.specs.Callbacks.{Callbacks, matching, is_live}
 
 -- Something has happened that callbacks may watch: why, to which object, the value as text and the index
@@ -28,12 +37,33 @@ set_by (Some c) o callbacks = if is_live c callbacks then c ∷ [] else []
 abbrev pub set_of : {B : Type 0} → Occurrence → Callbacks B → List ℕ
 set_of o callbacks = set_by o.only o callbacks
 
--- A register's value as text.
-abbrev pub bit_text : FirstBit → List ℕ
-bit_text bit.Zero = 48 ∷ []
-bit_text bit.One = 49 ∷ []
-bit_text bit.X = 120 ∷ []
-bit_text bit.Z = 122 ∷ []
+-- An object shows another value: its digits as text, the highest first; of a memory with the address of the word. (27.33.1)
+abbrev pub value_change : Object → Option ℕ → Vector → Occurrence
+value_change o index v = record {
+  reason = reason.CbValueChange;
+  object = Some o;
+  value = Some (text Binary v);
+  index = index;
+  only = None;
+}
+
+-- A change of a word is one of the word, and then one of its memory. (own)
+abbrev pub change_at : ℕ → Option ℕ → Vector → List Occurrence
+change_at o None v = value_change (whole o) None v ∷ []
+change_at o (Some at) v =
+    value_change (record { id = o; word = Some at }) None v ∷ value_change (whole o) (Some at) v ∷ []
+
+-- That of a named event is none. (own)
+abbrev pub by_change : List ObjectInfo → Change → List Occurrence
+by_change os c = if has_kind is_event os c.object.id then [] else change_at c.object.id c.object.word c.new
+
+abbrev pub by_made : List ObjectInfo → Option Change → List Occurrence
+by_made os None = []
+by_made os (Some c) = by_change os c
+
+-- What changes in order come to.
+abbrev pub all_by : List ObjectInfo → List Made → List Occurrence
+all_by os ms = flat_map (λ m. by_made os m.change) ms
 
 -- Is there nothing in a list?
 abbrev pub is_empty : {X : Type 0} → List X → Bool

@@ -9,6 +9,7 @@ use Rattle.vh_kernel.specs.declared.phase.Phase.TheVariants as phase
 use Rattle.vh_kernel.specs.declared.control.Control.TheVariants as top
 use Rattle.vh_kernel.specs.Occurrences.{Occurrence}
 use Rattle.vh_kernel.specs.State.{State}
+use Rattle.vh_simulation.specs.Activity.{stopped}
 
 -- The text that was shown, if one was; the occurrences that were made, in their order; and the state.
 pub record Made : Type 0 where
@@ -32,11 +33,16 @@ Move = Label × State
 abbrev pub end_move : Ending → State → Move
 end_move e s = (label.End e, record s { phase = phase.Ended e })
 
+-- In place of a label that would exceed a number the run ends with that fault, and nothing is left of the simulation
+-- but its design and the time.
+abbrev pub fault_move : Fault → State → Move
+fault_move f s = end_move (ending.Fault f) (record s { activity = stopped s.activity })
+
 -- The state with its occurrences pending, the first of them on top.
 abbrev pub after_made : Made → State
 after_made m = record m.state { control = map top.Pending m.occurrences ++ m.state.control }
 
--- The label of an outcome, by what was shown, and the state after it. In place of a label that would exceed a number the run ends with that fault, from the state before.
+-- The label of an outcome, by what was shown, and the state after it.
 abbrev pub move_of : (Option (List ℕ) → Label) → State → Outcome → Move
 move_of l before (Ok m) = (l m.shown, after_made m)
-move_of l before (Err f) = end_move (ending.Fault f) before
+move_of l before (Err f) = fault_move f before

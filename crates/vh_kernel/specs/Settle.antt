@@ -1,7 +1,7 @@
 -- What is dropped before the next label: an occurrence that no callback watches takes none.
 -- (IEEE 1364-2005, 27.33; that it takes no label is own)
-use Rattle.std.specs.Prelude.{List, [], ◌∷◌, Bool, false, if◌then◌else◌, is_some, slice_get}
-use Rattle.vh_base.specs.declared.first.First.{First}
+use Rattle.std.specs.Prelude.{◌≡◌, List, [], ◌∷◌, Bool, false, if◌then◌else◌, is_some, slice_get}
+use Rattle.vh_design.specs.Shape.{Shape}
 use Rattle.vh_app.specs.Script.{ScriptData}
 use Rattle.vh_callbacks.specs.Callbacks.{Callbacks}
 use Rattle.vh_orders.specs.declared.who.Body.{Body}
@@ -10,7 +10,7 @@ use Rattle.vh_kernel.specs.declared.occurrence.Agendum.TheVariants as agendum
 use Rattle.vh_kernel.specs.declared.control.Control.{Control}
 use Rattle.vh_kernel.specs.declared.control.Control.TheVariants as top
 use Rattle.vh_kernel.specs.Occurrences.{occurrence_of, set_of, is_empty}
-use Rattle.vh_kernel.specs.State.{State, before_all}
+use Rattle.vh_kernel.specs.State.{State, IsBeforeAll}
 
 -- Does no callback watch what is on control? Only a pending occurrence can be void.
 abbrev pub is_void : Callbacks Body → Control → Bool
@@ -46,6 +46,8 @@ settled s = record s {
   agenda = if is_some (slice_get (settled_control s) 0) then s.agenda else without_front (is_void_item s.world.callbacks) s.agenda;
 }
 
--- The state at the opening of a design with its scripts.
-abbrev pub opening : First → List ScriptData → State
-opening f scripts = settled (before_all f scripts)
+-- The state at the opening of a design with its scripts: that before all, settled.
+pub record Opens (d : Shape) (scripts : List ScriptData) (s : State) : Type 0 where
+  pub before : State
+  pub is : IsBeforeAll d scripts before
+  pub settles : s ≡ settled before

@@ -1,62 +1,65 @@
--- What each statement comes to, a row for each. (IEEE 1364-2005, 9.2.1 assignments, 9.7.1 delays, 17.1
--- display, 17.4.1 finish)
-use Rattle.std.specs.Prelude.{ℕ, ◌+◌, ◌++◌, List, [], ◌∷◌, drop, if◌then◌else◌, bytes_eq, nat_lt, Option, Some, None, Ok, slice_get, slice_set, unwrap_or}
-use Rattle.vh_base.specs.declared.limits.TheConstants.{MOST_TIME}
+-- What the labels of processes and entries that are picked come to. (IEEE 1364-2005, clauses 9 and 11.4)
+use Rattle.std.specs.Prelude.{ℕ, List, ◌∷◌, Option, Some, None, Result, Ok, Err}
 use Rattle.vh_base.specs.declared.faults.Cause.TheVariants as cause
-use Rattle.vh_base.specs.declared.faults.Fault.TheVariants as fault
-use Rattle.vh_base.specs.declared.first.FirstBit.{FirstBit}
-use Rattle.vh_base.specs.declared.first.FirstCode.{FirstCode}
-use Rattle.vh_base.specs.declared.first.FirstCode.TheVariants as code
-use Rattle.vh_base.specs.declared.words.Reason.TheVariants as reason
-use Rattle.vh_base.specs.Checks.{unless}
-use Rattle.vh_queue.specs.declared.work.Work.TheVariants as work
-use Rattle.vh_queue.specs.declared.region.Region.TheVariants as region
+use Rattle.vh_base.specs.declared.faults.Fault.{Fault}
+use Rattle.vh_kernel.specs.declared.control.Control.{Control}
 use Rattle.vh_kernel.specs.declared.control.Control.TheVariants as top
-use Rattle.vh_kernel.specs.Occurrences.{Occurrence, bit_text}
-use Rattle.vh_queue.specs.Events.{added, is_full}
-use Rattle.vh_orders.specs.Names.{whole}
-use Rattle.vh_kernel.specs.Outcome.{Outcome, silently}
+use Rattle.vh_kernel.specs.Occurrences.{all_by}
+use Rattle.vh_kernel.specs.Outcome.{Made, Outcome, silently}
 use Rattle.vh_kernel.specs.State.{State, with_top}
+use Rattle.vh_queue.specs.declared.work.Work.{Work}
+use Rattle.vh_queue.specs.declared.work.Work.TheVariants as work
+use Rattle.vh_simulation.specs.Labels.{Came, Performed, performed, worked}
+use Rattle.vh_turn.specs.declared.next.Next.{Next}
+use Rattle.vh_turn.specs.declared.next.Next.TheVariants as next
 
--- The statements that a process has still to perform, the next of them, and the state with that behind it.
-abbrev pub rest_of : ℕ → State → List FirstCode
-rest_of p s = unwrap_or (slice_get s.threads p) []
-
-abbrev pub next_statement : ℕ → State → Option FirstCode
-next_statement p s = slice_get (rest_of p s) 0
-
-abbrev pub past_statement : ℕ → State → State
-past_statement p s = record s { threads = slice_set s.threads p (drop 1 (rest_of p s)) }
-
--- The process stays on control.
-abbrev pub going_on : ℕ → State → State
-going_on p s = with_top (top.Process p) (past_statement p s)
-
--- A register gets a value; where it had another, that is an occurrence.
-abbrev pub value_change : ℕ → FirstBit → Occurrence
-value_change reg value = record {
-  reason = reason.CbValueChange;
-  object = Some (whole (reg + 1));
-  value = Some (bit_text value);
-  index = None;
-  only = None;
+-- What a label has changed is what occurs, in that order.
+abbrev pub made_by : Came → State → Made
+made_by c s = record {
+  shown = c.shown;
+  occurrences = all_by c.activity.design.objects c.made;
+  state = record s { activity = c.activity };
 }
 
-abbrev pub value_outcome : Option FirstBit → ℕ → FirstBit → State → Outcome
-value_outcome None reg value s = silently s
-value_outcome (Some old) reg value s =
-    if bytes_eq (bit_text old) (bit_text value) then silently s
-    else Ok (record { shown = None; occurrences = value_change reg value ∷ []; state = record s { store = slice_set s.store reg value } })
+-- A process goes on at once, or not; or the run is to finish. (17.4)
+abbrev pub next_on : Next → ℕ → List Control → List Control
+next_on next.On p cs = top.Process p ∷ cs
+next_on next.Waits p cs = cs
+next_on next.Ends p cs = cs
+next_on (next.Shows n) p cs = top.Process p ∷ cs
+next_on (next.Calls o) p cs = top.Process p ∷ cs
+next_on next.Finishes p cs = top.Leave cause.Finish ∷ top.Process p ∷ cs
+next_on next.Stops p cs = top.Leave cause.Stop ∷ top.Process p ∷ cs
 
--- The statement of a process that was on top of control; where none is left, the process ends. A delay
--- adds an inactive entry of its time, which evaluates the process again.
-abbrev pub statement_outcome : ℕ → Option FirstCode → State → Outcome
-statement_outcome p None s = silently s
-statement_outcome p (Some (code.Wait d)) s =
-    unless (nat_lt MOST_TIME (s.queue.time + d)) fault.F2
-    (unless (is_full s.queue) fault.F3
-    (silently (past_statement p (record s { queue = added (Some (s.queue.time + d)) region.Inactive (work.Evaluate p) s.queue }))))
-statement_outcome p (Some (code.Assign reg value)) s = value_outcome (slice_get s.store reg) reg value (going_on p s)
-statement_outcome p (Some (code.Show text)) s =
-    Ok (record { shown = Some (text ++ 10 ∷ []); occurrences = []; state = going_on p s })
-statement_outcome p (Some code.Finish) s = silently (with_top (top.Leave cause.Finish) (going_on p s))
+abbrev pub after_next : Next → ℕ → State → State
+after_next n p s = record s { control = next_on n p s.control }
+
+-- The next label of a process that was on top of control. Where it has none, or one of which isn't said yet what it does,
+-- nothing is done. (own)
+abbrev pub performed_outcome : Result Performed (Option Fault) → ℕ → State → Outcome
+performed_outcome (Err None) p s = silently s
+performed_outcome (Err (Some f)) p s = Err f
+performed_outcome (Ok r) p s = Ok (made_by r.came (after_next r.next p s))
+
+abbrev pub statement_outcome : ℕ → State → Outcome
+statement_outcome p s = performed_outcome (performed p s.activity) p s
+
+-- An entry is performed: an evaluation puts its process on control, and the others are the simulation's; what a callback's
+-- entry does isn't said yet. (own)
+abbrev pub worked_outcome : Result Came (Option Fault) → State → Outcome
+worked_outcome (Err None) s = silently s
+worked_outcome (Err (Some f)) s = Err f
+worked_outcome (Ok c) s = Ok (made_by c s)
+
+abbrev pub on_control : Work → State → State
+on_control (work.Evaluate p) s = with_top (top.Process p) s
+on_control (work.Drive driver value) s = s
+on_control (work.Assign object low value) s = s
+on_control (work.Follow object force) s = s
+on_control (work.Put object value) s = s
+on_control (work.Strobe n) s = s
+on_control work.MonitorShow s = s
+on_control (work.Call callback) s = s
+
+abbrev pub work_outcome : Work → State → Outcome
+work_outcome w s = worked_outcome (worked w s.activity) (on_control w s)

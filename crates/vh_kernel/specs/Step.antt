@@ -1,7 +1,7 @@
 -- The machine's step: a state, a choice and what is given besides it make the label and the state after
 -- it. (IEEE 1364-2005, 11.4 and 27.33; the numbers that end a run are own.)
 use Rattle.std.specs.Prelude.{◌≡◌, ⊤, ℕ, ◌+◌, ◌-◌, List, [], ◌∷◌, drop, length, max, Bool, true, false, if◌then◌else◌, nat_le, nat_lt, Option, Some, None, slice_get, slice_set}
-use Rattle.vh_base.specs.declared.limits.TheConstants.{MOST_ENTRIES, MOST_FRAMES, MOST_NUMBERS}
+use Rattle.vh_base.specs.declared.limits.TheConstants.{MOST_FRAMES, MOST_NUMBERS}
 use Rattle.vh_base.specs.declared.faults.Cause.{Cause}
 use Rattle.vh_base.specs.declared.faults.Cause.TheVariants as cause
 use Rattle.vh_base.specs.declared.faults.Fault.TheVariants as fault
@@ -19,8 +19,6 @@ use Rattle.vh_callbacks.specs.Callbacks.{info_of, body_of}
 use Rattle.vh_orders.specs.declared.who.Body.{Body}
 use Rattle.vh_orders.specs.declared.who.Who.TheVariants as who_is
 use Rattle.vh_queue.specs.declared.entry.Entry.{Entry}
-use Rattle.vh_queue.specs.declared.work.Work.{Work}
-use Rattle.vh_queue.specs.declared.work.Work.TheVariants as work
 use Rattle.vh_kernel.specs.declared.label.Ending.TheVariants as ending
 use Rattle.vh_kernel.specs.declared.label.Label.{Label}
 use Rattle.vh_kernel.specs.declared.label.Label.TheVariants as label
@@ -34,14 +32,16 @@ use Rattle.vh_kernel.specs.declared.control.Control.{Control}
 use Rattle.vh_kernel.specs.declared.control.Control.TheVariants as top
 use Rattle.vh_kernel.specs.declared.occurrence.Told.{Told}
 use Rattle.vh_kernel.specs.Occurrences.{Occurrence, occurrence_of, set_of}
-use Rattle.vh_queue.specs.Events.{eligible, without, cleared, next_region, activated, least_time, advanced}
+use Rattle.vh_queue.specs.Events.{eligible, without, cleared, next_region, activated, least_time}
 use Rattle.vh_dispatch.specs.Frames.{top_set, without_in_top}
 use Rattle.vh_orders.specs.Orders.{Given, performed, is_return}
 use Rattle.vh_orders.specs.World.{World}
-use Rattle.vh_kernel.specs.Outcome.{Outcome, Move, silently, end_move, move_of}
+use Rattle.vh_kernel.specs.Outcome.{Outcome, Move, silently, end_move, fault_move, move_of}
 use Rattle.vh_kernel.specs.Settle.{settled}
-use Rattle.vh_kernel.specs.State.{State, with_top, without_top, without_item, with_frames, with_variables}
-use Rattle.vh_kernel.specs.Statements.{next_statement, statement_outcome}
+use Rattle.vh_kernel.specs.State.{State, with_queue, with_top, without_top, without_item, with_frames, with_variables}
+use Rattle.vh_kernel.specs.Statements.{statement_outcome, work_outcome}
+use Rattle.vh_simulation.specs.Activity.{is_crowded as has_too_many}
+use Rattle.vh_simulation.specs.Labels.{at_time}
 
 -- A finish empties control with its frames, the agenda and the queue, and the end of simulation is pending.
 abbrev pub finish_move : Cause → State → Move
@@ -49,7 +49,7 @@ finish_move c s = (
   label.Finish c,
   record s {
     world = record s.world { frames = [] };
-    queue = cleared s.queue;
+    activity = record s.activity { queue = cleared s.activity.queue };
     control = top.Pending (occurrence_of reason.CbEndOfSimulation) ∷ [];
     agenda = [];
     phase = phase.Finished c;
@@ -76,7 +76,7 @@ called (Some r) (Some b) c o s = with_top (top.Activation (record {
   who = who_is.Callback c;
   script = b.script;
   at = b.start;
-  seen = first_seen r o s.queue.time;
+  seen = first_seen r o s.activity.queue.time;
 })) s
 
 -- A frame fires the callback of its set that was chosen; where its set is empty, it is done.
@@ -113,34 +113,22 @@ activation_move (Some script) None a s g = (label.Ret a.who, s)
 activation_move (Some script) (Some vars) a s g =
     next_move_of (next_order script a.at vars a.seen) a (with_top (top.Activation a) s) s g
 
--- An entry is performed, a row for each kind of work: an evaluation puts its process on control. No design
--- adds one of the others yet; what they make comes with what adds them.
-abbrev pub work_outcome : Work → State → Outcome
-work_outcome (work.Evaluate p) s = silently (with_top (top.Process p) s)
-work_outcome (work.Drive driver value) s = silently s
-work_outcome (work.Assign object low value) s = silently s
-work_outcome (work.Follow object force) s = silently s
-work_outcome (work.Put object value) s = silently s
-work_outcome (work.Strobe show) s = silently s
-work_outcome work.MonitorShow s = silently s
-work_outcome (work.Call callback) s = silently s
-
 -- Time goes on to the least time of an entry, or where none is left the run finishes.
 abbrev pub time_move : Option ℕ → State → Move
 time_move None s = finish_move cause.Nothing s
-time_move (Some time) s = (label.Advance time, record s { queue = advanced time s.queue })
+time_move (Some time) s = (label.Advance time, record s { activity = at_time time s.activity })
 
 -- A region becomes active, or where none has an entry of the present time, time goes on.
 abbrev pub region_move : Option Region → State → Move
-region_move None s = time_move (least_time s.queue.entries) s
+region_move None s = time_move (least_time s.activity.queue.entries) s
 region_move (Some r) s =
-    (label.Activate r, record s { queue = activated r s.queue })
+    (label.Activate r, with_queue (activated r s.activity.queue) s)
 
 -- An entry is picked and performed, or where none may be a region becomes active.
 abbrev pub pick_move : Option Entry → State → Move
-pick_move None s = region_move (next_region s.queue) s
+pick_move None s = region_move (next_region s.activity.queue) s
 pick_move (Some e) s = move_of (λ shown. label.Pick e.serial shown) s
-    (work_outcome e.work (record s { queue = without e.serial s.queue }))
+    (work_outcome e.work (with_queue (without e.serial s.activity.queue) s))
 
 -- The agenda goes on: a startup begins, or an occurrence is told.
 abbrev pub started : Option ScriptData → ℕ → State → State
@@ -149,11 +137,11 @@ started (Some script) k s = with_top (top.Activation (record {
   who = who_is.Startup k;
   script = k - 1;
   at = start_of part.Startup;
-  seen = startup_seen s.queue.time;
+  seen = startup_seen s.activity.queue.time;
 })) s
 
 abbrev pub agenda_move : Option Agendum → State → ℕ → Move
-agenda_move None s k = pick_move (slice_get (eligible s.queue) k) s
+agenda_move None s k = pick_move (slice_get (eligible s.activity.queue) k) s
 agenda_move (Some (agendum.Startup n)) s k = (label.Startup n, started (slice_get s.world.scripts (n - 1)) n (without_item s))
 agenda_move (Some (agendum.Occurrence r)) s k = occurrence_move (occurrence_of r) s (without_item s)
 
@@ -166,7 +154,7 @@ idle_move (phase.Ended e) s k = end_move e s
 -- What is on top of control goes on; it is taken off first.
 abbrev pub item_move : Control → State → ℕ → Given → Move
 item_move (top.Process p) s k g =
-    move_of (λ shown. label.Stmt p shown) (with_top (top.Process p) s) (statement_outcome p (next_statement p s) s)
+    move_of (λ shown. label.Stmt p shown) (with_top (top.Process p) s) (statement_outcome p s)
 item_move (top.Pending o) s k g = occurrence_move o (with_top (top.Pending o) s) s
 item_move (top.Frame f) s k g = fire_move (slice_get (top_set s.world.frames) k) f s
 item_move (top.Activation a) s k g = activation_move (slice_get s.world.scripts a.script) (slice_get s.world.variables a.script) a s g
@@ -178,10 +166,10 @@ top_move (Some c) s k g = item_move c (without_top s) k g
 
 -- Are there more processes than the queue has room for?
 abbrev pub is_crowded : State → Bool
-is_crowded s = nat_lt MOST_ENTRIES (length s.threads)
+is_crowded s = has_too_many s.activity.design
 
 abbrev pub crowded_move : Bool → State → ℕ → Given → Move
-crowded_move true s k g = end_move (ending.Fault fault.F3) s
+crowded_move true s k g = fault_move fault.F3 s
 crowded_move false s k g = top_move (slice_get s.control 0) s k g
 
 -- Is the run over after the label?
@@ -250,7 +238,7 @@ item_choices (top.Activation a) s = 1
 item_choices (top.Leave c) s = 1
 
 abbrev pub agenda_choices : Option Agendum → State → ℕ
-agenda_choices None s = max (length (eligible s.queue)) 1
+agenda_choices None s = max (length (eligible s.activity.queue)) 1
 agenda_choices (Some item) s = 1
 
 abbrev pub idle_choices : Phase → State → ℕ

@@ -5,7 +5,6 @@ use Rattle.vh_base.specs.declared.faults.Cause.{Cause}
 use Rattle.vh_base.specs.declared.faults.Cause.TheVariants as cause
 use Rattle.vh_base.specs.declared.faults.Fault.{Fault}
 use Rattle.vh_base.specs.declared.faults.Fault.TheVariants as fault
-use Rattle.vh_base.specs.declared.first.First.{First}
 use Rattle.vh_base.specs.declared.orders.Object.{Object}
 use Rattle.vh_base.specs.declared.words.Reason.{Reason}
 use Rattle.vh_app.specs.Script.{ScriptData}
@@ -22,15 +21,18 @@ use Rattle.vh_kernel.specs.declared.occurrence.Agendum.{Agendum}
 use Rattle.vh_kernel.specs.declared.occurrence.Agendum.TheVariants as agendum
 use Rattle.vh_kernel.specs.declared.occurrence.Told.{Told}
 use Rattle.vh_kernel.specs.declared.phase.Phase.TheVariants as phase
-use Rattle.vh_queue.specs.Events.{eligible, without, next_region, activated, least_time, advanced, Rises}
+use Rattle.vh_design.specs.Shape.{Shape}
+use Rattle.vh_simulation.specs.Activity.{stopped}
+use Rattle.vh_simulation.specs.Labels.{at_time}
+use Rattle.vh_queue.specs.Events.{eligible, without, next_region, activated, least_time, Rises}
 use Rattle.vh_dispatch.specs.Frames.{top_set, without_in_top}
 use Rattle.vh_kernel.specs.Occurrences.{Occurrence, occurrence_of}
 use Rattle.vh_orders.specs.Orders.{Given}
 use Rattle.vh_kernel.specs.Outcome.{Made, after_made}
-use Rattle.vh_kernel.specs.Settle.{settled, opening}
-use Rattle.vh_kernel.specs.State.{State, with_top, without_top, without_item, with_frames}
-use Rattle.vh_kernel.specs.Statements.{next_statement, statement_outcome}
-use Rattle.vh_kernel.specs.Step.{Fits, IsStep, is_crowded, is_over, work_outcome, telling_outcome, called, activation_move, started, finish_move, is_end, choices_of}
+use Rattle.vh_kernel.specs.Settle.{settled, Opens}
+use Rattle.vh_kernel.specs.State.{State, with_queue, with_top, without_top, without_item, with_frames}
+use Rattle.vh_kernel.specs.Statements.{statement_outcome, work_outcome}
+use Rattle.vh_kernel.specs.Step.{Fits, IsStep, is_crowded, is_over, telling_outcome, called, activation_move, started, finish_move, is_end, choices_of}
 
 -- The run isn't over, and there are no more processes than the queue has room for.
 pub record IsGoing (s : State) : Type 0 where
@@ -52,8 +54,8 @@ pub record HasNext (s : State) (o : Option Agendum) : Type 0 where
 -- Nothing is on control or on the agenda, no entry may be picked, and this region is next.
 pub record IsCalm (s : State) (r : Option Region) : Type 0 where
   pub next : HasNext s None
-  pub none : eligible s.queue ≡ []
-  pub region : next_region s.queue ≡ r
+  pub none : eligible s.activity.queue ≡ []
+  pub region : next_region s.activity.queue ≡ r
 
 -- The occurrence is told next: it is on top of control, or first on the agenda with nothing on control.
 -- The second is the state without it.
@@ -63,17 +65,19 @@ TellsNext s o r =
     ⊎ ((reason : Reason) × HasNext s (Some (agendum.Occurrence reason)) × (o ≡ occurrence_of reason) × (r ≡ without_item s))
 
 -- The next label would exceed the number of this fault: there are more processes than room for them, or
--- that is what comes of the statement or the occurrence that is next.
+-- that is what comes of the statement, the entry or the occurrence that is next.
 pub data Exceeds (s : State) (f : Fault) : Type 0 where
   by_processes : is_over s.phase ≡ false → is_crowded s ≡ true → f ≡ fault.F3 → Exceeds s f
-  by_statement : (p : ℕ) → HasTop s (top.Process p) → statement_outcome p (next_statement p s) (without_top s) ≡ Err f → Exceeds s f
+  by_statement : (p : ℕ) → HasTop s (top.Process p) → statement_outcome p (without_top s) ≡ Err f → Exceeds s f
+  by_work : (k : ℕ) (e : Entry) → HasNext s None → slice_get (eligible s.activity.queue) k ≡ Some e
+      → work_outcome e.work (with_queue (without e.serial s.activity.queue) s) ≡ Err f → Exceeds s f
   by_occurrence : (o : Occurrence) (r : State) → TellsNext s o r → telling_outcome o r ≡ Err f → Exceeds s f
 
 -- Why the run finishes: it was asked to, or no entry is left.
 abbrev pub FinishIsDue : State → Cause → Type 0
 FinishIsDue s c =
     HasTop s (top.Leave c)
-    ⊎ (IsCalm s None × (least_time s.queue.entries ≡ None) × (c ≡ cause.Nothing))
+    ⊎ (IsCalm s None × (least_time s.activity.queue.entries ≡ None) × (c ≡ cause.Nothing))
 
 -- What was made is what is shown and what is left, by the label that it is told as.
 abbrev pub Leaves : Made → Option (List ℕ) → State → Type 0
@@ -124,16 +128,16 @@ pub record Picks (s : State) (n : ℕ) (shown : Option (List ℕ)) (u : State) :
   pub entry : Entry
   pub made : Made
   pub next : HasNext s None
-  pub chosen : slice_get (eligible s.queue) choice ≡ Some entry
+  pub chosen : slice_get (eligible s.activity.queue) choice ≡ Some entry
   pub serial : entry.serial ≡ n
-  pub makes : work_outcome entry.work (record s { queue = without n s.queue }) ≡ Ok made
+  pub makes : work_outcome entry.work (with_queue (without n s.activity.queue) s) ≡ Ok made
   pub leaves : Leaves made shown u
 
 -- The process on top performs its next statement, or ends.
 pub record Performs (s : State) (p : ℕ) (shown : Option (List ℕ)) (u : State) : Type 0 where
   pub made : Made
   pub on : HasTop s (top.Process p)
-  pub makes : statement_outcome p (next_statement p s) (without_top s) ≡ Ok made
+  pub makes : statement_outcome p (without_top s) ≡ Ok made
   pub leaves : Leaves made shown u
 
 -- From a state a label leads to another, before that settles: a row for each label.
@@ -149,10 +153,10 @@ Row s (label.Done n) u = Closes s n u
 -- all inactive entries of the present time become active, else all nonblocking ones, else those of the
 -- monitor region
 Row s (label.Activate r) u =
-    IsCalm s (Some r) × (u ≡ record s { queue = activated r s.queue })
+    IsCalm s (Some r) × (u ≡ with_queue (activated r s.activity.queue) s)
 -- time advances to the least time of an entry
 Row s (label.Advance time) u =
-    IsCalm s None × (least_time s.queue.entries ≡ Some time) × (u ≡ record s { queue = advanced time s.queue })
+    IsCalm s None × (least_time s.activity.queue.entries ≡ Some time) × (u ≡ record s { activity = at_time time s.activity })
 Row s (label.Pick n shown) u = Picks s n shown u
 Row s (label.Stmt p shown) u = Performs s p shown u
 -- control with its frames, the agenda and the queue are emptied, and the end of simulation is pending
@@ -161,8 +165,9 @@ Row s (label.Finish c) u = FinishIsDue s c × (u ≡ (finish_move c s).1)
 Row s (label.End (ending.Cause c)) u =
     IsGoing s × (s.phase ≡ phase.Finished c) × (slice_get s.control 0 ≡ None)
     × (u ≡ record s { phase = phase.Ended (ending.Cause c) })
--- or in place of a label that would exceed a number, and nothing else changes
-Row s (label.End (ending.Fault f)) u = Exceeds s f × (u ≡ record s { phase = phase.Ended (ending.Fault f) })
+-- or in place of a label that would exceed a number, where nothing is left of the simulation but its design and the time
+Row s (label.End (ending.Fault f)) u =
+    Exceeds s f × (u ≡ record s { activity = stopped s.activity; phase = phase.Ended (ending.Fault f) })
 
 -- From a state a label leads to another; after a label that isn't the last the state settles.
 pub record Step (s : State) (l : Label) (t : State) : Type 0 where
@@ -172,7 +177,7 @@ pub record Step (s : State) (l : Label) (t : State) : Type 0 where
 
 -- What every state of a run keeps: serials from 1 on, each given once and below the next.
 abbrev pub IsSound : State → Type 0
-IsSound s = Rises 1 s.queue.next s.queue.entries
+IsSound s = Rises 1 s.activity.queue.next s.activity.queue.entries
 
 -- The laws of the step. Each choice below the number of choices is a step of the table, whatever number a
 -- new handle gets that was never given;
@@ -192,4 +197,4 @@ abbrev pub OneStateAfter : Type 0
 OneStateAfter = (s t u : State) (l : Label) → IsSound s → Step s l t → Step s l u → t ≡ u
 
 abbrev pub OpensSound : Type 0
-OpensSound = (f : First) (scripts : List ScriptData) → IsSound (opening f scripts)
+OpensSound = (d : Shape) (scripts : List ScriptData) (s : State) → Opens d scripts s → IsSound s

@@ -11,9 +11,7 @@ use Rattle.vh_kernel.specs.State.{State}
 abbrev pub state_of : Kernel → State
 state_of k = record {
   world = world_of k.world;
-  store = k.store.items;
-  queue = k.queue;
-  threads = k.threads.items;
+  activity = k.simulation;
   control = k.control;
   agenda = k.agenda.items;
   occurrence = k.occurrence;

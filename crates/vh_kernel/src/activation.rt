@@ -37,7 +37,8 @@ impl Activation {
         at: Point,
         seen: Seen,
     ) -> Result<Activation, NoMemory>
-        ensures { IfOk result (λ a. a ≡ record { who = who; script = script; at = at; seen = seen }) }
+        ensures { IfOk result (λ a. a
+            ≡ record { who = who; script = script; at = at; seen = seen }) }
     {
         Ok(Activation {
             who,
@@ -81,20 +82,25 @@ impl Activation {
 }
 
 /// What a callback's activation sees at first.
-pub fn first_seen(registration: &Registration, what: &Occurrence, time: u64) -> Seen
-    ensures { result ≡ first_seen registration.now what.now time }
+pub fn first_seen(
+    alloc: Global,
+    registration: &Registration,
+    what: &Occurrence,
+    time: u64,
+) -> Result<Seen, NoMemory>
+    ensures { IfOk result (λ seen. seen ≡ first_seen registration.now what.now time) }
 {
-    Seen {
+    Ok(Seen {
         reason: registration.reason,
         time,
         object: registration.object_handle,
         me: Some(registration.me),
-        value: what.value(),
+        value: what.value(alloc)?,
         index: what.index(),
         user_data: registration.user_data,
         step: 0,
         last: Answer::Null,
-    }
+    })
 }
 
 /// What a startup sees.

@@ -1,4 +1,4 @@
-ghost use Rattle.std.specs.Prelude.{◌≡◌, ◌<◌, ℕ, false, List, [], slice_get, length, ◌^◌, IfOk, OnOk, IsTrue};
+ghost use Rattle.std.specs.Prelude.{◌≡◌, ◌<◌, ℕ, false, List, [], slice_get, length, ◌^◌, IfOk};
 ghost use Rattle.vh_queue.specs.Events.{eligible, next_region, least_time};
 ghost use Rattle.vh_orders.specs.Names.{name_of};
 
@@ -13,24 +13,24 @@ use crate::control::{Control, Stack};
 use crate::label::{Ending, Label};
 use crate::occurrence::{Agendum, Occurrence};
 use crate::phase::Phase;
-use crate::thread::Thread;
 use std::alloc::Global;
 use std::collections::VecDeque;
 use vh_app::Script;
-use vh_base::{Cause, Fault, First, FirstBit, MOST_ENTRIES, NoMemory, ObjId, Reason};
+use vh_base::{Cause, Fault, MOST_ENTRIES, NoMemory, ObjId, Reason};
+use vh_design::Design;
 use vh_orders::{Who, World};
-use vh_queue::{Queue, Work};
+use vh_simulation::Simulation;
 
 /// The machine of one design with its scripts. What it shows is a state; each call of
-/// [`Kernel::step`] takes the logarithm of the entries that stand in the queue, goes over those that
-/// become active, and over the design's names where an order looks for one, and takes no other time that
+/// [`Kernel::step`] takes the logarithm of the entries that stand in the queue, goes over those
+/// that
+/// become active, and over the design's names where an order looks for one, and takes no other
+/// time that
 /// grows with the design.
 #[derive(Drop)]
 pub struct Kernel {
     world: World,
-    store: Vec<FirstBit>,
-    queue: Queue,
-    threads: Vec<Thread>,
+    simulation: Simulation,
     control: Stack,
     agenda: VecDeque<Agendum>,
     occurrence: u64,
@@ -38,30 +38,28 @@ pub struct Kernel {
 }
 
 impl Kernel {
-    ghost use Rattle.vh_base.specs.First.{are_declared};
     ghost use Rattle.vh_kernel.specs.Line.{script_name};
-    ghost use Rattle.vh_kernel.specs.Outcome.{end_move, silently};
-    ghost use Rattle.vh_kernel.specs.Settle.{opening};
-    ghost use Rattle.vh_kernel.specs.Step.{finish_move, time_move, region_move, pick_move, work_outcome, agenda_move, idle_move, crowded_move, top_move, is_crowded, is_end, step_of, next_given, IsStep, choices_of, top_choices, item_choices, idle_choices, agenda_choices};
+    ghost use Rattle.vh_kernel.specs.Outcome.{end_move, fault_move};
+    ghost use Rattle.vh_kernel.specs.Settle.{Opens};
+    ghost use Rattle.vh_kernel.specs.Step.{finish_move, time_move, region_move, pick_move, agenda_move, idle_move, crowded_move, top_move, is_crowded, is_end, step_of, next_given, IsStep, choices_of, top_choices, item_choices, idle_choices, agenda_choices};
     ghost use Rattle.vh_kernel.specs.Views.{state_of, given_by, Moves};
 
     /// The machine at the opening of a design with its scripts.
-    pub fn new(alloc: Global, first: First, scripts: Vec<Script>) -> Result<Kernel, NoMemory>
-        requires declared { IsTrue (are_declared first) }
+    pub fn new(alloc: Global, design: Design, scripts: Vec<Script>) -> Result<Kernel, NoMemory>
         requires few { length scripts.items < 2 ^ 32 }
-        ensures opens { IfOk result (λ k. state_of k ≡ opening first scripts.items) }
+        ensures opens { IfOk result (λ k. Opens design scripts.items (state_of k)) }
         ensures goes { IfOk result (λ k. 0 < choices_of (state_of k)) }
     {
-        let mut kernel = Kernel::before_all(alloc, first, scripts)?;
+        let mut kernel = Kernel::before_all(alloc, design, scripts)?;
         kernel.settle();
         Ok(kernel)
     }
 
     /// The present time, in units of the simulation's precision.
     pub fn time(&self) -> u64
-        ensures { result ≡ (state_of self.now).queue.time }
+        ensures { result ≡ (state_of self.now).activity.queue.time }
     {
-        self.queue.time()
+        self.simulation.time()
     }
 
     /// The full name of an object; no bytes where the design has no such object.
@@ -81,6 +79,13 @@ impl Kernel {
         }
     }
 
+    // Are there more processes than the queue has room for?
+    fn is_crowded(&self) -> bool
+        ensures { result ≡ is_crowded (state_of self.now) }
+    {
+        self.simulation.design().counts().processes as usize > MOST_ENTRIES
+    }
+
     /// How many choices the next label has: at least one before the end, none after it.
     pub fn choices(&self) -> u32
         ensures { result ≡ choices_of (state_of self.now) }
@@ -88,7 +93,7 @@ impl Kernel {
         if let Phase::Ended(_) = self.phase {
             return 0;
         }
-        if self.threads.len() > MOST_ENTRIES {
+        if self.is_crowded() {
             return 1;
         }
         match self.control.top() {
@@ -120,11 +125,12 @@ impl Kernel {
     }
 
     fn agenda_choices(&self) -> u32
-        ensures { result ≡ agenda_choices (slice_get (state_of self.now).agenda 0) (state_of self.now) }
+        ensures { result ≡ agenda_choices (slice_get (state_of self.now).agenda 0)
+            (state_of self.now) }
     {
         match self.agenda.front() {
             Some(_) => 1,
-            None => self.queue.choices().max(1),
+            None => self.simulation.choices().max(1),
         }
     }
 
@@ -133,7 +139,8 @@ impl Kernel {
     pub fn step(&mut self, alloc: Global, k: u32) -> Result<Label, NoMemory>
         requires { k < choices_of (state_of self.old) }
         ensures step { IfOk result (λ l. IsStep (state_of self.old) k (l, state_of self.new)) }
-        ensures in_order { IfOk result (λ l. step_of (state_of self.old) k (next_given (state_of self.old))
+        ensures in_order { IfOk result
+            (λ l. step_of (state_of self.old) k (next_given (state_of self.old))
             ≡ (l, state_of self.new)) }
         ensures goes { IfOk result (λ l. is_end l ≡ false → 0 < choices_of (state_of self.new)) }
     {
@@ -146,10 +153,11 @@ impl Kernel {
 
     fn make_label(&mut self, alloc: Global, k: u32) -> Result<Label, NoMemory>
         requires { k < choices_of (state_of self.old) }
-        ensures { Moves (crowded_move (is_crowded (state_of self.old)) (state_of self.old) k (given_by self.old))
+        ensures { Moves (crowded_move (is_crowded (state_of self.old)) (state_of self.old) k
+            (given_by self.old))
             result self.new }
     {
-        if self.threads.len() > MOST_ENTRIES {
+        if self.is_crowded() {
             return Ok(self.fail(Fault::F3));
         }
         self.go_on(alloc, k)
@@ -157,7 +165,8 @@ impl Kernel {
 
     fn go_on(&mut self, alloc: Global, k: u32) -> Result<Label, NoMemory>
         requires { k < top_choices (slice_get (state_of self.old).control 0) (state_of self.old) }
-        ensures { Moves (top_move (slice_get (state_of self.old).control 0) (state_of self.old) k (given_by self.old))
+        ensures { Moves (top_move (slice_get (state_of self.old).control 0) (state_of self.old) k
+            (given_by self.old))
             result self.new }
     {
         match self.control.pop() {
@@ -180,15 +189,16 @@ impl Kernel {
 
     // In place of a label that would exceed a number.
     fn fail(&mut self, fault: Fault) -> Label
-        ensures { end_move (Ending.Fault fault) (state_of self.old) ≡ (result, state_of self.new) }
+        ensures { fault_move fault (state_of self.old) ≡ (result, state_of self.new) }
     {
+        self.simulation.stop();
         self.end(Ending::Fault(fault))
     }
 
     fn finish(&mut self, cause: Cause) -> Result<Label, NoMemory>
         ensures { Moves (finish_move cause (state_of self.old)) result self.new }
     {
-        self.queue.clear();
+        self.simulation.clear();
         self.agenda.clear();
         self.control.clear();
         self.close_frames();
@@ -201,7 +211,8 @@ impl Kernel {
     // With nothing on control.
     fn go_idle(&mut self, alloc: Global, k: u32) -> Result<Label, NoMemory>
         requires { k < idle_choices (state_of self.old).phase (state_of self.old) }
-        ensures { Moves (idle_move (state_of self.old).phase (state_of self.old) k) result self.new }
+        ensures { Moves (idle_move (state_of self.old).phase
+            (state_of self.old) k) result self.new }
     {
         match self.phase {
             Phase::Running => self.take_agenda(alloc, k),
@@ -216,7 +227,7 @@ impl Kernel {
             result self.new }
     {
         match self.agenda.front() {
-            None => self.pick(k),
+            None => self.pick(alloc, k),
             Some(Agendum::Startup(number)) => {
                 let number = *number;
                 self.start(alloc, number)
@@ -230,64 +241,49 @@ impl Kernel {
 
     // The startup of a script begins, which was next on the agenda.
     fn start(&mut self, alloc: Global, number: u32) -> Result<Label, NoMemory>
-        ensures { Moves (agenda_move (Some (Agendum.Startup number)) (state_of self.old) 0) result self.new }
+        ensures { Moves (agenda_move (Some (Agendum.Startup number))
+            (state_of self.old) 0) result self.new }
     {
         let _ = self.agenda.pop_front();
         let i = number.saturating_sub(1) as usize;
         let Some(script) = self.world.scripts.get(i) else {
             return Ok(Label::Startup(number));
         };
-        let seen = startup_seen(self.queue.time());
+        let seen = startup_seen(self.simulation.time());
         let activation = Activation::new(alloc, Who::Startup(number), i, script.startup(), seen)?;
         self.control.push(Control::Activation(activation))?;
         Ok(Label::Startup(number))
     }
 
-    fn pick(&mut self, k: u32) -> Result<Label, NoMemory>
+    fn pick(&mut self, alloc: Global, k: u32) -> Result<Label, NoMemory>
         requires { k < agenda_choices None (state_of self.old) }
-        ensures { Moves (pick_move (slice_get (eligible (state_of self.old).queue) k) (state_of self.old))
-            result self.new }
+        ensures { Moves (pick_move (slice_get (eligible (state_of self.old).activity.queue) k)
+            (state_of self.old)) result self.new }
     {
-        if self.queue.choices() == 0 {
+        if self.simulation.choices() == 0 {
             return self.change_region();
         }
-        let entry = self.queue.pick(k);
-        self.perform(&entry.work)?;
-        Ok(Label::Pick(entry.serial, None))
-    }
-
-    // What an entry that was picked does.
-    fn perform(&mut self, work: &Work) -> Result<(), NoMemory>
-        ensures { OnOk result (work_outcome work.now (state_of self.old) ≡ silently (state_of self.new)) }
-    {
-        match work {
-            Work::Evaluate(p) => self.control.push(Control::Process(p.number())),
-            // no design adds one of these yet
-            Work::Drive(..)
-            | Work::Assign { .. }
-            | Work::Follow { .. }
-            | Work::Put(..)
-            | Work::Strobe(_)
-            | Work::MonitorShow
-            | Work::Call(_) => Ok(()),
-        }
+        let entry = self.simulation.pick(k);
+        self.work(alloc, &entry)
     }
 
     fn change_region(&mut self) -> Result<Label, NoMemory>
-        ensures { Moves (region_move (next_region (state_of self.old).queue) (state_of self.old))
+        ensures { Moves (region_move (next_region (state_of self.old).activity.queue)
+            (state_of self.old))
             result self.new }
     {
-        match self.queue.activate() {
+        match self.simulation.activate() {
             Some(region) => Ok(Label::Activate(region)),
             None => self.advance_time(),
         }
     }
 
     fn advance_time(&mut self) -> Result<Label, NoMemory>
-        ensures { Moves (time_move (least_time (state_of self.old).queue.entries) (state_of self.old))
+        ensures { Moves (time_move (least_time (state_of self.old).activity.queue.entries)
+            (state_of self.old))
             result self.new }
     {
-        match self.queue.advance() {
+        match self.simulation.advance() {
             Some(time) => Ok(Label::Advance(time)),
             None => self.finish(Cause::Nothing),
         }

@@ -5,7 +5,8 @@
 //! state that the kernel shows to the next, by the k-th of [`Kernel::choices`], and
 //! [`line_of`] is the label's line in the transcript. It stands on `vh_app`, whose scripts say what
 //! they order next, on `vh_orders`, which performs it on the world, on `vh_queue`, which has the
-//! entries, on `vh_dispatch` and `vh_callbacks`, which have the frames' sets and what was registered,
+//! entries, on `vh_dispatch` and `vh_callbacks`, which have the frames' sets and what was
+//! registered,
 //! and on `vh_lines`, which has the texts of orders.
 #![tactic(auto)]
 
@@ -17,7 +18,6 @@ mod laws;
 mod line;
 mod occurrence;
 mod phase;
-mod thread;
 
 pub use kernel::Kernel;
 pub use label::{Ending, Label};

@@ -42,7 +42,9 @@ pub fn line_of(alloc: Global, k: &Kernel, l: &Label) -> Result<Option<String>, N
 
 // The line of a startup that begins.
 fn line_of_startup(alloc: Global, k: &Kernel, number: u32) -> Result<String, AllocError>
-    ensures { IfOk result (λ line. string_bytes line ≡ stamped (codes "startup " ++ plain_text (script_name number (state_of k.now))) (state_of k.now)) }
+    ensures { IfOk result (λ line. string_bytes line
+        ≡ stamped (codes "startup " ++ plain_text (script_name number (state_of k.now)))
+        (state_of k.now)) }
 {
     let time = k.time();
     let mut line = format!(in alloc; "{time} startup ")?;
@@ -60,7 +62,8 @@ fn line_of_order(
     answer: &Answer,
 ) -> Result<String, AllocError>
     ensures { IfOk result (λ line. string_bytes line
-        ≡ decimal time ++ 32 ∷ (codes "do " ++ who_text who ++ 32 ∷ order_text order.now ++ codes " => " ++ answer_text answer.now) ++ 10 ∷ []) }
+        ≡ decimal time ++ 32 ∷
+        (codes "do " ++ who_text who ++ 32 ∷ order_text order.now ++ codes " => " ++ answer_text answer.now) ++ 10 ∷ []) }
 {
     let mut line = line_of_who(alloc, time, who)?;
     push_order(&mut line, order)?;
@@ -72,7 +75,8 @@ fn line_of_order(
 
 // The front of an order's line.
 fn line_of_who(alloc: Global, time: u64, who: Who) -> Result<String, AllocError>
-    ensures { IfOk result (λ line. string_bytes line ≡ decimal time ++ codes " do " ++ who_text who ++ 32 ∷ []) }
+    ensures { IfOk result (λ line. string_bytes line
+        ≡ decimal time ++ codes " do " ++ who_text who ++ 32 ∷ []) }
 {
     match who {
         Who::Callback(c) => {
@@ -104,7 +108,8 @@ fn line_of_occurrence(
 
 // Adds the full name of an object, or a dash for none.
 fn push_object(line: &mut String, k: &Kernel, object: Option<Object>) -> Result<(), AllocError>
-    ensures { OnOk result (string_bytes line.new ≡ string_bytes line.old ++ object_text object (state_of k.now)) }
+    ensures { OnOk result (string_bytes line.new
+        ≡ string_bytes line.old ++ object_text object (state_of k.now)) }
 {
     match object {
         Some(object) => push_plain(line, k.object_name(object.id)),
@@ -114,21 +119,24 @@ fn push_object(line: &mut String, k: &Kernel, object: Option<Object>) -> Result<
 
 // The line of a callback that fires.
 fn line_of_fire(alloc: Global, time: u64, n: u64, c: u64) -> Result<String, AllocError>
-    ensures { IfOk result (λ line. string_bytes line ≡ decimal time ++ 32 ∷ (codes "fire " ++ decimal n ++ codes " c" ++ decimal c) ++ 10 ∷ []) }
+    ensures { IfOk result (λ line. string_bytes line
+        ≡ decimal time ++ 32 ∷ (codes "fire " ++ decimal n ++ codes " c" ++ decimal c) ++ 10 ∷ []) }
 {
     format!(in alloc; "{time} fire {n} c{c}\n")
 }
 
 // The line of an occurrence that is done.
 fn line_of_done(alloc: Global, time: u64, n: u64) -> Result<String, AllocError>
-    ensures { IfOk result (λ line. string_bytes line ≡ decimal time ++ 32 ∷ (codes "done " ++ decimal n) ++ 10 ∷ []) }
+    ensures { IfOk result (λ line. string_bytes line
+        ≡ decimal time ++ 32 ∷ (codes "done " ++ decimal n) ++ 10 ∷ []) }
 {
     format!(in alloc; "{time} done {n}\n")
 }
 
 // The line of an end.
 fn line_of_end(alloc: Global, time: u64, ending: &Ending) -> Result<String, AllocError>
-    ensures { IfOk result (λ line. string_bytes line ≡ decimal time ++ 32 ∷ (codes "end " ++ ending_name ending.now) ++ 10 ∷ []) }
+    ensures { IfOk result (λ line. string_bytes line
+        ≡ decimal time ++ 32 ∷ (codes "end " ++ ending_name ending.now) ++ 10 ∷ []) }
 {
     let name = name_of(ending);
     format!(in alloc; "{time} end {name}\n")
@@ -150,7 +158,8 @@ fn line_of_shown(
     time: u64,
     shown: &Option<Bytes>,
 ) -> Result<Option<String>, NoMemory>
-    ensures { IfOk result (λ line. option_map string_bytes line ≡ option_map (λ text. decimal time ++ 32 ∷ text ++ 10 ∷ []) (shown_text shown.now)) }
+    ensures { IfOk result (λ line. option_map string_bytes line
+        ≡ option_map (λ text. decimal time ++ 32 ∷ text ++ 10 ∷ []) (shown_text shown.now)) }
 {
     let Some(text) = shown else {
         return Ok(None);

@@ -1,13 +1,17 @@
-ghost use Rattle.std.specs.Prelude.{◌≡◌, ◌<◌, ◌∷◌, Some, None, option_map, not, length, OnOk};
+ghost use Rattle.std.specs.Prelude.{◌≡◌, ◌<◌, ◌∷◌, not, length, IfOk, OnOk};
 ghost use Rattle.vh_dispatch.specs.Frames.{stack_of};
-ghost use Rattle.vh_kernel.specs.Occurrences.{bit_text, occurrence_of, set_of, is_empty};
+ghost use Rattle.vh_text.specs.declared.radix.Radix.TheVariants.{Binary};
+ghost use Rattle.vh_text.specs.Texts.{text};
+ghost use Rattle.vh_kernel.specs.Occurrences.{occurrence_of, value_change, set_of, is_empty};
 
 use std::alloc::Global;
 use std::marker::Model;
-use vh_base::{FirstBit, MOST_FRAMES, NoMemory, Object, Reason, Short};
+use vh_base::{MOST_FRAMES, NoMemory, Object, Reason, Short};
 use vh_callbacks::Registry;
 use vh_dispatch::Dispatch;
+use vh_logic::Vec4;
 use vh_orders::Body;
+use vh_text::{Radix, text_of};
 
 /// Something has happened that callbacks may watch: why, to which object, and the value that
 /// it left there (IEEE 1364-2005, 27.33). Contracts see the value as its text.
@@ -15,16 +19,19 @@ use vh_orders::Body;
 pub struct Occurrence {
     reason: Reason,
     object: Option<Object>,
-    value: Option<FirstBit>,
+    value: Option<Vec4>,
+    index: Option<u32>,
 }
 
 impl Model for Occurrence {
     ghost use Rattle.std.specs.Prelude.{None, option_map};
-    ghost use Rattle.vh_kernel.specs.Occurrences.{Occurrence as Occurring, bit_text};
+    ghost use Rattle.vh_kernel.specs.Occurrences.{Occurrence as Occurring};
+    ghost use Rattle.vh_text.specs.declared.radix.Radix.TheVariants.{Binary};
+    ghost use Rattle.vh_text.specs.Texts.{text};
 
     ghost Value = { Occurring };
 
-    ghost view = { λ o. record { reason = o.reason; object = o.object; value = option_map bit_text o.value; index = None; only = None } };
+    ghost view = { λ o. record { reason = o.reason; object = o.object; value = option_map (text Binary) o.value; index = o.index; only = None } };
 }
 
 impl Occurrence {
@@ -38,17 +45,19 @@ impl Occurrence {
             reason,
             object: None,
             value: None,
+            index: None,
         }
     }
 
-    /// An object has this value from now on.
-    pub fn value_change(object: Object, value: FirstBit) -> Occurrence
-        ensures { result ≡ record { reason = Reason.CbValueChange; object = Some object; value = Some (bit_text value); index = None; only = None } }
+    /// An object shows this value from now on; of a memory its word at this address does.
+    pub fn value_change(object: Object, index: Option<u32>, value: Vec4) -> Occurrence
+        ensures { result ≡ value_change object index value }
     {
         Occurrence {
             reason: Reason::CbValueChange,
             object: Some(object),
             value: Some(value),
+            index,
         }
     }
 
@@ -60,6 +69,7 @@ impl Occurrence {
             reason: self.reason,
             object: self.object,
             value: self.value,
+            index: self.index,
         }
     }
 
@@ -106,29 +116,30 @@ impl Occurrence {
     pub fn index(&self) -> Option<u64>
         ensures { result ≡ self.now.index }
     {
-        // no occurrence has one yet
-        let _ = &self.value;
-        None
+        self.index.map(u64::from)
     }
 
     /// The value as text.
-    pub fn value(&self) -> Option<Short>
-        ensures { result ≡ self.now.value }
+    pub fn value(&self, alloc: Global) -> Result<Option<Short>, NoMemory>
+        ensures { IfOk result (λ value. value ≡ self.now.value) }
     {
-        Short::new(text_of(self.value?))
+        let Some(value) = &self.value else {
+            return Ok(None);
+        };
+        Ok(Some(binary_text(alloc, value)?))
     }
 }
 
-// A register's value as text.
-fn text_of(value: FirstBit) -> &'static [u8]
-    ensures { result.now ≡ bit_text value }
+// A value's digits as text, of which there are 64 at most.
+fn binary_text(alloc: Global, value: &Vec4) -> Result<Short, NoMemory>
+    ensures { IfOk result (λ t. t ≡ text Binary value.now) }
 {
-    match value {
-        FirstBit::Zero => b"0",
-        FirstBit::One => b"1",
-        FirstBit::X => b"x",
-        FirstBit::Z => b"z",
-    }
+    let _digits = value.width();
+    let text = text_of(alloc, value, Radix::Binary)?;
+    let Some(short) = Short::new(text.as_bytes()) else {
+        unreachable!();
+    };
+    Ok(short)
 }
 
 /// An occurrence that was told, under its number. Which callbacks are still to fire for it,

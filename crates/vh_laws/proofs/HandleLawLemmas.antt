@@ -28,7 +28,8 @@ use Rattle.vh_handles.specs.declared.handles.Thing.TheVariants as thing
 use Rattle.vh_kernel.specs.declared.label.Label.{Label}
 use Rattle.vh_kernel.specs.declared.label.Label.TheVariants as label
 use Rattle.vh_handles.specs.Handles.{Handles, thing_at, opened, freed, no_handle_more}
-use Rattle.vh_orders.specs.Names.{object_named, is_scope}
+use Rattle.vh_nodes.specs.Kinds.{is_scope}
+use Rattle.vh_orders.specs.Names.{object_named, is_kind, may_watch}
 use Rattle.vh_orders.specs.Orders.{Given, Effect, answered, effect_of, is_startup, object_in, callback_in, name_meant, new_handle, needs_object, needs_entry, object_watched, body_named, start_in, registration_of, handle_or_null, handle_if, handles_read, is_named, all_named, not_yet}
 use Rattle.vh_kernel.specs.Outcome.{Move}
 use Rattle.vh_kernel.specs.State.{State, without_top, with_variables}
@@ -294,18 +295,18 @@ meant-found None text s c named is one = absurd (cc)
 meant-found (Some h) text s c named is one =
     with_ok-holds (λ (r : Result (List ℕ) Code). r ≡ Err c → ⊥) (object_in (thing_at h s.handles)) _
     (λ e found same. object-found (thing_at h s.handles) e named found (let e_is : e ≡ c = cc in e_is ∙ one))
-    (λ o found. unless-holds (λ (r : Result (List ℕ) Code). r ≡ Err c → ⊥) (not (is_scope o)) code.E2 _
+    (λ o found. unless-holds (λ (r : Result (List ℕ) Code). r ≡ Err c → ⊥) (not (is_kind is_scope o.id s.names)) code.E2 _
     (λ _ same. absurd (let two : code.E2 ≡ code.E1 = (let e_is : code.E2 ≡ c = cc in e_is ∙ one) in cc))
     (λ _ same. absurd (cc))) is
 
-watched-found : (needs : Bool) (h : Option ℕ) (s : World) (c : Code) → all_named s (handle_if needs h) ≡ true
-    → object_watched needs h s ≡ Err c → c ≡ code.E1 → ⊥
-watched-found false h s c named is one = absurd (cc)
-watched-found true None s c named is one = absurd (cc)
-watched-found true (Some h) s c named is one =
+watched-found : (needs : Bool) (r : Reason) (h : Option ℕ) (s : World) (c : Code) → all_named s (handle_if needs h) ≡ true
+    → object_watched needs r h s ≡ Err c → c ≡ code.E1 → ⊥
+watched-found false r h s c named is one = absurd (cc)
+watched-found true r None s c named is one = absurd (cc)
+watched-found true r (Some h) s c named is one =
     with_ok-holds (λ (r : Result (Option Object) Code). r ≡ Err c → ⊥) (object_in (thing_at h s.handles)) _
     (λ e found same. object-found (thing_at h s.handles) e named found (let e_is : e ≡ c = cc in e_is ∙ one))
-    (λ o found. unless-holds (λ (r : Result (Option Object) Code). r ≡ Err c → ⊥) (is_scope o) code.E2 _
+    (λ o found. unless-holds (λ (x : Result (Option Object) Code). x ≡ Err c → ⊥) (not (is_kind (may_watch r) o.id s.names)) code.E2 _
     (λ _ same. absurd (let two : code.E2 ≡ code.E1 = (let e_is : code.E2 ≡ c = cc in e_is ∙ one) in cc))
     (λ _ same. absurd (cc))) is
 
@@ -365,8 +366,8 @@ register-found : (r : Reason) (h : Option ℕ) (time : ℕ) (body : BodyName) (n
 register-found r h time body n w s named =
     unless-holds NotE1 (is_startup w && needs_object r) code.E9 _ (λ _. no-E9)
     (λ _. unless-holds NotE1 (needs_entry r) code.E9 _ (λ _. no-E9)
-    (λ _. with_ok-holds NotE1 (object_watched (needs_object r) h s) _
-    (λ c is. E1-apart c (watched-found (needs_object r) h s c named is))
+    (λ _. with_ok-holds NotE1 (object_watched (needs_object r) r h s) _
+    (λ c is. E1-apart c (watched-found (needs_object r) r h s c named is))
     (λ o _. with_ok-holds NotE1 (body_named body s.scripts) _
     (λ c is. E1-apart c (body-found body s.scripts c is))
     (λ b _. unless-holds NotE1 (no_callback_more s.callbacks) code.E11 _ (λ _. no-E11)
@@ -518,11 +519,11 @@ no-entry reason.CbEndOfCompile needs = absurd (cc)
 no-entry reason.CbStartOfSimulation needs = absurd (cc)
 no-entry reason.CbEndOfSimulation needs = absurd (cc)
 
-watched-none : (needs : Bool) (x : Option ℕ) (s : World) (h : ℕ) → list_any (is_handle h) (handle_if needs x) ≡ true
-    → thing_at h s.handles ≡ None → (needs ≡ true) × (object_watched needs x s ≡ Err code.E1)
-watched-none false x s h is gone = absurd (cc)
-watched-none true None s h is gone = absurd (cc)
-watched-none true (Some k) s h is gone =
+watched-none : (needs : Bool) (r : Reason) (x : Option ℕ) (s : World) (h : ℕ) → list_any (is_handle h) (handle_if needs x) ≡ true
+    → thing_at h s.handles ≡ None → (needs ≡ true) × (object_watched needs r x s ≡ Err code.E1)
+watched-none false r x s h is gone = absurd (cc)
+watched-none true r None s h is gone = absurd (cc)
+watched-none true r (Some k) s h is gone =
     let none : thing_at k s.handles ≡ None = ap (λ (n : ℕ). thing_at n s.handles) (sym (read-one h k is)) ∙ gone in
     (refl, with_ok-Err (object_in (thing_at k s.handles)) code.E1 _ (ap object_in none))
 
@@ -530,12 +531,12 @@ register-refused : (r : Reason) (x : Option ℕ) (time : ℕ) (body : BodyName) 
     → reads h (order.Register r x time body n) ≡ true → thing_at h s.handles ≡ None
     → RefusedBy w (effect_of (order.Register r x time body n) w s)
 register-refused r x time body n w s h is gone =
-    let watched = watched-none (needs_object r) x s h is gone in
+    let watched = watched-none (needs_object r) r x s h is gone in
     unless-holds (RefusedBy w) (is_startup w && needs_object r) code.E9 _
     (λ early. inr ((and_parts (is_startup w) (needs_object r) early).0, refl))
     (λ _. unless-holds (RefusedBy w) (needs_entry r) code.E9 _
     (λ entry. absurd (not_both (needs_entry r) entry (no-entry r watched.0)))
-    (λ _. inl (with_ok-Err (object_watched (needs_object r) x s) code.E1 _ watched.1)))
+    (λ _. inl (with_ok-Err (object_watched (needs_object r) r x s) code.E1 _ watched.1)))
 
 effect-refused : (o : Order) (w : Who) (s : World) (h : ℕ) → reads h o ≡ true → thing_at h s.handles ≡ None → RefusedBy w (effect_of o w s)
 effect-refused (order.ByName text scope) w s h is gone = by_name-refused text scope w s h is gone

@@ -6,7 +6,11 @@ use Rattle.vh_handles.specs.Handles.{Handles, thing_at}
 use Rattle.vh_kernel.specs.Outcome.{Move}
 use Rattle.vh_kernel.specs.Run.{Chooser, fifo, chosen, chooser_after, IsRun}
 use Rattle.vh_kernel.specs.State.{State}
-use Rattle.vh_kernel.specs.Step.{choices_of, is_end}
+use Rattle.vh_kernel.specs.declared.control.Control.{Control}
+use Rattle.vh_kernel.specs.Settle.{is_void, without_front}
+use Rattle.vh_kernel.specs.Step.{choices_of, is_end, is_over}
+use Rattle.vh_callbacks.specs.Callbacks.{IsSound}
+use Rattle.vh_orders.specs.World.{World}
 use Rattle.vh_kernel.proofs.StepLemmas.{some-choice, step-goes}
 use Rattle.vh_laws.specs.Firing.{frames_in, frames_of}
 use Rattle.vh_laws.specs.Laws.{IsFresh, PathsKeepLaws, RunsKeepLaws, OpensFresh}
@@ -55,4 +59,11 @@ runs-keep-laws s fresh order moves run =
     paths-keep-laws s moves fresh (run-path order s moves (some-choice s fresh.going) run)
 
 pub opens-fresh : OpensFresh
-opens-fresh f scripts = record { going = refl; alone = refl; none_given = refl; sound = sound_opening Body }
+opens-fresh d scripts s opens =
+    let P : State → Type 0 = IsFresh in
+    subst P (sym opens.settles) (record {
+      going = ap is_over opens.is.phase;
+      alone = ap (λ (cs : List Control). without_front (is_void opens.before.world.callbacks) cs) opens.is.control;
+      none_given = ap (λ (w : World). w.handles) opens.is.world;
+      sound = subst (λ (w : World). IsSound w.callbacks) (sym opens.is.world) (sound_opening Body);
+    })

@@ -16,5 +16,9 @@ pub mod FiringLemmas
 pub mod HandleLawLemmas
 -- Every path and every run from a fresh state keeps the laws.
 pub mod LawsLemmas
+-- Openings, for rows that are computed.
+mod Openings
+-- Worked rows, computed by the definitions alone.
+pub mod RunRows
 -- Worked rows with one label changed, each refused by a law.
 pub mod LawRows

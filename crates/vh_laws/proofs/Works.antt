@@ -58,7 +58,7 @@ pub record RegistersAs (s : State) (o : Order) (h : ℕ) (r : Registration) (b :
   pub calls : BodyName
   pub object : Option Object
   pub asks : o ≡ order.Register reason watched time calls number
-  pub watches : object_watched (needs_object reason) watched s.world ≡ Ok object
+  pub watches : object_watched (needs_object reason) reason watched s.world ≡ Ok object
   pub found : body_named calls s.world.scripts ≡ Ok b
   pub is : r ≡ registration_of reason object watched time number h
 

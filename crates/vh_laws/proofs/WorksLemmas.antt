@@ -1,11 +1,9 @@
 -- Each step of the machine is one of the six kinds.
-use Rattle.std.proofs.Common.{◌≡◌, ℕ, zero, suc, ◌+◌, ◌-◌, List, [], ◌∷◌, ◌++◌, drop, map, length, Bool, true, false, cond, Option, Some, None, Ok, slice_get, nat_eq, nat_lt, nat_le, bytes_eq, refl, sym, ap, subst, ◌∙◌, ◌⊎◌, inl, inr}
+use Rattle.std.proofs.Common.{◌≡◌, ℕ, zero, suc, ◌+◌, ◌-◌, List, [], ◌∷◌, ◌++◌, drop, map, length, Bool, true, false, cond, Option, Some, None, Result, Ok, Err, slice_get, nat_eq, nat_lt, nat_le, refl, sym, ap, subst, ◌∙◌, ◌⊎◌, inl, inr}
 use Rattle.std.proofs.lemmas.Bool.{eq-eqb}
-use Rattle.vh_base.specs.declared.limits.TheConstants.{MOST_FRAMES, MOST_NUMBERS, MOST_TIME}
+use Rattle.vh_base.specs.declared.limits.TheConstants.{MOST_FRAMES, MOST_NUMBERS}
+use Rattle.vh_base.specs.declared.faults.Fault.{Fault}
 use Rattle.vh_base.specs.declared.faults.Fault.TheVariants as fault
-use Rattle.vh_base.specs.declared.first.FirstBit.{FirstBit}
-use Rattle.vh_base.specs.declared.first.FirstCode.{FirstCode}
-use Rattle.vh_base.specs.declared.first.FirstCode.TheVariants as code
 use Rattle.vh_base.specs.declared.orders.Answer.{Answer}
 use Rattle.vh_base.specs.declared.orders.Answer.TheVariants as answer
 use Rattle.vh_base.specs.declared.orders.Order.{Order}
@@ -27,19 +25,21 @@ use Rattle.vh_kernel.specs.declared.label.Ending.TheVariants as ending
 use Rattle.vh_kernel.specs.declared.label.Label.{Label}
 use Rattle.vh_kernel.specs.declared.label.Label.TheVariants as label
 use Rattle.vh_kernel.specs.declared.occurrence.Told.{Told}
-use Rattle.vh_queue.specs.Events.{is_full}
 use Rattle.vh_handles.specs.Handles.{opened, freed}
 use Rattle.vh_callbacks.specs.Marks.{is_among, without_number}
-use Rattle.vh_kernel.specs.Occurrences.{Occurrence, bit_text, is_empty, set_of}
+use Rattle.vh_kernel.specs.Occurrences.{Occurrence, is_empty, set_of}
 use Rattle.vh_orders.specs.Orders.{Given, Effect, answered, effect_of, name_meant, object_watched, needs_object}
 use Rattle.vh_kernel.specs.Outcome.{Made, Outcome, Move, after_made}
 use Rattle.vh_kernel.specs.Settle.{settled, settled_control, is_void, without_front}
 use Rattle.vh_kernel.specs.State.{State, with_top, without_top, without_item, with_frames, with_variables}
-use Rattle.vh_kernel.specs.Statements.{next_statement, going_on, value_outcome, statement_outcome}
-use Rattle.vh_kernel.specs.Step.{Fits, FitsAnswer, telling_outcome, called, started, work_outcome, is_end}
+use Rattle.vh_kernel.specs.Statements.{next_on, performed_outcome, worked_outcome, on_control, work_outcome}
+use Rattle.vh_simulation.specs.Labels.{Came, Performed, performed, worked}
+use Rattle.vh_turn.specs.declared.next.Next.{Next}
+use Rattle.vh_turn.specs.declared.next.Next.TheVariants as next
+use Rattle.vh_kernel.specs.Step.{Fits, FitsAnswer, telling_outcome, called, started, is_end}
 use Rattle.vh_kernel.specs.Table.{HasTop, TellsNext, Row, Step}
 use Rattle.vh_orders.proofs.OrdersLemmas.{IsForm, refuses, answers_only, opens_object, registers, removes, effect-form}
-use Rattle.vh_kernel.proofs.StepLemmas.{AllMade, either-made, IsActing, returns, orders, acts}
+use Rattle.vh_kernel.proofs.StepLemmas.{AllMade, IsActing, returns, orders, acts}
 use Rattle.vh_kernel.proofs.TableLemmas.{steps-by-table, tells-number}
 use Rattle.vh_dispatch.specs.Frames.{top_set, without_in_top}
 use Rattle.vh_orders.specs.World.{World}
@@ -108,29 +108,42 @@ made-view m = framed (view_of m.state) (frames_in (map top.Pending m.occurrences
 abbrev HasView : View → Made → Type 0
 HasView v m = view_of m.state ≡ v
 
-value-view : (o : Option FirstBit) (reg : ℕ) (value : FirstBit) (s : State) → AllMade (HasView (view_of s)) (value_outcome o reg value s)
-value-view None reg value s = refl
-value-view (Some old) reg value s =
-    either-made (HasView (view_of s)) (bytes_eq (bit_text old) (bit_text value)) _ _ refl refl
+-- What a process does next is no frame.
+frames-next : (n : Next) (p : ℕ) (xs : List Control) (sets : List (List ℕ)) → frames_in (next_on n p xs) sets ≡ frames_in xs sets
+frames-next next.On p xs sets = refl
+frames-next next.Waits p xs sets = refl
+frames-next next.Ends p xs sets = refl
+frames-next (next.Shows n) p xs sets = refl
+frames-next (next.Calls o) p xs sets = refl
+frames-next next.Finishes p xs sets = refl
+frames-next next.Stops p xs sets = refl
 
-statement-view : (p : ℕ) (o : Option FirstCode) (s : State) → AllMade (HasView (view_of s)) (statement_outcome p o s)
-statement-view p None s = refl
-statement-view p (Some (code.Wait d)) s =
-    unless-holds (AllMade (HasView (view_of s))) (nat_lt MOST_TIME (s.queue.time + d)) fault.F2 _ (λ _. tt)
-    (λ _. unless-holds (AllMade (HasView (view_of s))) (is_full s.queue) fault.F3 _ (λ _. tt) (λ _. refl))
-statement-view p (Some (code.Assign reg value)) s = value-view (slice_get s.store reg) reg value (going_on p s)
-statement-view p (Some (code.Show text)) s = refl
-statement-view p (Some code.Finish) s = refl
+statement-view : (p : ℕ) (r : Result Performed (Option Fault)) (s : State) → AllMade (HasView (view_of s)) (performed_outcome r p s)
+statement-view p (Err None) s = refl
+statement-view p (Err (Some f)) s = tt
+statement-view p (Ok r) s =
+    framed (view_of s) (frames_in (next_on r.next p s.control) s.world.frames) (frames_of s) (frames-next r.next p s.control s.world.frames)
+
+-- What an entry puts on control is none.
+on-control-view : (w : Work) (s : State) → view_of (on_control w s) ≡ view_of s
+on-control-view (work.Evaluate p) s = refl
+on-control-view (work.Drive driver value) s = refl
+on-control-view (work.Assign object low value) s = refl
+on-control-view (work.Follow object force) s = refl
+on-control-view (work.Put object value) s = refl
+on-control-view (work.Strobe n) s = refl
+on-control-view work.MonitorShow s = refl
+on-control-view (work.Call callback) s = refl
+
+worked-view : (r : Result Came (Option Fault)) (s : State) → AllMade (HasView (view_of s)) (worked_outcome r s)
+worked-view (Err None) s = refl
+worked-view (Err (Some f)) s = tt
+worked-view (Ok c) s = refl
 
 work-view : (w : Work) (s : State) → AllMade (HasView (view_of s)) (work_outcome w s)
-work-view (work.Evaluate p) s = refl
-work-view (work.Drive driver value) s = refl
-work-view (work.Assign object low value) s = refl
-work-view (work.Follow object force) s = refl
-work-view (work.Put object value) s = refl
-work-view (work.Strobe show) s = refl
-work-view work.MonitorShow s = refl
-work-view (work.Call callback) s = refl
+work-view w s =
+    let P : View → Type 0 = λ v. AllMade (HasView v) (work_outcome w s) in
+    subst P (on-control-view w s) (worked-view (worked w s.activity) (on_control w s))
 
 left-view : (v : View) (out : Outcome) (m : Made) (u : State) → out ≡ Ok m → u ≡ after_made m → AllMade (HasView v) out → view_of u ≡ v
 left-view v out m u is leaves has =
@@ -241,11 +254,11 @@ same-meant : (vars : List (List Answer)) (s : State) (scope : Option ℕ) (text 
 same-meant vars s None text = refl
 same-meant vars s (Some h) text = refl
 
-same-watched : (vars : List (List Answer)) (s : State) (needs : Bool) (h : Option ℕ)
-    → object_watched needs h (performing vars s).world ≡ object_watched needs h s.world
-same-watched vars s false h = refl
-same-watched vars s true None = refl
-same-watched vars s true (Some h) = refl
+same-watched : (vars : List (List Answer)) (s : State) (needs : Bool) (r : Reason) (h : Option ℕ)
+    → object_watched needs r h (performing vars s).world ≡ object_watched needs r h s.world
+same-watched vars s false r h = refl
+same-watched vars s true r None = refl
+same-watched vars s true r (Some h) = refl
 
 same-finds : (vars : List (List Answer)) (s : State) (o : Order) (x : Thing) → FindsObject (performing vars s) o x → FindsObject s o x
 same-finds vars s o x f = record {
@@ -269,7 +282,7 @@ same-registers vars s o h r b f = record {
   calls = f.calls;
   object = f.object;
   asks = f.asks;
-  watches = sym (same-watched vars s (needs_object f.reason) f.watched) ∙ f.watches;
+  watches = sym (same-watched vars s (needs_object f.reason) f.reason f.watched) ∙ f.watches;
   found = f.found;
   is = f.is;
 }
@@ -366,7 +379,7 @@ row-works s u (label.Pick n shown) row =
     works_none refl (left-view (view_of s) _ row.made u row.makes row.leaves.1 (work-view row.entry.work _))
 row-works s u (label.Stmt p shown) row =
     works_none refl
-    (left-view (view_of (without_top s)) _ row.made u row.makes row.leaves.1 (statement-view p (next_statement p s) (without_top s))
+    (left-view (view_of (without_top s)) _ row.made u row.makes row.leaves.1 (statement-view p (performed p s.activity) (without_top s))
     ∙ popped-view s (top.Process p) row.on.on refl)
 row-works s u (label.Finish c) row = empties refl (ap view_of row.1)
 row-works s u (label.End (ending.Cause c)) row = works_none refl (ap view_of row.3)

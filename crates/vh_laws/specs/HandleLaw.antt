@@ -81,7 +81,7 @@ pub record Registers (s : State) (o : Order) (h : ℕ) (x : Thing) (t : State) :
   pub object : Option Object
   pub body : Body
   pub asks : o ≡ order.Register reason watched time calls user_data
-  pub watches : object_watched (needs_object reason) watched s.world ≡ Ok object
+  pub watches : object_watched (needs_object reason) reason watched s.world ≡ Ok object
   pub found : body_named calls s.world.scripts ≡ Ok body
   pub names : x ≡ thing.Callback s.world.callbacks.next
   pub info : info_of s.world.callbacks.next t.world.callbacks ≡ Some (registration_of reason object watched time user_data h)

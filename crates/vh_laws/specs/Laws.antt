@@ -1,12 +1,12 @@
 -- The laws of every path, of every run and of every prefix of one.
 use Rattle.std.specs.Prelude.{◌≡◌, List, [], false}
-use Rattle.vh_base.specs.declared.first.First.{First}
+use Rattle.vh_design.specs.Shape.{Shape}
 use Rattle.vh_app.specs.Script.{ScriptData}
 use Rattle.vh_callbacks.specs.Callbacks.{IsSound}
 use Rattle.vh_handles.specs.Handles.{no_handles}
 use Rattle.vh_kernel.specs.Outcome.{Move}
 use Rattle.vh_kernel.specs.Run.{Chooser, IsRun}
-use Rattle.vh_kernel.specs.Settle.{opening}
+use Rattle.vh_kernel.specs.Settle.{Opens}
 use Rattle.vh_kernel.specs.State.{State}
 use Rattle.vh_kernel.specs.Step.{is_over}
 use Rattle.vh_laws.specs.Paths.{IsPath}
@@ -58,4 +58,4 @@ RunsKeepLaws = (s : State) → IsFresh s → (order : Chooser) → Lawful order 
 
 -- the opening of a design with its scripts is such a state.
 abbrev pub OpensFresh : Type 0
-OpensFresh = (f : First) (scripts : List ScriptData) → IsFresh (opening f scripts)
+OpensFresh = (d : Shape) (scripts : List ScriptData) (s : State) → Opens d scripts s → IsFresh s

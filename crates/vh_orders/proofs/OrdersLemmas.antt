@@ -31,7 +31,7 @@ pub data IsForm (o : Order) (s : World) (e : Effect) : Type 0 where
       → e ≡ Ok (opens (λ h. record s { handles = opened h (thing.Object (whole id)) s.handles })) → IsForm o s e
   -- it registers a callback, with its handle;
   registers : (r : Reason) (h : Option ℕ) (time n : ℕ) (body : BodyName) (object : Option Object) (b : Body)
-      → o ≡ order.Register r h time body n → object_watched (needs_object r) h s ≡ Ok object
+      → o ≡ order.Register r h time body n → object_watched (needs_object r) r h s ≡ Ok object
       → body_named body s.scripts ≡ Ok b → no_callback_more s.callbacks ≡ false → no_handle_more s.handles ≡ false
       → e ≡ Ok (opens (λ me. record s {
         callbacks = registered (registration_of r object h time n me) b s.callbacks;
@@ -75,7 +75,7 @@ register-form r h time body n w s =
     let P : Effect → Type 0 = IsForm (order.Register r h time body n) s in
     unless-holds P (is_startup w && needs_object r) code.E9 _ (λ _. refuses code.E9 refl)
     (λ _. unless-holds P (needs_entry r) code.E9 _ (λ _. refuses code.E9 refl)
-    (λ _. with_ok-holds P (object_watched (needs_object r) h s) _ (λ c _. refuses c refl)
+    (λ _. with_ok-holds P (object_watched (needs_object r) r h s) _ (λ c _. refuses c refl)
     (λ o watches. with_ok-holds P (body_named body s.scripts) _ (λ c _. refuses c refl)
     (λ b calls. unless-holds P (no_callback_more s.callbacks) code.E11 _ (λ _. refuses code.E11 refl)
     (λ room. unless-holds P (no_handle_more s.handles) code.E10 _ (λ _. refuses code.E10 refl)

@@ -1,28 +1,66 @@
--- The names of a design's objects. (IEEE 1364-2005, 12.5)
-use Rattle.std.specs.Prelude.{ℕ, ◌++◌, List, [], ◌∷◌, map, Bool, ◌==◌, Option, None, bytes_eq, position, slice_get, unwrap_or}
-use Rattle.vh_base.specs.declared.first.First.{First}
+-- The names of a design's objects. (IEEE 1364-2005, 12.5 and 26.3.2)
+use Rattle.std.specs.Prelude.{ℕ, ◌++◌, List, ◌∷◌, [], map, length, Bool, false, ◌&&◌, ◌||◌, Option, Some, None, bytes_eq, position, slice_get, unwrap_or}
+use Rattle.std.specs.List.{range_with_len}
+use Rattle.std.specs.Option.{option_map}
 use Rattle.vh_base.specs.declared.orders.Object.{Object}
+use Rattle.vh_base.specs.declared.words.Reason.{Reason}
+use Rattle.vh_base.specs.declared.words.Reason.TheVariants as reason
+use Rattle.vh_design.specs.Shape.{Shape}
+use Rattle.vh_names.specs.Names.{full_name}
+use Rattle.vh_nodes.specs.declared.object.Kind.{Kind}
+use Rattle.vh_nodes.specs.declared.object.Kind.TheVariants as of
+use Rattle.vh_nodes.specs.declared.object.ObjectInfo.{ObjectInfo}
+use Rattle.vh_nodes.specs.Kinds.{is_scope, is_vector, is_memory, is_event, is_forcible}
+use Rattle.vh_orders.specs.declared.names.Named.{Named}
 
 -- A path below a scope.
 abbrev pub below : List ℕ → List ℕ → List ℕ
 below scope path = scope ++ 46 ∷ path
 
--- The full names of the objects, by number: the module, then its registers.
-abbrev pub full_names : First → List (List ℕ)
-full_names f = f.name ∷ map (below f.name) f.regs
+-- The objects of a design by number, each with its full name and its kind.
+abbrev pub kind_at : List ObjectInfo → ℕ → Kind
+kind_at os o = unwrap_or (option_map (λ i. i.kind) (slice_get os o)) of.Operation
 
--- The object of a full name.
-abbrev pub object_named : List ℕ → List (List ℕ) → Option ℕ
-object_named text names = position (bytes_eq text) names
+abbrev pub named_at : List ObjectInfo → ℕ → Named
+named_at os o = record { name = full_name os o; kind = kind_at os o }
+
+abbrev pub full_names : Shape → List Named
+full_names d = map (named_at d.objects) (range_with_len 0 (length d.objects))
+
+-- Which kinds of object a full name means: not a port, which stands beside the net or variable of its name; nor one that has no
+-- name. (own)
+abbrev pub has_path : Kind → Bool
+has_path k = is_scope k || is_vector k || is_memory k || is_event k
+
+abbrev pub has_name : List ℕ → Named → Bool
+has_name text n = has_path n.kind && bytes_eq text n.name
+
+-- The object of a full name, the first where several have it.
+abbrev pub object_named : List ℕ → List Named → Option ℕ
+object_named text names = position (has_name text) names
 
 -- The full name of an object.
-abbrev pub name_of : ℕ → List (List ℕ) → List ℕ
-name_of id names = unwrap_or (slice_get names id) []
+abbrev pub name_of : ℕ → List Named → List ℕ
+name_of id names = unwrap_or (option_map (λ n. n.name) (slice_get names id)) []
+
+-- Is an object of such a kind?
+abbrev pub is_kind : (Kind → Bool) → ℕ → List Named → Bool
+is_kind test id names = unwrap_or (option_map (λ n. test n.kind) (slice_get names id)) false
 
 -- A design object as a whole.
 abbrev pub whole : ℕ → Object
 whole id = record { id = id; word = None }
 
--- Is the object a scope? The module is; a register isn't.
-abbrev pub is_scope : Object → Bool
-is_scope o = o.id == 0
+-- Which kinds of object a reason may watch. (27.33)
+abbrev pub may_watch : Reason → Kind → Bool
+may_watch reason.CbValueChange k = is_forcible k || is_memory k
+may_watch reason.CbForce k = is_forcible k
+may_watch reason.CbRelease k = is_forcible k
+may_watch reason.CbAtStartOfSimTime k = false
+may_watch reason.CbAfterDelay k = false
+may_watch reason.CbNextSimTime k = false
+may_watch reason.CbReadWriteSynch k = false
+may_watch reason.CbReadOnlySynch k = false
+may_watch reason.CbEndOfCompile k = false
+may_watch reason.CbStartOfSimulation k = false
+may_watch reason.CbEndOfSimulation k = false

@@ -26,7 +26,8 @@ use Rattle.vh_callbacks.specs.Marks.{without_number}
 use Rattle.vh_handles.specs.declared.handles.Thing.{Thing}
 use Rattle.vh_handles.specs.declared.handles.Thing.TheVariants as thing
 use Rattle.vh_handles.specs.Handles.{thing_at, opened, freed, no_handle_more}
-use Rattle.vh_orders.specs.Names.{object_named, name_of, below, whole, is_scope}
+use Rattle.vh_nodes.specs.Kinds.{is_scope}
+use Rattle.vh_orders.specs.Names.{object_named, name_of, is_kind, may_watch, below, whole}
 use Rattle.vh_orders.specs.World.{World}
 
 -- An order is refused with an error, and nothing changes; or it is answered; or it gives a new handle,
@@ -72,7 +73,8 @@ callback_in (Some (thing.Event serial)) = Err code.E2
 abbrev pub name_meant : Option ℕ → List ℕ → World → Result (List ℕ) Code
 name_meant None path w = Ok path
 name_meant (Some h) path w =
-    with_ok (object_in (thing_at h w.handles)) (λ o. unless (not (is_scope o)) code.E2 (Ok (below (name_of o.id w.names) path)))
+    with_ok (object_in (thing_at h w.handles)) (λ o.
+    unless (not (is_kind is_scope o.id w.names)) code.E2 (Ok (below (name_of o.id w.names) path)))
 
 -- A new handle of an object, or null where there is none.
 abbrev pub new_handle : Option ℕ → World → Effect
@@ -110,12 +112,13 @@ needs_entry reason.CbEndOfCompile = false
 needs_entry reason.CbStartOfSimulation = false
 needs_entry reason.CbEndOfSimulation = false
 
--- The object that a registration watches: a register.
-abbrev pub object_watched : Bool → Option ℕ → World → Result (Option Object) Code
-object_watched false h w = Ok None
-object_watched true h w =
+-- The object that a registration watches: one of a kind that its reason may watch.
+abbrev pub object_watched : Bool → Reason → Option ℕ → World → Result (Option Object) Code
+object_watched false r h w = Ok None
+object_watched true r h w =
     with_some h code.E1 (λ n.
-    with_ok (object_in (thing_at n w.handles)) (λ o. unless (is_scope o) code.E2 (Ok (Some o))))
+    with_ok (object_in (thing_at n w.handles)) (λ o.
+    unless (not (is_kind (may_watch r) o.id w.names)) code.E2 (Ok (Some o))))
 
 -- The procedure of a script, by their names. A native is none, since no natives are handed in yet.
 abbrev pub start_in : ℕ → List ℕ → ScriptData → Option Body
@@ -269,7 +272,7 @@ effect_of order.GetTime who w = not_yet order.GetTime who w
 effect_of (order.Register r h time body n) who w =
     unless (is_startup who && needs_object r) code.E9
     (unless (needs_entry r) code.E9
-    (with_ok (object_watched (needs_object r) h w) (λ o.
+    (with_ok (object_watched (needs_object r) r h w) (λ o.
     with_ok (body_named body w.scripts) (λ b.
     new_callback (registration_of r o h time n) b w))))
 -- remove

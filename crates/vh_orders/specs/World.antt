@@ -5,13 +5,14 @@ use Rattle.vh_base.specs.declared.orders.Answer.{Answer}
 use Rattle.vh_base.specs.declared.words.Code.{Code}
 use Rattle.vh_callbacks.specs.Callbacks.{Callbacks}
 use Rattle.vh_handles.specs.Handles.{Handles}
+use Rattle.vh_orders.specs.declared.names.Named.{Named}
 use Rattle.vh_orders.specs.declared.who.Body.{Body}
 
--- The full names of the design's objects by number, and the scripts, which no order changes; the variables
+-- The design's objects by number, with their full names and kinds, and the scripts, which no order changes; the variables
 -- of each script; the callbacks; for each frame that stands, the top first, the callbacks that are still to
 -- fire for it; the handles; and the error of the last order.
 pub record World : Type 0 where
-  pub names : List (List ℕ)
+  pub names : List Named
   pub scripts : List ScriptData
   pub variables : List (List Answer)
   pub callbacks : Callbacks Body

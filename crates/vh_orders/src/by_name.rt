@@ -4,7 +4,7 @@ ghost use Rattle.vh_orders.specs.Orders.{effect_of, object_in, new_handle};
 ghost use Rattle.vh_orders.specs.Views.{world_of, HasEffect};
 
 use crate::halt::Halt;
-use crate::names::{is_scope, joined, object_named};
+use crate::names::{joined, object_named};
 use crate::tables::is_startup;
 use crate::who::Who;
 use crate::world::World;
@@ -46,7 +46,7 @@ impl World {
             Ok(object) => object,
             Err(code) => return Err(Halt::Refused(code)),
         };
-        if !is_scope(&object) {
+        if !self.is_scope(object.id) {
             return Err(Halt::Refused(Code::E2));
         }
         let found = self.path_named(alloc, &object, text)?;
@@ -61,7 +61,8 @@ impl World {
         path: &[u8],
     ) -> Result<Option<usize>, NoMemory>
         ensures { IfOk result (λ id. id ≡ object_named
-            (below (name_of scope.now.id (world_of self.now).names) path.now) (world_of self.now).names) }
+            (below (name_of scope.now.id (world_of self.now).names) path.now)
+            (world_of self.now).names) }
     {
         let name = joined(alloc, self.object_name(scope.id), path)?;
         Ok(object_named(&self.names, name.as_slice()))

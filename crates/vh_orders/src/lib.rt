@@ -20,7 +20,7 @@ mod tables;
 mod who;
 mod world;
 
-pub use names::joined;
+pub use names::{Named, joined};
 pub use performing::perform;
 pub use tables::is_return;
 pub use who::{Body, Who};

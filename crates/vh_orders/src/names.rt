@@ -1,21 +1,50 @@
 ghost use Rattle.std.specs.Prelude.{◌≡◌, position, IfOk};
-ghost use Rattle.vh_orders.specs.Names.{object_named, below, is_scope};
+ghost use Rattle.vh_orders.specs.Names.{has_path, object_named, below, may_watch};
 
 use std::alloc::Global;
-use vh_base::{Bytes, NoMemory, Object, Sequence};
+use vh_base::{Bytes, NoMemory, Reason, Sequence};
+use vh_design::Kind;
 
-// Is the object a scope?
-pub(crate) fn is_scope(object: &Object) -> bool
-    ensures { result ≡ is_scope object.now }
+/// An object of the design as applications know it.
+#[derive(Drop)]
+pub struct Named {
+    /// Its full name.
+    pub name: Bytes,
+    pub kind: Kind,
+}
+
+// Does a full name mean an object of this kind?
+fn has_path(kind: Kind) -> bool
+    ensures { result ≡ has_path kind }
 {
-    object.id.number() == 0
+    kind.is_scope() || kind.is_vector() || kind.is_memory() || kind.is_event()
 }
 
 // The object of a full name.
-pub(crate) fn object_named(names: &[Bytes], text: &[u8]) -> Option<usize>
+pub(crate) fn object_named(names: &[Named], text: &[u8]) -> Option<usize>
     ensures { result ≡ object_named text.now names.now }
 {
-    names.iter().position(|name| name.as_slice() == text)
+    names
+        .iter()
+        .position(|n| has_path(n.kind) && n.name.as_slice() == text)
+}
+
+// May a reason watch an object of this kind?
+pub(crate) fn may_watch(reason: Reason, kind: Kind) -> bool
+    ensures { result ≡ may_watch reason kind }
+{
+    match reason {
+        Reason::CbValueChange => kind.is_forcible() || kind.is_memory(),
+        Reason::CbForce | Reason::CbRelease => kind.is_forcible(),
+        Reason::CbAtStartOfSimTime
+        | Reason::CbAfterDelay
+        | Reason::CbNextSimTime
+        | Reason::CbReadWriteSynch
+        | Reason::CbReadOnlySynch
+        | Reason::CbEndOfCompile
+        | Reason::CbStartOfSimulation
+        | Reason::CbEndOfSimulation => false,
+    }
 }
 
 /// A path below a scope: the two with a dot between them.

@@ -36,7 +36,8 @@ impl World {
     }
 
     fn carry_out(&mut self, alloc: Global, who: &Who, order: &Order) -> Result<Answer, Halt>
-        ensures { HasEffect (effect_of order.now who.now (world_of self.old)) self.old result self.new }
+        ensures { HasEffect (effect_of order.now who.now
+            (world_of self.old)) self.old result self.new }
     {
         match order {
             Order::ByName { text, scope } => self.by_name(alloc, who, text.bytes(), *scope),
@@ -84,7 +85,8 @@ impl World {
 
     // An order that no script gives yet.
     fn not_yet(&self, who: &Who, order: &Order) -> Result<Answer, Halt>
-        ensures { HasEffect (not_yet order.now who.now (world_of self.now)) self.now result self.now }
+        ensures { HasEffect (not_yet order.now who.now
+            (world_of self.now)) self.now result self.now }
     {
         if is_startup(who) {
             return Err(Halt::Refused(Code::E9));

@@ -4,7 +4,6 @@ ghost use Rattle.vh_orders.specs.Views.{world_of, given_by, HasEffect};
 
 use crate::by_name::object_in;
 use crate::halt::Halt;
-use crate::names::is_scope;
 use crate::tables::{is_startup, needs_entry, needs_object};
 use crate::who::{Body, Who};
 use crate::world::World;
@@ -60,7 +59,8 @@ impl World {
         requires unwatched { registration.object ≡ None }
         requires alone { registration.serial ≡ None }
         requires fresh { registration.me ≡ (given_by self.old).handle }
-        ensures { HasEffect (effect_of (Order.Register registration.reason registration.object_handle
+        ensures { HasEffect (effect_of
+            (Order.Register registration.reason registration.object_handle
             registration.time body.now registration.user_data) who.now (world_of self.old))
             self.old result self.new }
     {
@@ -86,7 +86,7 @@ impl World {
 
     // What a registration watches, or the error of its handle.
     fn object_watched(&self, reason: Reason, h: Option<HandleNo>) -> Result<Option<Object>, Code>
-        ensures { result ≡ object_watched (needs_object reason) h (world_of self.now) }
+        ensures { result ≡ object_watched (needs_object reason) reason h (world_of self.now) }
     {
         if !needs_object(reason) {
             return Ok(None);
@@ -98,7 +98,7 @@ impl World {
             Ok(object) => object,
             Err(code) => return Err(code),
         };
-        if is_scope(&object) {
+        if !self.may_watch(reason, object.id) {
             return Err(Code::E2);
         }
         Ok(Some(object))
@@ -112,7 +112,8 @@ impl World {
         body: Body,
     ) -> Result<Answer, Halt>
         requires { registration.me ≡ (given_by self.old).handle }
-        ensures { HasEffect (new_callback (λ me. record registration { me = me }) body (world_of self.old))
+        ensures { HasEffect (new_callback
+            (λ me. record registration { me = me }) body (world_of self.old))
             self.old result self.new }
     {
         if self.registry.is_full() {

@@ -13,7 +13,8 @@ use vh_handles::Thing;
 impl World {
     // remove: the callback is gone, and its handle is freed.
     pub(crate) fn remove(&mut self, who: &Who, h: Option<HandleNo>) -> Result<Answer, Halt>
-        ensures { HasEffect (effect_of (Order.Remove h) who.now (world_of self.old)) self.old result self.new }
+        ensures { HasEffect (effect_of (Order.Remove h) who.now
+            (world_of self.old)) self.old result self.new }
     {
         if is_startup(who) {
             return Err(Halt::Refused(Code::E9));

@@ -1,10 +1,12 @@
 ghost use Rattle.std.specs.Prelude.{◌≡◌, Ok, Err};
-ghost use Rattle.vh_orders.specs.Names.{name_of};
+ghost use Rattle.vh_nodes.specs.Kinds.{is_scope};
+ghost use Rattle.vh_orders.specs.Names.{name_of, is_kind, may_watch};
 ghost use Rattle.vh_orders.specs.Views.{world_of};
 
+use crate::names::{Named, may_watch};
 use crate::who::Body;
 use vh_app::{Script, Vars};
-use vh_base::{Bytes, Code, ObjId};
+use vh_base::{Code, ObjId, Reason};
 use vh_callbacks::Registry;
 use vh_dispatch::Dispatch;
 use vh_handles::Handles;
@@ -12,8 +14,8 @@ use vh_handles::Handles;
 /// What the orders of applications read and change, which contracts see by `world_of`.
 #[derive(Drop)]
 pub struct World {
-    /// The full names of the design's objects, by number.
-    pub names: Vec<Bytes>,
+    /// The design's objects, by number.
+    pub names: Vec<Named>,
     pub scripts: Vec<Script>,
     /// The variables of each script.
     pub vars: Vec<Vars>,
@@ -31,8 +33,28 @@ impl World {
         ensures { result.now ≡ name_of id (world_of self.now).names }
     {
         match self.names.get(id.number() as usize) {
-            Some(name) => name.as_slice(),
+            Some(named) => named.name.as_slice(),
             None => &[],
+        }
+    }
+
+    // Is an object a scope?
+    pub(crate) fn is_scope(&self, id: ObjId) -> bool
+        ensures { result ≡ is_kind is_scope id (world_of self.now).names }
+    {
+        match self.names.get(id.number() as usize) {
+            Some(named) => named.kind.is_scope(),
+            None => false,
+        }
+    }
+
+    // May a reason watch an object?
+    pub(crate) fn may_watch(&self, reason: Reason, id: ObjId) -> bool
+        ensures { result ≡ is_kind (may_watch reason) id (world_of self.now).names }
+    {
+        match self.names.get(id.number() as usize) {
+            Some(named) => may_watch(reason, named.kind),
+            None => false,
         }
     }
 }

@@ -172,8 +172,8 @@ impl Threads {
         }
     }
 
-    // A process gets an evaluation entry, now.
-    pub(crate) fn resume(&mut self, q: &mut Queue, p: ProcId) -> Result<(), StepFault>
+    /// A process gets an evaluation entry, now.
+    pub fn resume(&mut self, q: &mut Queue, p: ProcId) -> Result<(), StepFault>
         ensures done { OnOk result (resumed p (queued self.old q.old)
             ≡ Ok (queued self.new q.new)) }
         ensures fails { IfErr result (FailsBy (resumed p (queued self.old q.old))) }

@@ -19,7 +19,7 @@ mod watchers;
 
 pub use follow::Follow;
 pub use laws::sense_laws;
-pub use readers::reads;
+pub use readers::{count_parts, part_at, reads};
 pub use sense::Sense;
 
 #[cfg(test)]

@@ -50,8 +50,8 @@ fn count_selected(selected: &Selected) -> usize
     }
 }
 
-// How many parts an expression has.
-fn count_parts(kind: &ExprKind) -> usize
+/// How many parts an expression has.
+pub fn count_parts(kind: &ExprKind) -> usize
     ensures { result ≡ length (parts_of kind.now) }
 {
     match kind {
@@ -79,8 +79,8 @@ fn selected_at(selected: &Selected, k: usize) -> Option<ExprId>
     }
 }
 
-// The part at a place.
-fn part_at(kind: &ExprKind, k: usize) -> Option<ExprId>
+/// The part of an expression at a place; none behind its last.
+pub fn part_at(kind: &ExprKind, k: usize) -> Option<ExprId>
     ensures { result ≡ slice_get (parts_of kind.now) k }
 {
     match kind {

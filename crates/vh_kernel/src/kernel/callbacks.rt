@@ -36,7 +36,8 @@ impl Kernel {
 
     // An occurrence that is next on the agenda is told.
     pub(crate) fn occur_next(&mut self, alloc: Global, what: Occurrence) -> Result<Label, NoMemory>
-        ensures { Moves (occurrence_move what (state_of self.old) (without_item (state_of self.old)))
+        ensures { Moves (occurrence_move what (state_of self.old) (without_item
+            (state_of self.old)))
             result self.new }
     {
         if self.frames() >= MOST_FRAMES {
@@ -53,7 +54,8 @@ impl Kernel {
     fn tell(&mut self, alloc: Global, what: Occurrence) -> Result<Label, NoMemory>
         requires few { length (state_of self.old).world.frames < MOST_FRAMES }
         requires few_told { (state_of self.old).occurrence ≤ MOST_NUMBERS }
-        ensures { Moves (occurrence_move what (state_of self.old) (state_of self.old)) result self.new }
+        ensures { Moves (occurrence_move what (state_of self.old)
+            (state_of self.old)) result self.new }
     {
         let number = self.occurrence;
         self.open_frame(alloc, number, &what)?;
@@ -65,7 +67,8 @@ impl Kernel {
 
     // A frame that was on top of control fires the callback that was chosen, or is done.
     pub(crate) fn fire(&mut self, alloc: Global, told: Told, k: u32) -> Result<Label, NoMemory>
-        ensures { Moves (fire_move (slice_get (top_set (state_of self.old).world.frames) k) told (state_of self.old))
+        ensures { Moves (fire_move (slice_get (top_set (state_of self.old).world.frames) k) told
+            (state_of self.old))
             result self.new }
     {
         let number = told.number;
@@ -81,13 +84,15 @@ impl Kernel {
 
     // What a callback calls begins.
     fn call(&mut self, alloc: Global, c: CbNumber, what: &Occurrence) -> Result<(), NoMemory>
-        ensures { OnOk result (state_of self.new ≡ called (info_of c (state_of self.old).world.callbacks)
+        ensures { OnOk result (state_of self.new
+            ≡ called (info_of c (state_of self.old).world.callbacks)
             (body_of c (state_of self.old).world.callbacks) c what.now (state_of self.old)) }
     {
         let Some(live) = self.world.registry.callback(c) else {
             return Ok(());
         };
-        let seen = first_seen(&live.registration, what, self.queue.time());
+        let time = self.simulation.time();
+        let seen = first_seen(alloc, &live.registration, what, time)?;
         let body = live.body;
         let activation = Activation::new(alloc, Who::Callback(c), body.script, body.start, seen)?;
         self.control.push(Control::Activation(activation))
@@ -95,7 +100,8 @@ impl Kernel {
 
     // An activation that was on top of control gives its next order, or returns.
     pub(crate) fn act(&mut self, alloc: Global, activation: Activation) -> Result<Label, NoMemory>
-        ensures { Moves (activation_move (slice_get (state_of self.old).world.scripts activation.script)
+        ensures { Moves (activation_move (slice_get
+            (state_of self.old).world.scripts activation.script)
             (slice_get (state_of self.old).world.variables activation.script) activation
             (state_of self.old) (given_by self.old)) result self.new }
     {
@@ -119,7 +125,8 @@ impl Kernel {
         order: Order,
     ) -> Result<Label, NoMemory>
         requires { is_return order ≡ false }
-        ensures { (before : State) → Moves (order_move false order activation before (state_of self.old)
+        ensures { (before : State) → Moves (order_move false order activation before
+            (state_of self.old)
             (given_by self.old)) result self.new }
     {
         let who = activation.who();

@@ -35,7 +35,8 @@ impl Kernel {
     ) -> Result<(), NoMemory>
         requires { length (state_of self.old).world.frames < MOST_FRAMES }
         ensures { OnOk result (state_of self.new ≡ with_frames
-            (set_of what.now (state_of self.old).world.callbacks ∷ (state_of self.old).world.frames) (state_of self.old)) }
+            (set_of what.now (state_of self.old).world.callbacks ∷
+            (state_of self.old).world.frames) (state_of self.old)) }
     {
         let world = &mut self.world;
         what.begin(alloc, &mut world.dispatch, &mut world.registry, number)
@@ -53,7 +54,8 @@ impl Kernel {
 
     // The top frame goes.
     pub(crate) fn close_frame(&mut self)
-        ensures { state_of self.new ≡ with_frames (drop 1 (state_of self.old).world.frames) (state_of self.old) }
+        ensures { state_of self.new
+            ≡ with_frames (drop 1 (state_of self.old).world.frames) (state_of self.old) }
     {
         self.world.dispatch.finish(&mut self.world.registry);
     }

@@ -1,158 +1,160 @@
-ghost use Rattle.std.specs.Prelude.{◌≡◌, ◌+◌, List, [], ◌∷◌, ◌++◌, Some, None, bytes_eq, option_copied, IfOk, IfSome};
-ghost use Rattle.vh_kernel.specs.Occurrences.{bit_text};
-ghost use Rattle.vh_kernel.specs.Statements.{value_change};
+ghost use Rattle.std.specs.Prelude.{◌≡◌, ◌++◌, true, map, OnOk};
+ghost use Rattle.vh_kernel.specs.Occurrences.{change_at, by_made, all_by};
+ghost use Rattle.vh_kernel.specs.Statements.{next_on};
+ghost use Rattle.vh_nodes.specs.Fits.{has_kind};
+ghost use Rattle.vh_nodes.specs.Kinds.{is_event};
 
-use crate::control::Control;
+use crate::control::{Control, Stack};
 use crate::kernel::Kernel;
 use crate::label::Label;
 use crate::occurrence::Occurrence;
 use std::alloc::Global;
-use vh_base::{
-    Bytes, Cause, Fault, FirstBit, FirstCode, MOST_TIME, NoMemory, ObjId, Object, ProcId, Sequence,
-};
-use vh_queue::{AddFault, Region, Work};
+use vh_base::{Cause, NoMemory, ObjId, Object, ProcId};
+use vh_design::{Change, Design, Made};
+use vh_logic::Vec4;
+use vh_queue::{Entry, Work};
+use vh_simulation::{Next, StepFault};
 
-// A text with a newline behind it.
-fn with_newline(alloc: Global, text: &[u8]) -> Result<Bytes, NoMemory>
-    ensures { IfOk result (λ shown. shown ≡ text.now ++ 10 ∷ []) }
+// The occurrences of a change of an object or a word are pending.
+fn pend_change(
+    control: &mut Stack,
+    id: ObjId,
+    word: Option<u32>,
+    value: Vec4,
+) -> Result<(), NoMemory>
+    ensures { OnOk result (control.new
+        ≡ map Control.Pending (change_at id word value) ++ control.old) }
 {
-    let mut shown = Vec::with_capacity(alloc, text.len().saturating_add(1))?;
-    shown.extend_from_slice(text)?;
-    shown.push(b'\n')?;
-    Ok(Sequence::new(shown))
-}
-
-// Are two values of a register one?
-fn is_same(a: FirstBit, b: FirstBit) -> bool
-    ensures { result ≡ bytes_eq (bit_text a) (bit_text b) }
-{
-    match a {
-        FirstBit::Zero => matches!(b, FirstBit::Zero),
-        FirstBit::One => matches!(b, FirstBit::One),
-        FirstBit::X => matches!(b, FirstBit::X),
-        FirstBit::Z => matches!(b, FirstBit::Z),
+    let whole = Object { id, word: None };
+    control.push(Control::Pending(Occurrence::value_change(whole, word, value)))?;
+    if word.is_some() {
+        let object = Object { id, word };
+        control.push(Control::Pending(Occurrence::value_change(object, None, value)))?;
     }
+    Ok(())
 }
 
-// The occurrence that a register has this value from now on; none for a register whose object
-// would have no number.
-fn value_change(reg: u32, value: FirstBit) -> Option<Occurrence>
-    ensures { IfSome result (λ o. o ≡ value_change reg value) }
+// Those of what was made of an object.
+fn pend_made(control: &mut Stack, d: &Design, made: &Made) -> Result<(), NoMemory>
+    ensures { OnOk result (control.new
+        ≡ map Control.Pending (by_made (d.now).objects (made.now).change) ++ control.old) }
 {
-    let id = reg.checked_add(1)?;
-    let object = Object {
-        id: ObjId::new(id),
-        word: None,
+    let Some(change) = &made.change else {
+        return Ok(());
     };
-    Some(Occurrence::value_change(object, value))
+    let object = change.object;
+    if is_event(d, object.id) {
+        return Ok(());
+    }
+    pend_change(control, object.id, object.word, change.new)
+}
+
+// Is an object a named event?
+fn is_event(d: &Design, id: ObjId) -> bool
+    ensures { result ≡ has_kind is_event (d.now).objects id }
+{
+    id.number() < d.counts().objects && d.object(id).kind.is_event()
+}
+
+// Those of all changes, the first of them on top.
+fn pend_all(control: &mut Stack, d: &Design, made: &[Made]) -> Result<(), NoMemory>
+    ensures { OnOk result (control.new
+        ≡ map Control.Pending (all_by (d.now).objects made.now) ++ control.old) }
+{
+    for i in 0..made.len() {
+        pend_made(control, d, &made[made.len() - 1 - i])?;
+    }
+    Ok(())
+}
+
+// What a process does next stands on control.
+fn go_on(control: &mut Stack, next: Next, p: u64) -> Result<(), NoMemory>
+    ensures { OnOk result (control.new ≡ next_on next p control.old) }
+{
+    match next {
+        Next::On | Next::Shows(_) | Next::Calls(_) => control.push(Control::Process(p)),
+        Next::Waits | Next::Ends => Ok(()),
+        Next::Finishes => {
+            control.push(Control::Process(p))?;
+            control.push(Control::Leave(Cause::Finish))
+        }
+        Next::Stops => {
+            control.push(Control::Process(p))?;
+            control.push(Control::Leave(Cause::Stop))
+        }
+    }
 }
 
 impl Kernel {
-    ghost use Rattle.vh_kernel.specs.Outcome.{move_of};
-    ghost use Rattle.vh_kernel.specs.State.{with_top};
-    ghost use Rattle.vh_kernel.specs.Statements.{next_statement, past_statement, statement_outcome};
     ghost use Rattle.vh_kernel.specs.Step.{item_move};
+    ghost use Rattle.vh_kernel.specs.Outcome.{move_of};
+    ghost use Rattle.vh_kernel.specs.Statements.{work_outcome, worked_outcome};
+    ghost use Rattle.vh_simulation.specs.Labels.{worked, is_said};
     ghost use Rattle.vh_kernel.specs.Views.{state_of, given_by, Moves};
 
-    // The next statement of a process.
-    fn next(&self, p: u64) -> Option<&FirstCode>
-        ensures { option_copied result ≡ next_statement p (state_of self.now) }
-    {
-        self.threads.get(p as usize)?.next()
-    }
-
-    // The process has its next statement behind it.
-    fn leave_behind(&mut self, p: u64)
-        ensures { state_of self.new ≡ past_statement p (state_of self.old) }
-    {
-        let i = p as usize;
-        if i < self.threads.len() {
-            let thread = &mut self.threads[i];
-            thread.advance();
-        }
-    }
-
-    // A process that was on top of control performs its next statement.
+    // A process that was on top of control performs its next label.
     pub(crate) fn perform_next(&mut self, alloc: Global, p: u64) -> Result<Label, NoMemory>
-        ensures { Moves (item_move (Control.Process p) (state_of self.old) 0 (given_by self.old)) result self.new }
+        ensures { Moves (item_move (Control.Process p) (state_of self.old) 0
+            (given_by self.old)) result self.new }
     {
-        match self.next(p) {
-            None => Ok(Label::Stmt(ProcId::new(p), None)),
-            Some(FirstCode::Wait(d)) => {
-                let delay = *d;
-                self.wait(p, delay)
-            }
-            Some(FirstCode::Assign { reg, bit }) => {
-                let target = *reg;
-                let value = *bit;
-                self.assign(p, target, value)
-            }
-            Some(FirstCode::Show(text)) => {
-                let shown = with_newline(alloc, text.as_slice())?;
-                self.show(p, shown)
-            }
-            Some(FirstCode::Finish) => self.ask_finish(p),
+        let process = ProcId::new(p);
+        if !self.simulation.is_said(process) {
+            return Ok(Label::Stmt(process, None));
         }
-    }
-
-    fn wait(&mut self, p: u64, delay: u32) -> Result<Label, NoMemory>
-        ensures { Moves (move_of (λ shown. Label.Stmt p shown) (with_top (Control.Process p) (state_of self.old))
-            (statement_outcome p (Some (FirstCode.Wait delay)) (state_of self.old))) result self.new }
-    {
-        let until = self.queue.time().saturating_add(u64::from(delay));
-        if until > MOST_TIME {
-            self.control.push(Control::Process(p))?;
-            return Ok(self.fail(Fault::F2));
-        }
-        let work = Work::Evaluate(ProcId::new(p));
-        match self.queue.add(Some(until), Region::Inactive, work) {
-            Ok(_) => {
-                self.leave_behind(p);
-                Ok(Label::Stmt(ProcId::new(p), None))
+        match self.simulation.perform(alloc, process) {
+            Ok(performed) => {
+                go_on(&mut self.control, performed.next, p)?;
+                let made = performed.came.made.as_slice();
+                pend_all(&mut self.control, self.simulation.design(), made)?;
+                Ok(Label::Stmt(process, performed.came.shown))
             }
-            Err(AddFault::Full) => {
+            Err(StepFault::Run(fault)) => {
                 self.control.push(Control::Process(p))?;
-                Ok(self.fail(Fault::F3))
+                Ok(self.fail(fault))
             }
-            Err(AddFault::NoMemory) => Err(NoMemory),
+            Err(StepFault::NoMemory) => Err(NoMemory),
         }
     }
 
-    fn assign(&mut self, p: u64, reg: u32, value: FirstBit) -> Result<Label, NoMemory>
-        ensures { Moves (move_of (λ shown. Label.Stmt p shown) (with_top (Control.Process p) (state_of self.old))
-            (statement_outcome p (Some (FirstCode.Assign reg value)) (state_of self.old))) result self.new }
+    // An entry that was picked does its work.
+    pub(crate) fn work(&mut self, alloc: Global, entry: &Entry) -> Result<Label, NoMemory>
+        ensures { Moves (move_of (λ shown. Label.Pick (entry.now).serial shown) (state_of self.old)
+            (work_outcome (entry.now).work (state_of self.old))) result self.new }
     {
-        self.leave_behind(p);
-        self.control.push(Control::Process(p))?;
-        let i = reg as usize;
-        if i >= self.store.len() {
-            return Ok(Label::Stmt(ProcId::new(p), None));
+        match &entry.work {
+            Work::Evaluate(p) => {
+                self.control.push(Control::Process(p.number()))?;
+                Ok(Label::Pick(entry.serial, None))
+            }
+            Work::Assign { .. } | Work::Strobe(_) | Work::MonitorShow => self.simulate(
+                alloc, entry,
+            ),
+            // no design and no order adds one of these yet
+            Work::Drive(..) | Work::Follow { .. } | Work::Put(..) | Work::Call(_) => {
+                Ok(Label::Pick(entry.serial, None))
+            }
         }
-        if is_same(self.store[i], value) {
-            return Ok(Label::Stmt(ProcId::new(p), None));
-        }
-        let what = value_change(reg, value).ok_or(NoMemory)?;
-        self.store[i] = value;
-        self.control.push(Control::Pending(what))?;
-        Ok(Label::Stmt(ProcId::new(p), None))
     }
 
-    fn show(&mut self, p: u64, shown: Bytes) -> Result<Label, NoMemory>
-        ensures { Moves (Label.Stmt p (Some shown), with_top (Control.Process p) (past_statement p (state_of self.old)))
+    // One that changes or shows something.
+    fn simulate(&mut self, alloc: Global, entry: &Entry) -> Result<Label, NoMemory>
+        requires said { is_said (entry.now).work ≡ true }
+        ensures { Moves (move_of (λ shown. Label.Pick (entry.now).serial shown) (state_of self.old)
+            (worked_outcome (worked (entry.now).work (state_of self.old).activity)
+            (state_of self.old)))
             result self.new }
     {
-        self.leave_behind(p);
-        self.control.push(Control::Process(p))?;
-        Ok(Label::Stmt(ProcId::new(p), Some(shown)))
-    }
-
-    fn ask_finish(&mut self, p: u64) -> Result<Label, NoMemory>
-        ensures { Moves (move_of (λ shown. Label.Stmt p shown) (with_top (Control.Process p) (state_of self.old))
-            (statement_outcome p (Some FirstCode.Finish) (state_of self.old))) result self.new }
-    {
-        self.leave_behind(p);
-        self.control.push(Control::Process(p))?;
-        self.control.push(Control::Leave(Cause::Finish))?;
-        Ok(Label::Stmt(ProcId::new(p), None))
+        match self.simulation.work(alloc, &entry.work) {
+            Ok(came) => {
+                pend_all(
+                    &mut self.control,
+                    self.simulation.design(),
+                    came.made.as_slice(),
+                )?;
+                Ok(Label::Pick(entry.serial, came.shown))
+            }
+            Err(StepFault::Run(fault)) => Ok(self.fail(fault)),
+            Err(StepFault::NoMemory) => Err(NoMemory),
+        }
     }
 }

@@ -51,7 +51,8 @@ fn top_is_void(callbacks: &Registry<Body>, control: &Stack) -> bool
 
 // Drops void occurrences from the front of the agenda.
 fn settle_agenda(callbacks: &Registry<Body>, agenda: &mut VecDeque<Agendum>)
-    ensures { agenda.new.items ≡ without_front (is_void_item callbacks.now.callbacks) agenda.old.items }
+    ensures { agenda.new.items
+        ≡ without_front (is_void_item callbacks.now.callbacks) agenda.old.items }
 {
     'voids: while front_is_void(callbacks, agenda) {
         let _ = agenda.pop_front();

@@ -1,0 +1,4 @@
+pub mod Declared
+pub mod Designs
+pub mod SubsetLemmas
+pub mod TreesLemmas

@@ -1,0 +1,2 @@
+-- The design of registers and initial constructs keeps the rules of designs
+mod ValidLemmas

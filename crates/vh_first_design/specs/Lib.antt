@@ -1,0 +1,2 @@
+-- The design that registers and initial constructs are
+pub mod Designs

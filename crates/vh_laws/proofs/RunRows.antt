@@ -1,0 +1,208 @@
+-- Worked rows, computed by the definitions alone.
+use Rattle.std.proofs.Common.{◌≡◌, ℕ, List, [], ◌∷◌, ◌++◌, length, Some, None, refl}
+use Rattle.std.specs.Prelude.{codes}
+use Rattle.std.specs.Fmt.{digits}
+use Rattle.vh_base.specs.declared.first.First.{First}
+use Rattle.vh_base.specs.declared.first.FirstCode.{FirstCode}
+use Rattle.vh_base.specs.declared.first.FirstCode.TheVariants as code
+use Rattle.vh_base.specs.declared.first.FirstBit.TheVariants as bit
+use Rattle.vh_base.specs.declared.words.Reason.TheVariants as reason
+use Rattle.vh_app.specs.declared.command.Command.{Command}
+use Rattle.vh_app.specs.declared.command.Command.TheVariants.{Ask}
+use Rattle.vh_app.specs.declared.command.Form.{Form}
+use Rattle.vh_app.specs.declared.command.Form.TheVariants as form
+use Rattle.vh_app.specs.declared.command.Procedure.{Procedure}
+use Rattle.vh_app.specs.declared.command.Source.TheVariants as source
+use Rattle.vh_app.specs.Script.{ScriptData}
+use Rattle.vh_laws.proofs.Openings.{opening}
+use Rattle.vh_kernel.specs.Run.{fifo, moves_of, text_of}
+use Rattle.vh_assign.specs.Assigned.{with_pieces, made_in_turn}
+use Rattle.vh_assign.specs.Pieces.{digits_of as target_digits, pieces_of}
+use Rattle.vh_display.specs.Calls.{arguments_text}
+use Rattle.vh_display.specs.Formats.{front}
+use Rattle.vh_eval.specs.Value.{value_below}
+use Rattle.vh_first_design.specs.Designs.{instructions_of, codes_of}
+use Rattle.vh_logic.specs.Number.{number_of}
+use Rattle.vh_logic.specs.Planes.{digits_of as plane_digits}
+use Rattle.vh_logic.specs.Vector.{map_digits, zip_digits, all_places}
+use Rattle.vh_names.specs.Names.{scopes_below, dotted}
+use Rattle.vh_sense.specs.Reads.{reads_below}
+use Rattle.vh_simulation.specs.Entries.{all_woken, all_entered}
+use Rattle.vh_text.specs.Texts.{groups_text}
+use Rattle.vh_thread.specs.Blocks.{block_below}
+use Rattle.vh_thread.specs.Control.{gone}
+
+-- A design called top.
+design : List (List ℕ) → List (List FirstCode) → First
+design regs blocks = record { name = codes "top"; regs = regs; blocks = blocks }
+
+-- module top; reg a; initial begin a = 1; #3 $display("hi"); $finish; end endmodule
+says_hi : text_of (moves_of fifo 100 (opening (design (codes "a" ∷ [])
+    ((code.Assign 0 bit.One ∷ code.Wait 3 ∷ code.Show (codes "hi") ∷ code.Finish ∷ []) ∷ [])) []))
+    ≡ codes "3 out \"hi\\n\"\n3 end finish\n"
+unfolding design digits with_pieces made_in_turn target_digits pieces_of arguments_text front value_below instructions_of codes_of number_of plane_digits map_digits zip_digits all_places scopes_below dotted all_woken all_entered reads_below groups_text block_below gone
+says_hi = refl
+
+-- module top; initial #2 $display("b"); initial #1 $display("a"); endmodule
+by_time : text_of (moves_of fifo 100 (opening (design []
+    ((code.Wait 2 ∷ code.Show (codes "b") ∷ []) ∷ (code.Wait 1 ∷ code.Show (codes "a") ∷ []) ∷ [])) []))
+    ≡ codes "1 out \"a\\n\"\n2 out \"b\\n\"\n2 end none\n"
+unfolding design digits with_pieces made_in_turn target_digits pieces_of arguments_text front value_below instructions_of codes_of number_of plane_digits map_digits zip_digits all_places scopes_below dotted all_woken all_entered reads_below groups_text block_below gone
+by_time = refl
+
+-- module top; initial begin end endmodule
+nothing_to_do : text_of (moves_of fifo 100 (opening (design [] ([] ∷ [])) [])) ≡ codes "0 end none\n"
+unfolding design digits with_pieces made_in_turn target_digits pieces_of arguments_text front value_below instructions_of codes_of number_of plane_digits map_digits zip_digits all_places scopes_below dotted all_woken all_entered reads_below groups_text block_below gone
+nothing_to_do = refl
+
+-- It has four labels: pick, the process's end, finish, end.
+four_labels : length (moves_of fifo 100 (opening (design [] ([] ∷ [])) [])) ≡ 4
+unfolding design digits with_pieces made_in_turn target_digits pieces_of arguments_text front value_below instructions_of codes_of number_of plane_digits map_digits zip_digits all_places scopes_below dotted all_woken all_entered reads_below groups_text block_below gone
+four_labels = refl
+
+-- module top; initial begin #1; #1; $finish; end endmodule
+ten_labels : length (moves_of fifo 100 (opening (design [] ((code.Wait 1 ∷ code.Wait 1 ∷ code.Finish ∷ []) ∷ [])) [])) ≡ 10
+unfolding design digits with_pieces made_in_turn target_digits pieces_of arguments_text front value_below instructions_of codes_of number_of plane_digits map_digits zip_digits all_places scopes_below dotted all_woken all_entered reads_below groups_text block_below gone
+ten_labels = refl
+
+finishes_at_two : text_of (moves_of fifo 100 (opening (design [] ((code.Wait 1 ∷ code.Wait 1 ∷ code.Finish ∷ []) ∷ [])) []))
+    ≡ codes "2 end finish\n"
+unfolding design digits with_pieces made_in_turn target_digits pieces_of arguments_text front value_below instructions_of codes_of number_of plane_digits map_digits zip_digits all_places scopes_below dotted all_woken all_entered reads_below groups_text block_below gone
+finishes_at_two = refl
+
+-- A script called a.
+script : List (List ℕ) → List Command → List Procedure → ScriptData
+script variables startup procedures =
+    record { name = codes "a"; variables = variables; startup = startup; procedures = procedures }
+
+procedure : List ℕ → List Command → Procedure
+procedure name commands = record { name = name; commands = commands }
+
+-- An order alone, and one whose answer goes to a variable.
+order : Form → Command
+order f = Ask None f
+
+set : ℕ → Form → Command
+set variable f = Ask (Some variable) f
+
+-- app a; startup { register cbEndOfSimulation null 0 proc bye 7; } proc bye { print "bye"; }
+says_bye : ScriptData
+says_bye = script [] (order (form.Register reason.CbEndOfSimulation source.Null (codes "bye") 7) ∷ [])
+    (procedure (codes "bye") (order (form.Print (codes "bye")) ∷ []) ∷ [])
+
+-- module top; initial begin end endmodule
+bye : text_of (moves_of fifo 100 (opening (design [] ([] ∷ [])) (says_bye ∷ [])))
+    ≡ codes "0 startup a\n"
+    ++ codes "0 do s1 register cbEndOfSimulation null 0 proc a.bye 7 => h0\n"
+    ++ codes "0 occ 1 cbEndOfSimulation -\n"
+    ++ codes "0 fire 1 c1\n"
+    ++ codes "0 do c1 print \"bye\" => ok\n"
+    ++ codes "0 done 1\n"
+    ++ codes "0 end none\n"
+unfolding design digits with_pieces made_in_turn target_digits pieces_of arguments_text front value_below instructions_of codes_of number_of plane_digits map_digits zip_digits all_places scopes_below dotted all_woken all_entered reads_below groups_text block_below gone says_bye script procedure order
+bye = refl
+
+-- The first lines, where a startup registers a procedure for the end of compilation.
+head : List ℕ
+head =
+    codes "0 startup a\n"
+    ++ codes "0 do s1 register cbEndOfCompile null 0 proc a.init 0 => h0\n"
+    ++ codes "0 occ 1 cbEndOfCompile -\n"
+    ++ codes "0 fire 1 c1\n"
+
+-- module top; reg r; initial begin #1 r = 0; #1 r = 1; end endmodule
+changes_twice : First
+changes_twice = design (codes "r" ∷ []) ((code.Wait 1 ∷ code.Assign 0 bit.Zero ∷ code.Wait 1 ∷ code.Assign 0 bit.One ∷ []) ∷ [])
+
+-- app a; var r, one, two; startup { register cbEndOfCompile null 0 proc init 0; }
+-- proc init { r = by_name "top.r" null; one = register cbValueChange r 0 proc p1 1; two = register cbValueChange r 0 proc p2 2; }
+-- proc p1 { remove me; print "rest"; } proc p2 { print "p2"; }
+removes_itself : ScriptData
+removes_itself = script (codes "r" ∷ codes "one" ∷ codes "two" ∷ [])
+    (order (form.Register reason.CbEndOfCompile source.Null (codes "init") 0) ∷ []) (
+    procedure (codes "init") (
+    set 0 (form.ByName (codes "top.r") source.Null)
+    ∷ set 1 (form.Register reason.CbValueChange (source.Variable 0) (codes "p1") 1)
+    ∷ set 2 (form.Register reason.CbValueChange (source.Variable 0) (codes "p2") 2)
+    ∷ []
+    )
+    ∷ procedure (codes "p1") (order (form.Remove source.Me) ∷ order (form.Print (codes "rest")) ∷ [])
+    ∷ procedure (codes "p2") (order (form.Print (codes "p2")) ∷ [])
+    ∷ []
+    )
+
+goes_on_without : text_of (moves_of fifo 100 (opening changes_twice (removes_itself ∷ [])))
+    ≡ head
+    ++ codes "0 do c1 by_name \"top.r\" null => h1\n"
+    ++ codes "0 do c1 register cbValueChange h1 0 proc a.p1 1 => h2\n"
+    ++ codes "0 do c1 register cbValueChange h1 0 proc a.p2 2 => h3\n"
+    ++ codes "0 done 1\n"
+    ++ codes "1 occ 2 cbValueChange top.r\n"
+    ++ codes "1 fire 2 c2\n"
+    ++ codes "1 do c2 remove h2 => 1\n"
+    ++ codes "1 do c2 print \"rest\" => ok\n"
+    ++ codes "1 fire 2 c3\n"
+    ++ codes "1 do c3 print \"p2\" => ok\n"
+    ++ codes "1 done 2\n"
+    ++ codes "2 occ 3 cbValueChange top.r\n"
+    ++ codes "2 fire 3 c3\n"
+    ++ codes "2 do c3 print \"p2\" => ok\n"
+    ++ codes "2 done 3\n"
+    ++ codes "2 end none\n"
+unfolding design digits with_pieces made_in_turn target_digits pieces_of arguments_text front value_below instructions_of codes_of number_of plane_digits map_digits zip_digits all_places scopes_below dotted all_woken all_entered reads_below groups_text block_below gone script procedure order set head changes_twice removes_itself
+goes_on_without = refl
+
+-- app a; var r, one, two, three, x; startup { register cbEndOfCompile null 0 proc init 0; }
+-- proc init {
+--   r = by_name "top.r" null;
+--   one = register cbValueChange r 0 proc p1 1; two = register cbValueChange r 0 proc p2 2; three = register cbValueChange r 0 proc p3 3;
+-- }
+-- proc p1 { remove two; x = register cbValueChange r 0 proc p4 4; }
+-- proc p2 { print "p2"; } proc p3 { print "p3"; } proc p4 { print "p4"; }
+removes_another : ScriptData
+removes_another = script (codes "r" ∷ codes "one" ∷ codes "two" ∷ codes "three" ∷ codes "x" ∷ [])
+    (order (form.Register reason.CbEndOfCompile source.Null (codes "init") 0) ∷ []) (
+    procedure (codes "init") (
+    set 0 (form.ByName (codes "top.r") source.Null)
+    ∷ set 1 (form.Register reason.CbValueChange (source.Variable 0) (codes "p1") 1)
+    ∷ set 2 (form.Register reason.CbValueChange (source.Variable 0) (codes "p2") 2)
+    ∷ set 3 (form.Register reason.CbValueChange (source.Variable 0) (codes "p3") 3)
+    ∷ []
+    )
+    ∷ procedure (codes "p1") (
+    order (form.Remove (source.Variable 2))
+    ∷ set 4 (form.Register reason.CbValueChange (source.Variable 0) (codes "p4") 4)
+    ∷ []
+    )
+    ∷ procedure (codes "p2") (order (form.Print (codes "p2")) ∷ [])
+    ∷ procedure (codes "p3") (order (form.Print (codes "p3")) ∷ [])
+    ∷ procedure (codes "p4") (order (form.Print (codes "p4")) ∷ [])
+    ∷ []
+    )
+
+fires_what_is_left : text_of (moves_of fifo 100 (opening changes_twice (removes_another ∷ [])))
+    ≡ head
+    ++ codes "0 do c1 by_name \"top.r\" null => h1\n"
+    ++ codes "0 do c1 register cbValueChange h1 0 proc a.p1 1 => h2\n"
+    ++ codes "0 do c1 register cbValueChange h1 0 proc a.p2 2 => h3\n"
+    ++ codes "0 do c1 register cbValueChange h1 0 proc a.p3 3 => h4\n"
+    ++ codes "0 done 1\n"
+    ++ codes "1 occ 2 cbValueChange top.r\n"
+    ++ codes "1 fire 2 c2\n"
+    ++ codes "1 do c2 remove h3 => 1\n"
+    ++ codes "1 do c2 register cbValueChange h1 0 proc a.p4 4 => h5\n"
+    ++ codes "1 fire 2 c4\n"
+    ++ codes "1 do c4 print \"p3\" => ok\n"
+    ++ codes "1 done 2\n"
+    ++ codes "2 occ 3 cbValueChange top.r\n"
+    ++ codes "2 fire 3 c2\n"
+    ++ codes "2 do c2 remove h3 => E1\n"
+    ++ codes "2 do c2 register cbValueChange h1 0 proc a.p4 4 => h6\n"
+    ++ codes "2 fire 3 c4\n"
+    ++ codes "2 do c4 print \"p3\" => ok\n"
+    ++ codes "2 fire 3 c5\n"
+    ++ codes "2 do c5 print \"p4\" => ok\n"
+    ++ codes "2 done 3\n"
+    ++ codes "2 end none\n"
+unfolding design digits with_pieces made_in_turn target_digits pieces_of arguments_text front value_below instructions_of codes_of number_of plane_digits map_digits zip_digits all_places scopes_below dotted all_woken all_entered reads_below groups_text block_below gone script procedure order set head changes_twice removes_another
+fires_what_is_left = refl

@@ -1,0 +1,24 @@
+use Rattle.std.proofs.Common.{◌∙◌, sym, ap, subst}
+use Rattle.vh_proc.specs.Processes.{AllRun, Queued}
+use Rattle.vh_queue.specs.Events.{Events}
+use Rattle.vh_simulation.proofs.LoopsLemmas.{evaluations-time}
+use Rattle.vh_simulation.proofs.simulation.Simulation.new.Goals as goal
+use Rattle.vh_simulation.proofs.simulation.Simulation.new.Goals.{then-count-le-MOST_ENTRIES+in_ok-enter_processes, else-count-le-MOST_ENTRIES}
+
+pub invariant_of-result : goal.invariant_of-result
+invariant_of-result c = λ _.
+    let d = c.args.design in record {
+      runs = elim c.if-count-le-MOST_ENTRIES.branch [
+        | then-count-le-MOST_ENTRIES+in_ok-enter_processes w ↦
+            subst (AllRun d) (sym w.threads-is) (w.in_ok-enter_processes.ensures.runs d c.in_ok-threads.ensures.runs)
+        | else-count-le-MOST_ENTRIES w ↦ subst (AllRun d) (sym w.threads-is) c.in_ok-threads.ensures.runs
+      ];
+      waits = c.in_ok-sense.ensures.made.waits;
+      now = c.in_ok-store.ensures.time ∙ sym (elim c.if-count-le-MOST_ENTRIES.branch [
+        | then-count-le-MOST_ENTRIES+in_ok-enter_processes w ↦
+            ap (λ (q : Events). q.time) w.queue-is
+            ∙ ap (λ (b : Queued). b.queue.time) w.in_ok-enter_processes.ensures.entered
+            ∙ evaluations-time w.from.result c.in_ok-threads.threads
+        | else-count-le-MOST_ENTRIES w ↦ ap (λ (q : Events). q.time) w.queue-is ∙ ap (λ (q : Events). q.time) c.in_ok-queue.ensures
+      ]);
+    }
