@@ -31,7 +31,7 @@ def module_of(path):
         names.update(named_by(line))
         if line.startswith(("use ", "pub use ", "--")):
             continue
-        opened = re.match(r"( *)module _", line)
+        opened = re.match(r"( *)(?:module _|(?:abbrev )?mutual$)", line)
         if opened:
             depth, current = len(opened.group(1)) + 2, None
             continue

@@ -10,7 +10,7 @@ import tempfile
 TOP = pathlib.Path(__file__).resolve().parent.parent
 PAGE = (TOP / "docs/FAULTS.md").read_text()
 PROGRAM = TOP / ".vhost/vhost"
-TEXT = re.compile(r"The text `([^`]*)` gets\n\n```\n(.*?)\n```", re.S)
+TEXT = re.compile(r"The text (?:`` (.*?) ``|`([^`]*)`) gets\n\n```\n(.*?)\n```", re.S)
 SCRIPT = re.compile(r"The script `([^`]*)`, in a file `([^`]*)`,\s+gets\n\n```\n(.*?)\n```", re.S)
 BESIDE = re.compile(r"Beside\s+`([^`]*)`\s+the\s+script\n\n```\n(.*?)\n```\n\nwrites among its lines\n\n```\n(.*?)\n```", re.S)
 MANY = re.compile(
@@ -32,8 +32,8 @@ def one_line(words):
 
 def examples():
     """Each example of the page: its files, the words of its call, and the test of what it writes."""
-    for text, told in TEXT.findall(PAGE):
-        yield {"a.v": text}, ["a.v"], lambda out, err, told=told: out == "" and err == told + "\n"
+    for marked, plain, told in TEXT.findall(PAGE):
+        yield {"a.v": marked or plain}, ["a.v"], lambda out, err, told=told: out == "" and err == told + "\n"
     for text, name, told in SCRIPT.findall(PAGE):
         files = {"a.v": "module top; endmodule", name: text}
         yield files, ["a.v", name], lambda out, err, told=told: out == "" and err == told + "\n"

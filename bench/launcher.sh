@@ -99,7 +99,7 @@ unset BROKEN
 
 # words that have no reading
 fresh_repository
-for words in '' 'run' 'walk a.v' 'run a.v b.v' 'run a.app' 'run a.txt' 'run a.v b.app c.app' 'run -a.v' 'run a.v -b.app'; do
+for words in '' 'run' 'walk a.v' 'run a.app' 'run a.txt' 'run 1.v 2.v 3.v 4.v 5.v 6.v 7.v 8.v 9.v' 'run a.v b.app c.app' 'run -a.v' 'run a.v -b.app'; do
     run "$full" ./vhost $words
     holds [ "$status" = 1 ]
     holds grep -q "^usage: vhost run" "$work/err"
@@ -133,6 +133,10 @@ for words in explain 'explain S3 A2'; do
     holds grep -q "^usage: vhost explain CODE" "$work/err"
 done
 holds [ "$(builds)" = 0 ]
+
+# eight files
+run "$full" ./vhost run 1.v 2.v 3.v 4.v 5.v 6.v 7.v a.app
+holds [ "$(cat "$work/out")" = "ran run 1.v 2.v 3.v 4.v 5.v 6.v 7.v a.app" ]
 
 # a word of a file may be its ending alone
 run "$full" ./vhost run .v .app

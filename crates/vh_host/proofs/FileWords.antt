@@ -1,5 +1,5 @@
 -- Which file words can be run, by the words as the code holds them.
-use Rattle.std.proofs.Common.{◌≡◌, ℕ, ◌+◌, ◌<◌, ◌≤◌, List, [], ◌∷◌, length, Bool, true, false, ◌&&◌, cond, Option, nat_eq, nat_le, string_bytes, String, unwrap_or, refl, sym, ap, ◌∙◌, add-one, arith}
+use Rattle.std.proofs.Common.{◌≡◌, ℕ, ◌+◌, ◌<◌, ◌≤◌, List, [], ◌∷◌, length, Bool, true, false, ◌&&◌, cond, Option, nat_lt, nat_le, string_bytes, String, unwrap_or, refl, sym, ap, ◌∙◌, add-one, arith}
 use Rattle.std.specs.declared.alloc.Global.{Global}
 use Rattle.std.specs.List.{list_all, count_by, slice_get}
 use Rattle.std.specs.Option.{option_map}
@@ -7,6 +7,7 @@ use Rattle.std.proofs.lemmas.List.{length-map}
 use Rattle.std.proofs.lemmas.List.Folds.{list_all-map}
 use Rattle.std.proofs.lemmas.List.Sums.{sum_by-cons}
 use Rattle.std.proofs.lemmas.Option.{slice_get-map}
+use Rattle.std.proofs.lemmas.Bool.{lt-ltb}
 use Rattle.std.proofs.lemmas.Bool.Decides.{nat_tests}
 use Rattle.vh_host.specs.Words.{can_be_run, is_design_word, is_script_word, is_file_word, texts, numbered}
 
@@ -20,7 +21,7 @@ count-texts p (file ∷ files) =
 
 -- the four tests of file words
 abbrev tests : ℕ → Bool → ℕ → ℕ → Bool
-tests length all designs scripts = nat_le length 8 && all && nat_eq designs 1 && nat_le scripts 1
+tests length all designs scripts = nat_le length 8 && all && nat_lt 0 designs && nat_le scripts 1
 
 tests-texts : (files : List (String Global)) → tests (length files) (list_all (λ file. is_file_word (string_bytes file)) files)
     (count_by (λ file. is_design_word (string_bytes file)) files) (count_by (λ file. is_script_word (string_bytes file)) files) ≡ can_be_run (texts files)
@@ -34,34 +35,35 @@ tests-texts files =
 pub too_many : (files : List (String Global)) → 8 < length files → false ≡ can_be_run (texts files)
 too_many files long =
     let no_room : nat_le (length files) 8 ≡ false = grind (arith, nat_tests) in
-    sym (ap (λ (b : Bool). b && list_all (λ file. is_file_word (string_bytes file)) files && nat_eq (count_by (λ file. is_design_word (string_bytes file)) files) 1 && nat_le (count_by (λ file. is_script_word (string_bytes file)) files) 1) no_room) ∙ tests-texts files
+    sym (ap (λ (b : Bool). b && list_all (λ file. is_file_word (string_bytes file)) files && nat_lt 0 (count_by (λ file. is_design_word (string_bytes file)) files) && nat_le (count_by (λ file. is_script_word (string_bytes file)) files) 1) no_room) ∙ tests-texts files
 
 -- a word that names no file
 pub no_file : (files : List (String Global)) → length files ≤ 8 → list_all (λ file. is_file_word (string_bytes file)) files ≡ false → false ≡ can_be_run (texts files)
 no_file files few none =
     let room : nat_le (length files) 8 ≡ true = grind (arith, nat_tests) in
-    sym (ap (λ (b : Bool). b && list_all (λ file. is_file_word (string_bytes file)) files && nat_eq (count_by (λ file. is_design_word (string_bytes file)) files) 1 && nat_le (count_by (λ file. is_script_word (string_bytes file)) files) 1) room
-    ∙ ap (λ (b : Bool). b && nat_eq (count_by (λ file. is_design_word (string_bytes file)) files) 1 && nat_le (count_by (λ file. is_script_word (string_bytes file)) files) 1) none) ∙ tests-texts files
+    sym (ap (λ (b : Bool). b && list_all (λ file. is_file_word (string_bytes file)) files && nat_lt 0 (count_by (λ file. is_design_word (string_bytes file)) files) && nat_le (count_by (λ file. is_script_word (string_bytes file)) files) 1) room
+    ∙ ap (λ (b : Bool). b && nat_lt 0 (count_by (λ file. is_design_word (string_bytes file)) files) && nat_le (count_by (λ file. is_script_word (string_bytes file)) files) 1) none) ∙ tests-texts files
 
 -- words that name files, by their numbers
 pub by_counts : (files : List (String Global)) → length files ≤ 8 → list_all (λ file. is_file_word (string_bytes file)) files ≡ true
-    → (nat_eq (count_by (λ file. is_design_word (string_bytes file)) files) 1 && nat_le (count_by (λ file. is_script_word (string_bytes file)) files) 1) ≡ can_be_run (texts files)
+    → (nat_lt 0 (count_by (λ file. is_design_word (string_bytes file)) files) && nat_le (count_by (λ file. is_script_word (string_bytes file)) files) 1) ≡ can_be_run (texts files)
 by_counts files few all =
     let room : nat_le (length files) 8 ≡ true = grind (arith, nat_tests) in
-    sym (ap (λ (b : Bool). b && list_all (λ file. is_file_word (string_bytes file)) files && nat_eq (count_by (λ file. is_design_word (string_bytes file)) files) 1 && nat_le (count_by (λ file. is_script_word (string_bytes file)) files) 1) room
-    ∙ ap (λ (b : Bool). b && nat_eq (count_by (λ file. is_design_word (string_bytes file)) files) 1 && nat_le (count_by (λ file. is_script_word (string_bytes file)) files) 1) all) ∙ tests-texts files
+    sym (ap (λ (b : Bool). b && list_all (λ file. is_file_word (string_bytes file)) files && nat_lt 0 (count_by (λ file. is_design_word (string_bytes file)) files) && nat_le (count_by (λ file. is_script_word (string_bytes file)) files) 1) room
+    ∙ ap (λ (b : Bool). b && nat_lt 0 (count_by (λ file. is_design_word (string_bytes file)) files) && nat_le (count_by (λ file. is_script_word (string_bytes file)) files) 1) all) ∙ tests-texts files
 
 -- the word of a number
 pub numbered-texts : (files : List (String Global)) (n i : ℕ) → n ≡ i + 1 → numbered (texts files) n ≡ option_map string_bytes (slice_get files i)
 numbered-texts files n i e = ap (λ (k : ℕ). numbered (texts files) k) (e ∙ add-one i) ∙ slice_get-map string_bytes files i
 
--- one of them naming a Verilog file
-pub one_design : (files : List (String Global)) (designs scripts : ℕ) → length files ≤ 8 → list_all (λ file. is_file_word (string_bytes file)) files ≡ true
-    → designs ≡ count_by (λ file. is_design_word (string_bytes file)) files → designs ≡ 1
+-- one of them at least naming a Verilog file
+pub some_design : (files : List (String Global)) (designs scripts : ℕ) → length files ≤ 8 → list_all (λ file. is_file_word (string_bytes file)) files ≡ true
+    → designs ≡ count_by (λ file. is_design_word (string_bytes file)) files → 0 < designs
     → scripts ≡ count_by (λ file. is_script_word (string_bytes file)) files → nat_le scripts 1 ≡ can_be_run (texts files)
-one_design files designs scripts few all d one s =
-    ap (λ (n : ℕ). nat_eq n 1 && nat_le scripts 1) (sym one ∙ d)
-    ∙ ap (λ (n : ℕ). nat_eq (count_by (λ file. is_design_word (string_bytes file)) files) 1 && nat_le n 1) s ∙ by_counts files few all
+some_design files designs scripts few all d some s =
+    ap (λ (b : Bool). b && nat_le scripts 1) (sym (lt-ltb 0 designs some))
+    ∙ ap (λ (n : ℕ). nat_lt 0 n && nat_le scripts 1) d
+    ∙ ap (λ (n : ℕ). nat_lt 0 (count_by (λ file. is_design_word (string_bytes file)) files) && nat_le n 1) s ∙ by_counts files few all
 
 -- the word of a number, or nothing
 pub word-texts : (files : List (String Global)) (n i : ℕ) → n ≡ i + 1

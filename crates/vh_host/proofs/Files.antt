@@ -12,7 +12,7 @@ use Rattle.vh_base.specs.Outside.{IsAnswered}
 use Rattle.vh_host.specs.Acceptance.{File, limit_of, files_with, is_too_long, first_too_long, by_files, by_length, by_texts, by_reading, verdict}
 use Rattle.vh_host.specs.Words.{Reading, reading, texts, numbered}
 use Rattle.vh_host.specs.declared.file.TextFile.{TextFile}
-use Rattle.vh_host.specs.Headline.{Holds, WereAnswered, Tells, text_by}
+use Rattle.vh_host.specs.Headline.{Holds, WereAnswered, Tells, IsTextBy}
 use Rattle.vh_host.specs.Reading.{words_of, contents_of, MeetsLong, MeetsNoneLong, file_seen, files_seen}
 
 -- The words and the contents of files give the files again.
@@ -256,30 +256,37 @@ any-seen : (files : List TextFile) → list_any is_too_long (files_seen files) �
 any-seen [] = refl
 any-seen (file ∷ files) = ap (λ (b : Bool). is_too_long (file_seen file) || b) (any-seen files)
 
-text-long : (o : Option ℕ) (files : List File) (budget : ℕ) → is_some o ≡ true → [] ≡ text_by (by_length o files) budget
+text-long : (o : Option ℕ) (files : List File) (budget : ℕ) → is_some o ≡ true → IsTextBy (by_length o files) budget []
 text-long (Some n) files budget is = refl
 text-long None files budget is = absurd (cc)
 
-text-short : (o : Option ℕ) (files : List File) (budget : ℕ) → is_some o ≡ false → text_by (by_texts files) budget ≡ text_by (by_length o files) budget
-text-short (Some n) files budget is = absurd (cc)
-text-short None files budget is = refl
+none-long : (o : Option ℕ) (files : List File) → is_some o ≡ false → by_texts files ≡ by_length o files
+none-long (Some n) files is = absurd (cc)
+none-long None files is = refl
 
--- So the text is none where one is, and else that of the texts.
-pub none_long : (files : List TextFile) (budget : ℕ) → list_any (λ file. is_too_long (file_seen file)) files ≡ true → [] ≡ text_by (by_files (files_seen files)) budget
+-- So the text is none where one is, and else the verdict is that of the texts.
+pub none_long : (files : List TextFile) (budget : ℕ) → list_any (λ file. is_too_long (file_seen file)) files ≡ true
+    → IsTextBy (by_files (files_seen files)) budget []
 none_long files budget is =
     text-long (first_too_long 1 (files_seen files)) (files_seen files) budget (long-any 1 (files_seen files) ∙ any-seen files ∙ is)
 
-pub same_short : (files : List TextFile) (budget : ℕ) → list_any (λ file. is_too_long (file_seen file)) files ≡ false
-    → text_by (by_texts (files_seen files)) budget ≡ text_by (by_files (files_seen files)) budget
-same_short files budget is =
-    text-short (first_too_long 1 (files_seen files)) (files_seen files) budget (long-any 1 (files_seen files) ∙ any-seen files ∙ is)
+pub same_short : (files : List TextFile) → list_any (λ file. is_too_long (file_seen file)) files ≡ false
+    → by_texts (files_seen files) ≡ by_files (files_seen files)
+same_short files is =
+    none-long (first_too_long 1 (files_seen files)) (files_seen files) (long-any 1 (files_seen files) ∙ any-seen files ∙ is)
+
+pub none_too_long : (files : List TextFile) → list_any (λ file. is_too_long (file_seen file)) files ≡ false → first_too_long 1 (files_seen files) ≡ None
+none_too_long files is = none_of (first_too_long 1 (files_seen files)) (long-any 1 (files_seen files) ∙ any-seen files ∙ is)
+  where
+    none_of : (o : Option ℕ) → is_some o ≡ false → o ≡ None
+    none_of (Some n) is = absurd (cc)
+    none_of None is = refl
 
 -- The same by the words.
-pub same_words : (words : List (List ℕ)) (contents : List (List ℕ)) (names : List (List ℕ)) (files : List File) (budget : ℕ)
-    → Some (record { files = names }) ≡ reading words → files ≡ files_with names contents
-    → text_by (by_files files) budget ≡ text_by (verdict words contents) budget
-same_words words contents names files budget is are =
-    ap (λ (fs : List File). text_by (by_files fs) budget) are ∙ ap (λ (r : Option Reading). text_by (by_reading r contents) budget) is
+pub same_words : (words : List (List ℕ)) (contents : List (List ℕ)) (names : List (List ℕ)) (files : List File)
+    → Some (record { files = names }) ≡ reading words → files ≡ files_with names contents → by_files files ≡ verdict words contents
+same_words words contents names files is are =
+    ap by_files are ∙ ap (λ (r : Option Reading). by_reading r contents) is
 
 -- The word of this turn, among the words as plain lists.
 pub word_at : (words : List (String Global)) (i : ℕ) (item : String Global) (word : List ℕ) → i < length words → item ≡ get_or words i item

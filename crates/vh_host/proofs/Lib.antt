@@ -3,5 +3,7 @@ pub mod Turns
 pub mod FileWords
 pub mod Files
 pub mod Scripts
+pub mod OpeningsLemmas
 pub mod Verdicts
 pub mod LabelTexts
+pub mod Sources

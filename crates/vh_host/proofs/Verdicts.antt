@@ -1,31 +1,40 @@
 -- How a call's answer follows from the verdict.
 use Rattle.std.proofs.Common.{◌≡◌, ◌+◌, ◌≤◌, ℕ, List, [], ◌∷◌, Bool, true, false, cond, Option, Some, None, Result, Ok, Err, IfErr, refl, sym, ap, subst, ◌∙◌, arith, inl, inr}
-use Rattle.vh_base.specs.declared.first.First.{First}
 use Rattle.vh_base.specs.Outside.{appended}
+use Rattle.vh_design.specs.Shape.{Shape}
 use Rattle.vh_app.specs.Script.{ScriptData}
 use Rattle.vh_app.specs.Meaning.{script_of}
-use Rattle.vh_parse.specs.Meaning.{first_of}
 use Rattle.vh_kernel.specs.Run.{fifo}
-use Rattle.vh_kernel.specs.Settle.{opening}
+use Rattle.vh_kernel.specs.Settle.{Opens}
+use Rattle.vh_kernel.specs.State.{State}
 use Rattle.vh_laws.proofs.LawsLemmas.{runs-keep-laws, opens-fresh}
 use Rattle.vh_host.specs.declared.status.Status.{Status}
 use Rattle.vh_host.specs.declared.status.Status.TheVariants as status
 use Rattle.vh_host.specs.declared.judging.Refusal.{Refusal}
 use Rattle.vh_host.specs.declared.judging.Refusal.TheVariants as refusal
 use Rattle.vh_host.specs.Words.{Reading, reading, files_of, is_script_word}
-use Rattle.vh_host.specs.Acceptance.{Verdict, accepts, refuses, by_reading, by_files, by_length, by_texts, by_design, by_scripts, script_then, scripts_of, design_text, verdict, File, files_with, first_too_long}
-use Rattle.vh_host.specs.Transcript.{WroteOf, Wrote}
+use Rattle.vh_host.specs.Acceptance.{Verdict, accepts, refuses, by_reading, by_files, by_length, by_texts, by_design, by_scripts, script_then, scripts_of, DesignRefusal, design_answer, verdict, File, files_with, first_too_long}
+use Rattle.vh_host.specs.Transcript.{WroteOf, WroteFromOpening}
 use Rattle.vh_host.specs.Headline.{Holds, FailsBefore, AnswersWith, Accounts, Transcribes, Refuses, WereAnswered, Tells, default_budget}
 use Rattle.vh_host.specs.Reading.{AreRead, MeetsLong, MeetsNoneLong, contents_of}
 use Rattle.vh_host.specs.Judging.{RefusesTexts, status_of}
 use Rattle.vh_host.proofs.Appended.{appended_nothing}
+use Rattle.vh_host.proofs.OpeningsLemmas.{has-opening}
 use Rattle.vh_host.proofs.Files.{files_back, some_contents, told_verdict}
 
 -- Nothing is written of a run before its first label.
-wrote_none : (design : First) (scripts : List ScriptData) (s : Status) → WroteOf default_budget [] s []
-    → Wrote fifo default_budget (opening design scripts) s []
-wrote_none design scripts s is =
-    record { moves = []; run = tt; laws = runs-keep-laws (opening design scripts) (opens-fresh design scripts) fifo [] tt; in_budget = omega arith; text = is }
+none_from : (design : Shape) (scripts : List ScriptData) (s : Status) → WroteOf default_budget [] s []
+    → (opening : State) → Opens design scripts opening → WroteFromOpening fifo default_budget design scripts s []
+none_from design scripts s is opening opens =
+    let fresh = opens-fresh design scripts opening opens in record {
+      opening = opening;
+      opens = opens;
+      wrote = record { moves = []; run = tt; laws = runs-keep-laws opening fresh fifo [] tt; in_budget = omega arith; text = is };
+    }
+
+wrote_none : (design : Shape) (scripts : List ScriptData) (s : Status) → WroteOf default_budget [] s []
+    → WroteFromOpening fifo default_budget design scripts s []
+wrote_none design scripts s is = let o = has-opening design scripts in none_from design scripts s is o.0 o.1
 
 -- Want of memory before the run begins, on any verdict.
 pub no_memory : (v : Verdict) (w : Option (List ℕ)) → AnswersWith v status.NoMemory w w
@@ -57,7 +66,7 @@ scripts_later m n [] = tt
 scripts_later m n (file ∷ files) =
     file_later m n (is_script_word file.word) (script_of file.bytes) (scripts_of (n + 1) files) (scripts_later m (n + 1) files)
 
-failed_scripts : (design : First) (scripts : Result (List ScriptData) Status) (n : ℕ) (w : Option (List ℕ)) → IfErr scripts (FailsBefore n)
+failed_scripts : (design : Shape) (scripts : Result (List ScriptData) Status) (n : ℕ) (w : Option (List ℕ)) → IfErr scripts (FailsBefore n)
     → AnswersWith (by_scripts design scripts) (status.ReadFault n) w w
 failed_scripts design (Ok scripts) n w later = record {
   written = [];
@@ -67,15 +76,15 @@ failed_scripts design (Ok scripts) n w later = record {
 failed_scripts design (Err refusal) n w later = failed_refusal refusal n w later
 
 -- So are the texts.
-failed_design : (design : Option First) (files : List File) (n : ℕ) (w : Option (List ℕ))
+failed_design : (design : Result Shape DesignRefusal) (files : List File) (n : ℕ) (w : Option (List ℕ))
     → AnswersWith (by_design design files) (status.ReadFault n) w w
-failed_design None files n w = failed_refusal _ n w tt
-failed_design (Some design) files n w = failed_scripts design (scripts_of 1 files) n w (scripts_later n 1 files)
+failed_design (Err refusal) files n w = failed_refusal _ n w tt
+failed_design (Ok design) files n w = failed_scripts design (scripts_of 1 files) n w (scripts_later n 1 files)
 
 -- A read that failed, where no file before is too long.
 pub read_failed : (o : Option ℕ) (files : List File) (n : ℕ) (w : Option (List ℕ)) → ((k : ℕ) → o ≡ Some k → n ≤ k)
     → AnswersWith (by_length o files) (status.ReadFault n) w w
-read_failed None files n w before = failed_design (first_of (design_text files)) files n w
+read_failed None files n w before = failed_design (design_answer files) files n w
 read_failed (Some k) files n w before = failed_refusal (status.TooLong k) n w (before k refl)
 
 -- A refusal.

@@ -1,18 +1,29 @@
 -- Which words and texts are accepted: one function that gives the design and the scripts, or the first refusal. (own)
-use Rattle.std.specs.Prelude.{ℕ, ◌+◌, List, [], ◌∷◌, Bool, cond, Option, Some, None, Result, Ok, Err, nat_lt, length}
+use Rattle.std.specs.Prelude.{ℕ, ◌+◌, List, [], ◌∷◌, Bool, cond, if◌then◌else◌, Option, Some, None, Result, Ok, Err, nat_lt, length, map, slice_get}
 use Rattle.vh_base.specs.declared.faults.AppFault.TheVariants as app
+use Rattle.vh_base.specs.declared.faults.DesignFault.{DesignFault}
 use Rattle.vh_base.specs.declared.faults.DesignFault.TheVariants as fault
-use Rattle.vh_base.specs.declared.first.First.{First}
 use Rattle.vh_base.specs.declared.place.Place.{Place}
-use Rattle.vh_parse.specs.Meaning.{first_of}
+use Rattle.vh_base.specs.Checks.{with_ok, with_some}
+use Rattle.vh_design.specs.Shape.{Shape}
+use Rattle.vh_lex.specs.declared.conditional.Conditional.{Conditional}
+use Rattle.vh_lex.specs.declared.token.Token as lexed
+use Rattle.vh_lex.specs.Lexed as lexed_files
+use Rattle.vh_lex.specs.Lexed.{Lexed, reading, refused, exhausted, files_read}
+use Rattle.vh_syntax.specs.Tokens.{token_seen}
+use Rattle.vh_parse_expr.specs.Answers.{placed}
+use Rattle.vh_parse_items.specs.Answers.{source_answer}
+use Rattle.vh_first.specs.Meaning.{first_of}
+use Rattle.vh_first_design.specs.Designs.{first_design}
 use Rattle.vh_app.specs.Script.{ScriptData}
 use Rattle.vh_app.specs.Meaning.{script_of}
 use Rattle.vh_host.specs.declared.status.Status.{Status}
 use Rattle.vh_host.specs.declared.status.Status.TheVariants as status
-use Rattle.vh_host.specs.Words.{Reading, reading, is_design_word, is_script_word}
+use Rattle.vh_host.specs.Words as words
+use Rattle.vh_host.specs.Words.{Reading, is_design_word, is_script_word}
 
 pub data Verdict : Type 0 where
-  accepts : First → List ScriptData → Verdict
+  accepts : Shape → List ScriptData → Verdict
   refuses : Status → Verdict
 
 -- How many bytes the file of a word may have: a script 1,048,576, a Verilog file 4,194,304.
@@ -43,10 +54,39 @@ abbrev pub first_too_long : ℕ → List File → Option ℕ
 first_too_long n [] = None
 first_too_long n (file ∷ files) = cond (is_too_long file) (Some n) (first_too_long (n + 1) files)
 
--- The text of the Verilog file.
-abbrev pub design_text : List File → List ℕ
-design_text [] = []
-design_text (file ∷ files) = cond (is_design_word file.word) file.bytes (design_text files)
+-- The Verilog files, each with its number among all files; the first of these files has the number n.
+abbrev pub design_files : ℕ → List File → List lexed_files.File
+design_files n [] = []
+design_files n (file ∷ files) =
+    if is_design_word file.word
+    then record { number = n; bytes = file.bytes } ∷ design_files (n + 1) files else design_files (n + 1) files
+
+-- The first fault of the Verilog files, and where it stands.
+abbrev pub DesignRefusal : Type 0
+DesignRefusal = DesignFault × Place
+
+-- What tokens mean: a design; the first fault of the grammar, with the place behind the last byte where no token is
+-- left; or S3 where they are a source that can't be run yet.
+abbrev pub tokens_answer : List lexed.Token → Place → Result Shape DesignRefusal
+tokens_answer tokens after =
+    with_ok (placed tokens after (source_answer (map token_seen tokens)))
+    (λ parsed. with_some (first_of parsed.0) (fault.S3, place 1 1 1) (λ first. Ok (first_design first)))
+
+-- The same of the tokens of whole files: the outermost conditional that is open behind the last file is L2.
+abbrev pub closed_answer : Option Conditional → List lexed.Token → Place → Result Shape DesignRefusal
+closed_answer (Some opened) tokens after = Err (fault.L2, opened.place)
+closed_answer None tokens after = tokens_answer tokens after
+
+-- The same of what files come to: a lexical fault comes before every other.
+abbrev pub lexed_answer : Lexed → Result Shape DesignRefusal
+lexed_answer (reading first s) = closed_answer (slice_get s.conditionals 0) s.made.tokens s.place
+lexed_answer (refused lexical at) = Err (lexical, at)
+-- want of memory is nothing that files come to
+lexed_answer exhausted = tokens_answer [] (place 1 1 1)
+
+-- The design of the Verilog files among these, which are one source in word order; or their first fault.
+abbrev pub design_answer : List File → Result Shape DesignRefusal
+design_answer files = lexed_answer (files_read (design_files 1 files))
 
 -- A script before others, or the refusal of the file of this number, which isn't one of the first scripts.
 abbrev pub script_then : ℕ → Option ScriptData → Result (List ScriptData) Status → Result (List ScriptData) Status
@@ -61,18 +101,18 @@ scripts_of n (file ∷ files) =
     cond (is_script_word file.word) (script_then n (script_of file.bytes) (scripts_of (n + 1) files)) (scripts_of (n + 1) files)
 
 -- A design with its scripts.
-abbrev pub by_scripts : First → Result (List ScriptData) Status → Verdict
+abbrev pub by_scripts : Shape → Result (List ScriptData) Status → Verdict
 by_scripts design (Ok scripts) = accepts design scripts
 by_scripts design (Err refusal) = refuses refusal
 
--- A text that isn't of the first subset can't be run yet.
-abbrev pub by_design : Option First → List File → Verdict
-by_design None files = refuses (status.DesignRefused fault.S3 (place 1 1 1))
-by_design (Some design) files = by_scripts design (scripts_of 1 files)
+-- The Verilog text comes before the scripts.
+abbrev pub by_design : Result Shape DesignRefusal → List File → Verdict
+by_design (Err refusal) files = refuses (status.DesignRefused refusal.0 refusal.1)
+by_design (Ok design) files = by_scripts design (scripts_of 1 files)
 
 -- The texts, each of which is short enough.
 abbrev pub by_texts : List File → Verdict
-by_texts files = by_design (first_of (design_text files)) files
+by_texts files = by_design (design_answer files) files
 
 abbrev pub by_length : Option ℕ → List File → Verdict
 by_length (Some n) files = refuses (status.TooLong n)
@@ -87,4 +127,4 @@ by_reading (Some r) contents = by_files (files_with r.files contents)
 
 -- The verdict on words and on the contents of the files that they name, in word order.
 abbrev pub verdict : List (List ℕ) → List (List ℕ) → Verdict
-verdict words contents = by_reading (reading words) contents
+verdict given contents = by_reading (words.reading given) contents

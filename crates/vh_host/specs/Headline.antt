@@ -1,16 +1,15 @@
 -- The headline: what `run` writes is exactly the text of a run of the machine.
 use Rattle.std.specs.Prelude.{◌≡◌, ◌≤◌, ℕ, ◌++◌, List, [], map, Option, Some, ◌⊎◌}
 use Rattle.std.specs.List.{AllZip}
-use Rattle.vh_base.specs.declared.first.First.{First}
 use Rattle.vh_base.specs.Outside.{IsAnswered, appended}
-use Rattle.vh_kernel.specs.Run.{fifo, moves_of, text_of}
-use Rattle.vh_kernel.specs.Settle.{opening}
+use Rattle.vh_design.specs.Shape.{Shape}
+use Rattle.vh_kernel.specs.Run.{fifo}
 use Rattle.vh_app.specs.Script.{ScriptData}
 use Rattle.vh_host.specs.declared.status.Status.{Status}
 use Rattle.vh_host.specs.declared.status.Status.TheVariants as status
 use Rattle.vh_host.specs.Words.{file_words}
 use Rattle.vh_host.specs.Acceptance.{Verdict, accepts, refuses, verdict, limit_of}
-use Rattle.vh_host.specs.Transcript.{Wrote}
+use Rattle.vh_host.specs.Transcript.{WroteFromOpening, IsTextFromOpening}
 
 -- How many labels a run has at most.
 abbrev pub default_budget : ℕ
@@ -54,7 +53,7 @@ ComesBefore refusal status.WriteFault = ⊥
 -- written, unless the source failed or memory was refused before that was found; an accepted one gets a run.
 abbrev pub Answers : Verdict → Status → List ℕ → Type 0
 Answers (refuses refusal) s written = ((s ≡ refusal) ⊎ ComesBefore refusal s) × (written ≡ [])
-Answers (accepts design scripts) s written = Wrote fifo default_budget (opening design scripts) s written
+Answers (accepts design scripts) s written = WroteFromOpening fifo default_budget design scripts s written
 
 -- The contents are those that the source may have answered for the files, in word order.
 abbrev pub WereAnswered : Holds → List (List ℕ) → List (List ℕ) → Type 0
@@ -79,13 +78,14 @@ pub record Accounts (words : List (List ℕ)) (holds : Holds) (s : Status) (old 
 
 -- The headline. For accepted words, texts and scripts, where the source tells the files' contents and the
 -- sink tells its own, the bytes written are exactly the text of a run of the machine from the opening
--- state of the design with its scripts under fifo, ending only at its end or at the budget, or a front of
+-- of the design with its scripts under fifo, ending only at its end or at the budget, or a front of
 -- that text after want of memory or a failed write.
 abbrev pub Transcribes : List (List ℕ) → Holds → Status → Option (List ℕ) → Option (List ℕ) → Type 0
 Transcribes words holds s old new =
-    (contents : List (List ℕ)) (before : List ℕ) (design : First) (scripts : List ScriptData) →
+    (contents : List (List ℕ)) (before : List ℕ) (design : Shape) (scripts : List ScriptData) →
     Tells holds (file_words words) contents → verdict words contents ≡ accepts design scripts → old ≡ Some before →
-    (written : List ℕ) × (new ≡ Some (before ++ written)) × Wrote fifo default_budget (opening design scripts) s written
+    (written : List ℕ) × (new ≡ Some (before ++ written))
+    × WroteFromOpening fifo default_budget design scripts s written
 
 -- A refused input gets its refusal, and nothing is written, unless the source failed or memory was
 -- refused before that was found; where the source tells the files' contents.
@@ -99,7 +99,7 @@ Refuses words holds s old new =
 abbrev pub Exactly : Status → Status → Type 0 → Type 0
 Exactly s given P = (s ≡ given → P) × (P → (s ≡ given) ⊎ (s ≡ status.NoMemory))
 
--- The text of the run that a verdict allows, of so many labels at most; none for a refused input.
-abbrev pub text_by : Verdict → ℕ → List ℕ
-text_by (refuses r) budget = []
-text_by (accepts design scripts) budget = text_of (moves_of fifo budget (opening design scripts))
+-- The text is that of the run that a verdict allows, of so many labels at most; none for a refused input.
+abbrev pub IsTextBy : Verdict → ℕ → List ℕ → Type 0
+IsTextBy (refuses r) budget text = text ≡ []
+IsTextBy (accepts design scripts) budget text = IsTextFromOpening fifo budget design scripts text

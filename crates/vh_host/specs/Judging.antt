@@ -1,12 +1,16 @@
 -- Which verdict a refusal of the texts says. (own)
-use Rattle.std.specs.Prelude.{◌≡◌, ℕ, List, Option, None, Result, Err}
+use Rattle.std.specs.Prelude.{◌≡◌, ℕ, Bool, true, false, List, Option, None, Result, Ok, Err}
+use Rattle.vh_design.specs.Shape.{Shape}
+use Rattle.vh_lex.specs.declared.fault.LexFault.{LexFault}
+use Rattle.vh_lex.specs.declared.fault.LexFault.TheVariants as lexical
+use Rattle.vh_lex.specs.Lexed.{Lexed, refused, IsBegun}
 use Rattle.vh_base.specs.declared.faults.AppFault.TheVariants as app
 use Rattle.vh_app.specs.Script.{ScriptData}
 use Rattle.vh_host.specs.declared.status.Status.{Status}
 use Rattle.vh_host.specs.declared.status.Status.TheVariants as status
 use Rattle.vh_host.specs.declared.judging.Refusal.{Refusal}
 use Rattle.vh_host.specs.declared.judging.Refusal.TheVariants as refusal
-use Rattle.vh_host.specs.Acceptance.{Verdict, refuses, place}
+use Rattle.vh_host.specs.Acceptance.{Verdict, refuses, place, DesignRefusal}
 
 -- The status of a refusal.
 abbrev pub status_of : Refusal → Status
@@ -31,3 +35,27 @@ abbrev pub RefusesFile : Refusal → ℕ → Option ScriptData → Type 0
 RefusesFile (refusal.Design fault at) number o = ⊥
 RefusesFile (refusal.Script n fault at) number o = (o ≡ None) × (n ≡ number) × (fault ≡ app.A2) × (at ≡ place number 1 1)
 RefusesFile refusal.NoMemory number o = Unit {0}
+
+-- A lexical fault as a refusal.
+abbrev pub refusal_of : LexFault → Refusal
+refusal_of (lexical.Refused fault at) = refusal.Design fault at
+refusal_of lexical.NoMemory = refusal.NoMemory
+
+-- The design, or the first fault, is what the code answers.
+abbrev pub Designs : Result Shape DesignRefusal → Result Shape Refusal → Type 0
+Designs answer (Ok design) = answer ≡ Ok design
+Designs answer (Err (refusal.Design fault at)) = answer ≡ Err (fault, at)
+Designs answer (Err (refusal.Script n fault at)) = ⊥
+Designs answer (Err refusal.NoMemory) = Unit {0}
+
+-- Files come to what a lexer holds after them, or are refused.
+abbrev pub Lexes : {A : Type 0} → Lexed → Result A Refusal → Lexed → Type 0
+Lexes given (Ok a) held = held ≡ given
+Lexes given (Err (refusal.Design fault at)) held = given ≡ refused fault at
+Lexes given (Err (refusal.Script n fault at)) held = ⊥
+Lexes given (Err refusal.NoMemory) held = Unit {0}
+
+-- A lexer has read a file, or is as it was.
+abbrev pub Begins : Bool → Lexed → Lexed → Type 0
+Begins true old new = IsBegun new
+Begins false old new = new ≡ old

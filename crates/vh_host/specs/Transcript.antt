@@ -1,13 +1,16 @@
 -- What is written of a run, by the status that the call answers.
 use Rattle.std.specs.Prelude.{◌≡◌, ℕ, ◌≤◌, ◌++◌, List, [], ◌∷◌, length, take, Bool, true, not}
 use Rattle.std.specs.List.{list_all}
+use Rattle.vh_app.specs.Script.{ScriptData}
+use Rattle.vh_design.specs.Shape.{Shape}
 use Rattle.vh_kernel.specs.declared.label.Ending.{Ending}
 use Rattle.vh_kernel.specs.declared.label.Ending.TheVariants as ending
 use Rattle.vh_kernel.specs.declared.label.Label.TheVariants as label
 use Rattle.vh_kernel.specs.State.{State}
 use Rattle.vh_kernel.specs.Outcome.{Move}
 use Rattle.vh_kernel.specs.Step.{is_end}
-use Rattle.vh_kernel.specs.Run.{Chooser, IsRun, text_of}
+use Rattle.vh_kernel.specs.Run.{Chooser, IsRun, moves_of, text_of}
+use Rattle.vh_kernel.specs.Settle.{Opens}
 use Rattle.vh_laws.specs.Laws.{KeepsLaws}
 use Rattle.vh_host.specs.declared.status.Status.{Status}
 use Rattle.vh_host.specs.declared.status.Status.TheVariants as status
@@ -64,3 +67,18 @@ pub record Wrote (order : Chooser) (budget : ℕ) (s : State) (st : Status) (wri
   pub laws : KeepsLaws s moves
   pub in_budget : length moves ≤ budget
   pub text : WroteOf budget moves st written
+
+-- The same of a run of a design with its scripts, which begins at the opening: at time 0, with every digit of every
+-- variable x, the processes to be evaluated and the startups of the scripts before them. (11.4)
+pub record WroteFromOpening (order : Chooser) (budget : ℕ) (d : Shape) (scripts : List ScriptData)
+    (st : Status) (written : List ℕ) : Type 0 where
+  pub opening : State
+  pub opens : Opens d scripts opening
+  pub wrote : Wrote order budget opening st written
+
+-- The text is that of the labels of such a run, of so many at most.
+pub record IsTextFromOpening (order : Chooser) (budget : ℕ) (d : Shape) (scripts : List ScriptData)
+    (text : List ℕ) : Type 0 where
+  pub opening : State
+  pub opens : Opens d scripts opening
+  pub is : text ≡ text_of (moves_of order budget opening)

@@ -1,5 +1,5 @@
 -- The words of the command line. (own)
-use Rattle.std.specs.Prelude.{ℕ, suc, zero, List, [], ◌∷◌, Bool, ◌&&◌, ◌||◌, not, cond, Option, Some, None, bytes_eq, nat_eq, nat_le, codes, length, map, slice_get, string_bytes, String}
+use Rattle.std.specs.Prelude.{ℕ, suc, zero, List, [], ◌∷◌, Bool, ◌&&◌, ◌||◌, not, cond, Option, Some, None, bytes_eq, nat_eq, nat_le, nat_lt, codes, length, map, slice_get, string_bytes, String}
 use Rattle.std.specs.List.{ends_with, starts_with, list_all, count_by}
 use Rattle.std.specs.declared.alloc.Global.{Global}
 
@@ -23,10 +23,10 @@ is_script_word word = ends_with nat_eq word (codes ".app") && not (is_option wor
 abbrev pub is_file_word : List ℕ → Bool
 is_file_word word = is_design_word word || is_script_word word
 
--- File words that can be run: eight at most, one of which names a Verilog file, and one at most a script.
+-- File words that can be run: eight at most, one of which at least names a Verilog file, and one at most a script.
 abbrev pub can_be_run : List (List ℕ) → Bool
 can_be_run files =
-    nat_le (length files) 8 && list_all is_file_word files && nat_eq (count_by is_design_word files) 1
+    nat_le (length files) 8 && list_all is_file_word files && nat_lt 0 (count_by is_design_word files)
     && nat_le (count_by is_script_word files) 1
 
 -- The words are the mode `run` and file words that can be run; no others have a reading.

@@ -1,8 +1,7 @@
-ghost use Rattle.std.specs.Prelude.{◌≡◌, ◌≢◌, ◌≤◌, ℕ, List, Some, None, length, IsTrue};
-ghost use Rattle.vh_base.specs.First.{are_declared};
+ghost use Rattle.std.specs.Prelude.{◌≡◌, ◌≢◌, ◌≤◌, ℕ, List, Some, None, length};
 ghost use Rattle.vh_base.specs.Outside.{Rose};
 ghost use Rattle.vh_host.specs.Words.{reading, file_word, texts};
-ghost use Rattle.vh_host.specs.Acceptance.{by_texts, accepts};
+ghost use Rattle.vh_host.specs.Acceptance.{by_texts, accepts, first_too_long};
 ghost use Rattle.vh_host.specs.Reading.{files_seen};
 ghost use Rattle.vh_host.specs.Headline.{Accounts, AnswersWith, Transcribes, Refuses, Exactly};
 
@@ -14,11 +13,12 @@ use crate::transcript::transcribe;
 use crate::words::files_to_run;
 use std::alloc::Global;
 use vh_app::Script;
-use vh_base::{Files, First, Sink};
+use vh_base::{Files, Sink};
+use vh_design::Design;
 use vh_kernel::Kernel;
 
-/// Runs the Verilog file that the words ask for with the script beside it, and writes the
-/// transcript: reads the words, each file once in word order, the Verilog text and the
+/// Runs the Verilog files that the words ask for, as one source, with the script beside them, and
+/// writes the transcript: reads the words, each file once in word order, the Verilog files and the
 /// scripts, and then makes the run's labels, each line offered to the sink as its label is
 /// made. It answers the first refusal, and nothing is written before the run begins. `words`
 /// don't hold the program's own name.
@@ -74,7 +74,8 @@ fn run_words<F: Files, K: Sink>(
 
 // Runs the texts of files, none of which is too long.
 fn run_files<K: Sink>(alloc: Global, files: &[TextFile<'_>], out: &mut K) -> Status
-    requires { length files.now ≤ 8 }
+    requires few { length files.now ≤ 8 }
+    requires short { first_too_long 1 (files_seen files.now) ≡ None }
     ensures answers { AnswersWith (by_texts (files_seen files.now)) result (K.written out.old) (K.written out.new) }
     ensures failed { result ≡ Status.WriteFault → Rose (K.faults out.old) (K.faults out.new) }
     ensures calm { result ≢ Status.WriteFault → K.faults out.new ≡ K.faults out.old }
@@ -88,9 +89,8 @@ fn run_files<K: Sink>(alloc: Global, files: &[TextFile<'_>], out: &mut K) -> Sta
 }
 
 // Runs a design with its scripts.
-fn run_design<K: Sink>(alloc: Global, design: First, scripts: Vec<Script>, out: &mut K) -> Status
-    requires declared { IsTrue (are_declared design) }
-    requires few { length scripts.items ≤ 8 }
+fn run_design<K: Sink>(alloc: Global, design: Design, scripts: Vec<Script>, out: &mut K) -> Status
+    requires { length scripts.items ≤ 8 }
     ensures answers { AnswersWith (accepts design scripts.items) result (K.written out.old) (K.written out.new) }
     ensures failed { result ≡ Status.WriteFault → Rose (K.faults out.old) (K.faults out.new) }
     ensures calm { result ≢ Status.WriteFault → K.faults out.new ≡ K.faults out.old }

@@ -1,18 +1,19 @@
-ghost use Rattle.std.specs.Prelude.{◌≡◌, ◌≤◌, Ok, Some, length, IfOk, IfErr, IsTrue};
-ghost use Rattle.vh_base.specs.First.{are_declared};
+ghost use Rattle.std.specs.Prelude.{◌≡◌, ◌≤◌, Ok, Some, None, length, IfOk, IfErr};
 ghost use Rattle.vh_app.specs.Meaning.{script_of};
-ghost use Rattle.vh_host.specs.Acceptance.{by_texts, scripts_of, design_text, accepts};
+ghost use Rattle.vh_host.specs.Acceptance.{by_texts, scripts_of, accepts, first_too_long};
 ghost use Rattle.vh_host.specs.Reading.{files_seen};
 ghost use Rattle.vh_host.specs.Judging.{RefusesTexts, RefusesScript, RefusesFile, status_of};
 
+use crate::design::read_design;
 use crate::file::TextFile;
 use crate::status::Status;
-use crate::words::{is_design_word, is_script_word};
+use crate::words::is_script_word;
 use std::alloc::{AllocError, AllocFailed, Global};
 use thiserror::Error;
 use vh_app::{Script, ScriptFault, read_app};
-use vh_base::{AppFault, DesignFault, First, Place, Short};
-use vh_parse::{FirstFault, parse_first};
+use vh_base::{AppFault, DesignFault, NoMemory, Place, Short};
+use vh_design::Design;
+use vh_lex::LexFault;
 
 /// Why texts can't be run.
 #[derive(Clone, Copy, Debug, PartialEq, Eq, Error)]
@@ -34,6 +35,29 @@ impl From<AllocError> for Refusal {
 
     fn from(_refused: AllocError) -> Refusal {
         Refusal::NoMemory
+    }
+}
+
+impl From<NoMemory> for Refusal {
+    ghost use Rattle.vh_host.specs.declared.judging.Refusal.TheVariants.{NoMemory};
+
+    ghost from_gives = { λ _ refusal. refusal ≡ NoMemory };
+
+    fn from(_refused: NoMemory) -> Refusal {
+        Refusal::NoMemory
+    }
+}
+
+impl From<LexFault> for Refusal {
+    ghost use Rattle.vh_host.specs.Judging.{refusal_of};
+
+    ghost from_gives = { λ fault given. given ≡ refusal_of fault };
+
+    fn from(fault: LexFault) -> Refusal {
+        match fault {
+            LexFault::Refused(fault, place) => Refusal::Design(fault, place),
+            LexFault::NoMemory => Refusal::NoMemory,
+        }
     }
 }
 
@@ -59,41 +83,21 @@ pub fn status_of(refusal: Refusal) -> Status
 }
 
 /// The design and the scripts of files that were read, or the first refusal: the Verilog
-/// text first, and then the scripts in word order.
-pub fn judge(alloc: Global, files: &[TextFile<'_>]) -> Result<(First, Vec<Script>), Refusal>
-    requires { length files.now ≤ 8 }
+/// files first, and then the scripts in word order.
+pub fn judge(alloc: Global, files: &[TextFile<'_>]) -> Result<(Design, Vec<Script>), Refusal>
+    requires few { length files.now ≤ 8 }
+    requires short { first_too_long 1 (files_seen files.now) ≡ None }
     ensures accepted { IfOk result (λ parts. by_texts (files_seen files.now) ≡ accepts parts.0 parts.1.items) }
-    ensures declared { IfOk result (λ parts. IsTrue (are_declared parts.0)) }
     ensures few { IfOk result (λ parts. length parts.1.items ≤ 8) }
     ensures refused { IfErr result (λ refusal. RefusesTexts refusal (by_texts (files_seen files.now))) }
 {
-    match parse_first(alloc, design_text(files)) {
+    match read_design(alloc, files) {
         Ok(design) => {
             let scripts = scripts_of(alloc, files)?;
             Ok((design, scripts))
         }
-        Err(FirstFault::NotBuilt) => {
-            let place = Place {
-                file: 1,
-                line: 1,
-                column: 1,
-            };
-            Err(Refusal::Design(DesignFault::S3, place))
-        }
-        Err(FirstFault::NoMemory) => Err(Refusal::NoMemory),
+        Err(refusal) => Err(refusal),
     }
-}
-
-// The text of the Verilog file.
-fn design_text<'a>(files: &'a [TextFile<'_>]) -> &'a [u8]
-    ensures { result.now ≡ design_text (files_seen files.now) }
-{
-    for file in files {
-        if is_design_word(file.word) {
-            return file.bytes.as_slice();
-        }
-    }
-    &[]
 }
 
 // The scripts in word order, or the first refusal.

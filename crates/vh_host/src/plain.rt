@@ -6,7 +6,7 @@ ghost use Rattle.vh_kernel.specs.Run.{fifo, moves_of, text_of, line_of_move};
 ghost use Rattle.vh_host.specs.Words.{texts};
 ghost use Rattle.vh_host.specs.Acceptance.{verdict, by_files, by_texts, files_with, first_too_long, is_too_long};
 ghost use Rattle.vh_host.specs.Reading.{file_seen, files_seen};
-ghost use Rattle.vh_host.specs.Headline.{text_by};
+ghost use Rattle.vh_host.specs.Headline.{IsTextBy};
 
 use crate::file::TextFile;
 use crate::judging::{Refusal, judge};
@@ -25,7 +25,7 @@ pub fn plain_text(
     contents: &[Bytes],
     budget: u64,
 ) -> Result<Vec<u8>, NoMemory>
-    ensures { IfOk result (λ text. text.items ≡ text_by (verdict (texts words.now) contents.now) budget) }
+    ensures { IfOk result (λ text. IsTextBy (verdict (texts words.now) contents.now) budget text.items) }
 {
     let Some(names) = files_to_run(words) else {
         return Ok(Vec::new(alloc));
@@ -68,7 +68,7 @@ fn is_too_long(file: &TextFile<'_>) -> bool
 // The text of the run of files.
 fn text_of_files(alloc: Global, files: &[TextFile<'_>], budget: u64) -> Result<Vec<u8>, NoMemory>
     requires { length files.now ≤ 8 }
-    ensures { IfOk result (λ text. text.items ≡ text_by (by_files (files_seen files.now)) budget) }
+    ensures { IfOk result (λ text. IsTextBy (by_files (files_seen files.now)) budget text.items) }
 {
     if any_too_long(files) {
         return Ok(Vec::new(alloc));
@@ -85,8 +85,9 @@ fn any_too_long(files: &[TextFile<'_>]) -> bool
 
 // The text of the run of files, none of which is too long.
 fn text_of_texts(alloc: Global, files: &[TextFile<'_>], budget: u64) -> Result<Vec<u8>, NoMemory>
-    requires { length files.now ≤ 8 }
-    ensures { IfOk result (λ text. text.items ≡ text_by (by_texts (files_seen files.now)) budget) }
+    requires few { length files.now ≤ 8 }
+    requires short { first_too_long 1 (files_seen files.now) ≡ None }
+    ensures { IfOk result (λ text. IsTextBy (by_texts (files_seen files.now)) budget text.items) }
 {
     match judge(alloc, files) {
         Ok((design, scripts)) => {

@@ -145,7 +145,7 @@ fn words_and_files_are_refused_by_name(rt: HostRuntime) -> Result<(), Fail> {
         (&["run"], FIRST, Status::Usage, usage, 1),
         (&["top.v"], FIRST, Status::Usage, usage, 1),
         (&["gen", "top.v"], FIRST, Status::Usage, usage, 1),
-        (&["run", "top.v", "top.v"], FIRST, Status::Usage, usage, 1),
+        (&["run", "top.app"], FIRST, Status::Usage, usage, 1),
         (&["run", "top.vh"], FIRST, Status::Usage, usage, 1),
         (&["run", "-top.v"], FIRST, Status::Usage, usage, 1),
         (
@@ -330,9 +330,12 @@ const USAGE: &str = "usage: vhost run [--order fifo|lifo|seeded:N] [--budget N] 
 
 // Words, the design's and the script's text, the reads that fail, and the status with its
 // line and exit number.
-static REFUSALS: [(&[&str], &str, &str, &[u64], Status, &str, u8); 19] = [
+static REFUSALS: [(&[&str], &str, &str, &[u64], Status, &str, u8); 21] = [
+    // Nine files, and eight of which none is a Verilog file.
     (
-        &["run", "a.v", "c.v"],
+        &[
+            "run", "a.v", "a.v", "a.v", "a.v", "a.v", "a.v", "a.v", "a.v", "a.v",
+        ],
         FIRST,
         SCRIPT,
         &[],
@@ -341,13 +344,34 @@ static REFUSALS: [(&[&str], &str, &str, &[u64], Status, &str, u8); 19] = [
         1,
     ),
     (
-        &["run", "a.v", "c.v", "b.app"],
+        &[
+            "run", "b.app", "b.app", "b.app", "b.app", "b.app", "b.app", "b.app", "b.app",
+        ],
         FIRST,
         SCRIPT,
         &[],
         Status::Usage,
         USAGE,
         1,
+    ),
+    // A file may be read twice, and its module is there twice.
+    (
+        &["run", "a.v", "a.v"],
+        FIRST,
+        SCRIPT,
+        &[],
+        DESIGN_REFUSED,
+        "design refused: S3 at 1:1:1",
+        2,
+    ),
+    (
+        &["run", "a.v", "c.v", "b.app"],
+        FIRST,
+        NO_SCRIPT,
+        &[],
+        DESIGN_REFUSED,
+        "design refused: S3 at 1:1:1",
+        2,
     ),
     (
         &["run", "a.v", "b.app", "d.app"],

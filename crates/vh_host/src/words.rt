@@ -30,7 +30,7 @@ fn can_be_run(files: &[String]) -> bool
     if !all_files(files) {
         return false;
     }
-    design_count(files) == 1 && script_count(files) <= 1
+    design_count(files) > 0 && script_count(files) <= 1
 }
 
 // Does each word name a file?

@@ -1,0 +1,89 @@
+ghost use Rattle.std.specs.Prelude.{◌≡◌, ◌≤◌, None, length, IfOk};
+ghost use Rattle.vh_lex.specs.Lexed.{files_after, nothing_read, IfReading};
+ghost use Rattle.vh_host.specs.Acceptance.{design_answer, design_files, tokens_answer, first_too_long};
+ghost use Rattle.vh_host.specs.Reading.{files_seen};
+ghost use Rattle.vh_host.specs.Judging.{Designs, Lexes, Begins};
+
+use crate::file::TextFile;
+use crate::judging::Refusal;
+use crate::words::is_design_word;
+use std::alloc::Global;
+use vh_base::{DesignFault, Place};
+use vh_design::Design;
+use vh_first::FirstFault;
+use vh_lex::{Lexer, Token};
+use vh_parse_expr::ParseFault;
+use vh_parse_items::parse;
+
+/// The design of the Verilog files among these, which are read as one source in word order; or
+/// their first fault.
+pub fn read_design(alloc: Global, files: &[TextFile<'_>]) -> Result<Design, Refusal>
+    requires few { length files.now ≤ 8 }
+    requires short { first_too_long 1 (files_seen files.now) ≡ None }
+    ensures { Designs (design_answer (files_seen files.now)) result }
+{
+    let mut lexer = Lexer::new(alloc)?;
+    let is_begun = lex_files(alloc, &mut lexer, files)?;
+    lexer.end()?;
+    let after = place_after(&lexer, is_begun);
+    parsed(alloc, lexer.tokens().as_slice(), after)
+}
+
+// Reads the Verilog files among these, and tells whether there is one.
+fn lex_files(alloc: Global, lexer: &mut Lexer, files: &[TextFile<'_>]) -> Result<bool, Refusal>
+    requires few { length files.now ≤ 8 }
+    requires short { first_too_long 1 (files_seen files.now) ≡ None }
+    ensures read { Lexes (files_after lexer.old (design_files 1 (files_seen files.now)))
+        result lexer.new }
+    ensures begun { IfOk result (λ is_begun. Begins is_begun lexer.old lexer.new) }
+{
+    let mut is_begun = false;
+    let mut number: u32 = 0;
+    for file in files {
+        number += 1;
+        if !is_design_word(file.word) {
+            continue;
+        }
+        lexer.file(alloc, number, file.bytes.as_slice())?;
+        is_begun = true;
+    }
+    Ok(is_begun)
+}
+
+// The place behind the last byte that was read.
+fn place_after(lexer: &Lexer, is_begun: bool) -> Place
+    requires { Begins is_begun nothing_read lexer.now }
+    ensures { IfReading lexer.now (λ first s. s.place ≡ result) }
+{
+    if is_begun {
+        return lexer.after();
+    }
+    Place {
+        file: 0,
+        line: 1,
+        column: 1,
+    }
+}
+
+// The design of tokens, behind which this place is.
+fn parsed(alloc: Global, tokens: &[Token], after: Place) -> Result<Design, Refusal>
+    ensures { Designs (tokens_answer tokens.now after) result }
+{
+    let source = match parse(alloc, tokens, after) {
+        Ok(source) => source,
+        Err(ParseFault::Refused(fault, place)) => return Err(Refusal::Design(fault, place)),
+        Err(ParseFault::NoMemory) => return Err(Refusal::NoMemory),
+    };
+    match vh_first::design_of(alloc, &source) {
+        Ok(first) => Ok(vh_first_design::design_of(alloc, &first)?),
+        Err(FirstFault::NotBuilt) => {
+            let place = Place {
+                file: 1,
+                line: 1,
+                column: 1,
+            };
+            Err(Refusal::Design(DesignFault::S3, place))
+        }
+        Err(FirstFault::NoMemory) => Err(Refusal::NoMemory),
+    }
+}
