@@ -3,7 +3,8 @@
 //!
 //! The contract that the layer above uses: [`bind_expr`] adds the nodes that `bound` of
 //! `vh_bind/specs/Constants.antt` gives an expression where a value is wanted. Constants are the
-//! same definition where a constant is needed.
+//! same definition where a constant is needed. What else is public are pieces of it, for what is written
+//! like an expression and is none: targets, delays and event controls.
 //!
 //! It stands on `vh_bind` for names, constants and nodes.
 #![tactic(auto)]
@@ -15,3 +16,6 @@ mod reads;
 mod rows;
 
 pub use expr::bind_expr;
+pub use names::{constant_at, name_read};
+pub use reads::{bit_select, indexed_select, push_selected, whole_of, word_of};
+pub use rows::{range_at, width_at};

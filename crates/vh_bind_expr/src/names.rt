@@ -23,7 +23,7 @@ use vh_scope::Top;
 
 /// A constant in an expression, in its own width: parameters have their values in the expressions
 /// so far.
-pub(crate) fn constant_at(
+pub fn constant_at(
     alloc: Global,
     scope: &Scope,
     nodes: &[ExprNode],
@@ -61,7 +61,7 @@ fn path_named(alloc: Global, here: &Scope, name: &Name<Expr>) -> Result<Readable
 }
 
 /// What a name or a path stands for.
-pub(crate) fn name_read(
+pub fn name_read(
     alloc: Global,
     scope: &Scope,
     nodes: &[ExprNode],

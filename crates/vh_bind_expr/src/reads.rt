@@ -20,14 +20,14 @@ use vh_bind::{ElabFault, Function, Mode, Scope, push};
 use vh_nodes::{Chosen, ExprIds, ExprKind, ExprNode, Range, Select, Selected};
 
 /// A whole object.
-pub(crate) fn whole_of(object: ObjId) -> Option<Chosen>
+pub fn whole_of(object: ObjId) -> Option<Chosen>
     ensures { result ≡ whole_of object }
 {
     Some(Chosen { object, word: None })
 }
 
 /// The word of a memory, by the expression of its address.
-pub(crate) fn word_of(object: ObjId, index: Option<ExprId>) -> Option<Chosen>
+pub fn word_of(object: ObjId, index: Option<ExprId>) -> Option<Chosen>
     ensures { result ≡ word_of object index }
 {
     index.map(|e| Chosen {
@@ -37,14 +37,14 @@ pub(crate) fn word_of(object: ObjId, index: Option<ExprId>) -> Option<Chosen>
 }
 
 /// One digit, by an index.
-pub(crate) fn bit_select(range: Range, index: Option<ExprId>) -> Option<Select>
+pub fn bit_select(range: Range, index: Option<ExprId>) -> Option<Select>
     ensures { result ≡ bit_select range index }
 {
     index.map(|index| Select::Bit { range, index })
 }
 
 /// So many digits from an index on, upwards or downwards by index.
-pub(crate) fn indexed_select(
+pub fn indexed_select(
     up: bool,
     range: Range,
     base: Option<ExprId>,
@@ -64,7 +64,7 @@ pub(crate) fn indexed_select(
 }
 
 /// Digits of an object or of a word, where no part is passed over.
-pub(crate) fn push_selected(
+pub fn push_selected(
     scope: &Scope,
     nodes: &mut Vec<ExprNode>,
     place: Place,

@@ -93,7 +93,7 @@ pub(crate) fn push_chained(
 }
 
 /// Which digits, between two constants.
-pub(crate) fn range_at(
+pub fn range_at(
     alloc: Global,
     scope: &Scope,
     nodes: &[ExprNode],
@@ -113,7 +113,7 @@ pub(crate) fn range_at(
 }
 
 /// How many digits, from a base on: a constant.
-pub(crate) fn width_at(
+pub fn width_at(
     alloc: Global,
     scope: &Scope,
     nodes: &[ExprNode],

@@ -1,0 +1,2 @@
+-- Expressions by number, one by one
+pub mod CallsLemmas

@@ -1,0 +1,353 @@
+ghost use Rattle.std.specs.Prelude.{◌≡◌, [], ◌∷◌, ◌++◌, true, map, OnOk};
+ghost use Rattle.vh_nodes.specs.Fits.{is_unit};
+ghost use Rattle.vh_code.specs.Targets.{targets_width};
+ghost use Rattle.vh_ast.specs.Views.{expr_tree, name_tree, part_by, sel_tree, lv_tree, lv_part_tree};
+ghost use Rattle.vh_bind.specs.declared.scope.Mode.TheVariants as mode;
+ghost use Rattle.vh_bind.specs.Steps.{Steps, Gives};
+ghost use Rattle.vh_bind.specs.Nodes.{IsSound};
+ghost use Rattle.vh_bind.specs.Constants.{part_bound};
+ghost use Rattle.vh_bind.specs.Views.{scope_seen};
+ghost use Rattle.vh_bind_stmt.specs.Targets.{with_selected, vector_target, memory_target, name_piece, piece_bound, pieces_bound, in_width, targets_bound, output_pieces, outputs_pieces, output_bound};
+ghost use Rattle.vh_ast.specs.Expressions.{exprs};
+ghost use Rattle.vh_bind_stmt.specs.Views.{AddsTo, StepsOn};
+
+use std::alloc::Global;
+use vh_ast::{Esel, Expr, ExprForm, Lv, LvPart, Name, Part, Primary, Sel};
+use vh_base::{DesignFault, ExprId, NoMemory, ObjId, Place, Sequence};
+use vh_bind::{ElabFault, Readable, Scope};
+use vh_bind_expr::{
+    bind_expr, bit_select, indexed_select, name_read, range_at, whole_of, width_at, word_of,
+};
+use vh_code::Targets;
+use vh_nodes::{
+    Chosen, ExprNode, ObjectInfo, Range, Select, Selected, is_variable_at, is_width,
+    selected_width, side_by_side,
+};
+
+// One target more, where no part of it is passed over; whether that is so.
+fn with_selected(
+    targets: &mut Vec<Selected>,
+    of: Option<Chosen>,
+    select: Option<Select>,
+) -> Result<bool, NoMemory>
+    ensures { AddsTo (with_selected targets.old.items of select) result targets.new.items }
+{
+    let Some(of) = of else {
+        return Ok(false);
+    };
+    let Some(select) = select else {
+        return Ok(false);
+    };
+    targets.push(Selected { of, select })?;
+    Ok(true)
+}
+
+// Which digits the last bracket of a select names.
+fn bind_part(
+    alloc: Global,
+    scope: &Scope,
+    nodes: &mut Vec<ExprNode>,
+    range: Range,
+    last: &Esel<Expr>,
+) -> Result<Option<Select>, ElabFault>
+    requires sound { IsSound mode.Value (scope_seen scope.now) nodes.old.items }
+    requires unit { is_unit (scope_seen scope.now).precision (scope_seen scope.now).unit ≡ true }
+    ensures step { Steps
+        (part_bound (scope_seen scope.now) last.now.place range
+        (part_by expr_tree last.now.part) nodes.old.items)
+        result nodes.new.items }
+    ensures sound { OnOk result (IsSound mode.Value (scope_seen scope.now) nodes.new.items) }
+{
+    let bracket = last.place;
+    match &last.part {
+        Part::Index(index) => {
+            let index = bind_expr(alloc, nodes, scope, index.get())?;
+            Ok(bit_select(range, index))
+        }
+        Part::Range(left, right) => {
+            range_at(alloc, scope, nodes, bracket, range, left.get(), right.get())
+        }
+        Part::Up(base, width) => {
+            let base = bind_expr(alloc, nodes, scope, base.get())?;
+            let width = width_at(alloc, scope, nodes, bracket, width.get())?;
+            Ok(indexed_select(true, range, base, width))
+        }
+        Part::Down(base, width) => {
+            let base = bind_expr(alloc, nodes, scope, base.get())?;
+            let width = width_at(alloc, scope, nodes, bracket, width.get())?;
+            Ok(indexed_select(false, range, base, width))
+        }
+    }
+}
+
+// A variable, or digits of one.
+fn vector_target(
+    alloc: Global,
+    scope: &Scope,
+    nodes: &mut Vec<ExprNode>,
+    targets: &mut Vec<Selected>,
+    place: Place,
+    object: ObjId,
+    range: Range,
+    sel: &Option<Sel<Expr>>,
+) -> Result<bool, ElabFault>
+    requires sound { IsSound mode.Value (scope_seen scope.now) nodes.old.items }
+    requires unit { is_unit (scope_seen scope.now).precision (scope_seen scope.now).unit ≡ true }
+    ensures step { StepsOn
+        (vector_target (scope_seen scope.now) targets.old.items place object range (sel_tree sel.now) nodes.old.items)
+        result targets.new.items nodes.new.items }
+    ensures sound { OnOk result (IsSound mode.Value (scope_seen scope.now) nodes.new.items) }
+{
+    let of = whole_of(object);
+    match sel {
+        None => Ok(with_selected(targets, of, Some(Select::Whole))?),
+        Some(Sel::Index(_, index)) => {
+            let index: Option<ExprId> = bind_expr(alloc, nodes, scope, index.get())?;
+            Ok(with_selected(targets, of, bit_select(range, index))?)
+        }
+        Some(Sel::Both { .. }) => Err(ElabFault::Refused(DesignFault::N1, place)),
+        Some(Sel::Part(last)) => {
+            let select = bind_part(alloc, scope, nodes, range, last)?;
+            Ok(with_selected(targets, of, select)?)
+        }
+    }
+}
+
+// A word of a memory, or digits of one.
+fn memory_target(
+    alloc: Global,
+    scope: &Scope,
+    nodes: &mut Vec<ExprNode>,
+    targets: &mut Vec<Selected>,
+    place: Place,
+    object: ObjId,
+    range: Range,
+    sel: &Option<Sel<Expr>>,
+) -> Result<bool, ElabFault>
+    requires sound { IsSound mode.Value (scope_seen scope.now) nodes.old.items }
+    requires unit { is_unit (scope_seen scope.now).precision (scope_seen scope.now).unit ≡ true }
+    ensures step { StepsOn
+        (memory_target (scope_seen scope.now) targets.old.items place object range (sel_tree sel.now) nodes.old.items)
+        result targets.new.items nodes.new.items }
+    ensures sound { OnOk result (IsSound mode.Value (scope_seen scope.now) nodes.new.items) }
+{
+    match sel {
+        None | Some(Sel::Part(_)) => Err(ElabFault::Refused(DesignFault::N1, place)),
+        Some(Sel::Index(_, index)) => {
+            let index = bind_expr(alloc, nodes, scope, index.get())?;
+            Ok(with_selected(targets, word_of(object, index), Some(Select::Whole))?)
+        }
+        Some(Sel::Both { index, last, .. }) => {
+            let index = bind_expr(alloc, nodes, scope, index.get())?;
+            let select = bind_part(alloc, scope, nodes, range, last)?;
+            Ok(with_selected(targets, word_of(object, index), select)?)
+        }
+    }
+}
+
+// What a name with its select assigns to, behind other targets; whether it isn't passed over.
+fn bind_name(
+    alloc: Global,
+    scope: &Scope,
+    nodes: &mut Vec<ExprNode>,
+    targets: &mut Vec<Selected>,
+    name: &Name<Expr>,
+    sel: &Option<Sel<Expr>>,
+) -> Result<bool, ElabFault>
+    requires sound { IsSound mode.Value (scope_seen scope.now) nodes.old.items }
+    requires unit { is_unit (scope_seen scope.now).precision (scope_seen scope.now).unit ≡ true }
+    ensures step { StepsOn
+        (name_piece (scope_seen scope.now) targets.old.items (name_tree name.now) (sel_tree sel.now)
+        nodes.old.items)
+        result targets.new.items nodes.new.items }
+    ensures sound { OnOk result (IsSound mode.Value (scope_seen scope.now) nodes.new.items) }
+{
+    let place = name.first.id.place;
+    match name_read(alloc, scope, nodes, name)? {
+        Readable::Wrong | Readable::Genvar(_) => Err(ElabFault::Refused(DesignFault::N1, place)),
+        Readable::Unknown => Ok(false),
+        Readable::Parameter(_, _, _) => Err(ElabFault::Refused(DesignFault::N5, place)),
+        Readable::Vector(object, range) => {
+            if !is_variable_at(scope.objects, object) {
+                return Err(ElabFault::Refused(DesignFault::N5, place));
+            }
+            vector_target(alloc, scope, nodes, targets, place, object, range, sel)
+        }
+        Readable::Memory(object, range) => {
+            memory_target(alloc, scope, nodes, targets, place, object, range, sel)
+        }
+    }
+}
+
+// A part of a row of targets; whether it isn't passed over.
+fn bind_piece(
+    alloc: Global,
+    scope: &Scope,
+    nodes: &mut Vec<ExprNode>,
+    targets: &mut Vec<Selected>,
+    piece: &LvPart,
+) -> Result<bool, ElabFault>
+    requires sound { IsSound mode.Value (scope_seen scope.now) nodes.old.items }
+    requires unit { is_unit (scope_seen scope.now).precision (scope_seen scope.now).unit ≡ true }
+    ensures step { StepsOn
+        (piece_bound (scope_seen scope.now) targets.old.items (lv_part_tree piece.now) nodes.old.items)
+        result targets.new.items nodes.new.items }
+    ensures sound { OnOk result (IsSound mode.Value (scope_seen scope.now) nodes.new.items) }
+{
+    match piece {
+        LvPart::Open | LvPart::Close => Ok(true),
+        LvPart::Name(name, sel) => bind_name(alloc, scope, nodes, targets, name, sel),
+    }
+}
+
+// The targets of a row, from the left.
+fn bind_pieces(
+    alloc: Global,
+    scope: &Scope,
+    nodes: &mut Vec<ExprNode>,
+    pieces: &[LvPart],
+) -> Result<Option<Targets>, ElabFault>
+    requires sound { IsSound mode.Value (scope_seen scope.now) nodes.old.items }
+    requires unit { is_unit (scope_seen scope.now).precision (scope_seen scope.now).unit ≡ true }
+    ensures step { Steps
+        (pieces_bound (scope_seen scope.now) [] (map lv_part_tree pieces.now) nodes.old.items)
+        result nodes.new.items }
+    ensures sound { OnOk result (IsSound mode.Value (scope_seen scope.now) nodes.new.items) }
+{
+    let mut targets = Vec::new(alloc);
+    for piece in pieces {
+        if !bind_piece(alloc, scope, nodes, &mut targets, piece)? {
+            return Ok(None);
+        }
+    }
+    Ok(Some(Sequence::new(targets)))
+}
+
+/// How many digits some targets have, one above the greatest width where it is more.
+pub fn targets_width(objects: &[ObjectInfo], targets: &[Selected]) -> u32
+    ensures { result ≡ targets_width objects.now targets.now }
+{
+    targets.iter().fold(
+        0,
+        |sum, target| side_by_side(sum, selected_width(objects, target)),
+    )
+}
+
+// Together they have a width that a vector may have.
+fn in_width(
+    scope: &Scope,
+    place: Place,
+    targets: Option<Targets>,
+) -> Result<Option<Targets>, ElabFault>
+    ensures { Gives (in_width (scope_seen scope.now) place targets) result }
+{
+    let Some(targets) = targets else {
+        return Ok(None);
+    };
+    if !is_width(targets_width(scope.objects, targets.as_slice())) {
+        return Err(ElabFault::Refused(DesignFault::N3, place));
+    }
+    Ok(Some(targets))
+}
+
+/// The left side of an assignment, the highest part first (IEEE 1364-2005, 9.2): variables and words
+/// of memories, or digits of these. None where it needs a parameter that has no value. An error is
+/// the first fault, or want of memory.
+pub fn bind_targets(
+    alloc: Global,
+    scope: &Scope,
+    nodes: &mut Vec<ExprNode>,
+    lv: &Lv,
+) -> Result<Option<Targets>, ElabFault>
+    requires sound { IsSound mode.Value (scope_seen scope.now) nodes.old.items }
+    requires unit { is_unit (scope_seen scope.now).precision (scope_seen scope.now).unit ≡ true }
+    ensures step { Steps
+        (targets_bound (scope_seen scope.now) (lv_tree lv.now) nodes.old.items)
+        result nodes.new.items }
+    ensures sound { OnOk result (IsSound mode.Value (scope_seen scope.now) nodes.new.items) }
+{
+    let targets = bind_pieces(alloc, scope, nodes, lv.parts.as_slice())?;
+    in_width(scope, lv.place, targets)
+}
+
+// An output of a task: a target, or a concatenation of them, behind other targets; whether it isn't
+// passed over.
+#[cycle(output)]
+fn output_pieces(
+    alloc: Global,
+    scope: &Scope,
+    nodes: &mut Vec<ExprNode>,
+    targets: &mut Vec<Selected>,
+    e: &Expr,
+) -> Result<bool, ElabFault>
+    requires sound { IsSound mode.Value (scope_seen scope.now) nodes.old.items }
+    requires unit { is_unit (scope_seen scope.now).precision (scope_seen scope.now).unit ≡ true }
+    ensures step { StepsOn
+        (output_pieces (scope_seen scope.now) targets.old.items (expr_tree e.now) nodes.old.items)
+        result targets.new.items nodes.new.items }
+    ensures sound { OnOk result (IsSound mode.Value (scope_seen scope.now) nodes.new.items) }
+{
+    match &e.form {
+        ExprForm::Primary(primary) => match primary {
+            Primary::Name(name, sel) => bind_name(alloc, scope, nodes, targets, name, sel),
+            Primary::Concat(parts) => {
+                outputs_pieces(alloc, scope, nodes, targets, parts.as_slice())
+            }
+            Primary::Number(_)
+            | Primary::Text(_)
+            | Primary::Call(_, _)
+            | Primary::System(_, _)
+            | Primary::Paren(_)
+            | Primary::Repeat(_, _) => Err(ElabFault::Refused(DesignFault::N5, e.place)),
+        },
+        ExprForm::Unary(_, _) | ExprForm::Chain(_, _) | ExprForm::Choice { .. } => {
+            Err(ElabFault::Refused(DesignFault::N5, e.place))
+        }
+    }
+}
+
+// The parts of a concatenation that is an output.
+#[cycle(output)]
+fn outputs_pieces(
+    alloc: Global,
+    scope: &Scope,
+    nodes: &mut Vec<ExprNode>,
+    targets: &mut Vec<Selected>,
+    parts: &[Expr],
+) -> Result<bool, ElabFault>
+    requires sound { IsSound mode.Value (scope_seen scope.now) nodes.old.items }
+    requires unit { is_unit (scope_seen scope.now).precision (scope_seen scope.now).unit ≡ true }
+    ensures step { StepsOn
+        (outputs_pieces (scope_seen scope.now) targets.old.items (exprs (map expr_tree parts.now))
+        nodes.old.items)
+        result targets.new.items nodes.new.items }
+    ensures sound { OnOk result (IsSound mode.Value (scope_seen scope.now) nodes.new.items) }
+{
+    for part in parts {
+        if !output_pieces(alloc, scope, nodes, targets, part)? {
+            return Ok(false);
+        }
+    }
+    Ok(true)
+}
+
+/// What an output of a task assigns to, the highest part first (IEEE 1364-2005, 10.2.2).
+pub fn bind_output(
+    alloc: Global,
+    scope: &Scope,
+    nodes: &mut Vec<ExprNode>,
+    e: &Expr,
+) -> Result<Option<Targets>, ElabFault>
+    requires sound { IsSound mode.Value (scope_seen scope.now) nodes.old.items }
+    requires unit { is_unit (scope_seen scope.now).precision (scope_seen scope.now).unit ≡ true }
+    ensures step { Steps
+        (output_bound (scope_seen scope.now) (expr_tree e.now) nodes.old.items)
+        result nodes.new.items }
+    ensures sound { OnOk result (IsSound mode.Value (scope_seen scope.now) nodes.new.items) }
+{
+    let mut targets = Vec::new(alloc);
+    if !output_pieces(alloc, scope, nodes, &mut targets, e)? {
+        return Ok(None);
+    }
+    in_width(scope, e.place, Some(Sequence::new(targets)))
+}

@@ -1,0 +1,2 @@
+-- What a tree of the code is seen as, by its form
+pub mod ViewsLemmas

@@ -1,0 +1,6 @@
+-- Bound statements as plain trees, and how many labels they have
+pub mod Trees
+-- The flat code of a tree
+pub mod Laid
+-- How contracts see what the code holds
+pub mod Views
