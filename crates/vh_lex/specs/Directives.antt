@@ -12,7 +12,7 @@ use Rattle.vh_lex.specs.declared.conditional.Branch.TheVariants as branch
 use Rattle.vh_lex.specs.declared.directive.Directive.{Directive}
 use Rattle.vh_lex.specs.declared.directive.Directive.TheVariants as directive
 use Rattle.vh_lex.specs.Bytes.{begins, is_line_end, is_name_byte}
-use Rattle.vh_base.specs.Classes.{is_space, is_digit}
+use Rattle.vh_base.specs.Classes.{is_space, is_digit, is_name_start}
 use Rattle.vh_lex.specs.Front.{Named, name_of, is_long, comment_len}
 use Rattle.vh_lex.specs.Made.{macro_of, with_macro}
 use Rattle.vh_lex.specs.Conditionals.{innermost, with_innermost, without_innermost, skips}
@@ -54,6 +54,10 @@ directive_rows =
 -- the directive that a name behind a backquote is, if it is one
 abbrev pub directive_of : List ℕ → Option Directive
 directive_of name = option_map (λ row. row.1) (find (λ row. bytes_eq row.0 name) directive_rows)
+
+-- the directive that a name is with which these bytes behind a backquote begin; an escaped one is none (own; clause 19)
+abbrev pub directive_behind : List ℕ → List ℕ → Option Directive
+directive_behind bytes name = if begins is_name_start bytes then directive_of name else None
 
 -- a blank or a comment that has an end begins there, of so many bytes behind its first
 abbrev pub blank_by : Option ℕ → ℕ → Option ℕ

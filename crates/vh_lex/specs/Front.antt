@@ -33,9 +33,16 @@ pub record Named : Type 0 where
 abbrev pub escaped_name : ℕ → List ℕ → Option Named
 escaped_name len bytes = if nat_lt 0 len then Some (record { name = take len bytes; len = len + 1 }) else None
 
+abbrev pub simple_name : List ℕ → Named
+simple_name bytes = record { name = take (prefix_len is_name_byte bytes) bytes; len = prefix_len is_name_byte bytes }
+
+-- a name without a backslash, which alone can be a directive's word (own; 19)
+abbrev pub word_name : List ℕ → Option Named
+word_name bytes = if begins is_name_start bytes then Some (simple_name bytes) else None
+
 abbrev pub name_of : List ℕ → Option Named
 name_of bytes =
-    if begins is_name_start bytes then Some (record { name = take (prefix_len is_name_byte bytes) bytes; len = prefix_len is_name_byte bytes })
+    if begins is_name_start bytes then Some (simple_name bytes)
     else (if begins (λ b. nat_eq b 92) bytes then escaped_name (prefix_len is_graphic (drop 1 bytes)) (drop 1 bytes) else None)
 
 -- a name above 1,024 bytes is L6 (3.7; the limit own)

@@ -10,7 +10,7 @@ use Rattle.vh_lex.specs.declared.macro_text.Mode.TheVariants.{Plain, Quoted, Com
 use Rattle.vh_lex.specs.Bytes.{begins, begins_with, is_line_end, is_line_byte}
 use Rattle.vh_lex.specs.Front.{front}
 
--- what the bytes behind one stand in, and whether the next of them belongs to this one
+-- what the bytes behind one stand in, and whether the next of them belongs to this one (a line feed to a carriage return)
 pub record Turn : Type 0 where
   pub passes : Bool
   pub mode : Mode
@@ -18,9 +18,18 @@ pub record Turn : Type 0 where
 abbrev pub goes_on : Bool → Mode → Option Turn
 goes_on passes mode = Some (record { passes = passes; mode = mode })
 
+-- a line feed, alone or behind a carriage return (own; 19.3.1)
+abbrev pub ends_line : List ℕ → Bool
+ends_line bytes = begins is_line_end bytes || begins_with 13 10 bytes
+
 -- a backslash before the line's end, which continues the text (19.3.1)
 abbrev pub continues : ℕ → List ℕ → Bool
-continues byte bytes = nat_eq byte 92 && begins is_line_end bytes
+continues byte bytes = nat_eq byte 92 && ends_line bytes
+
+-- the bytes begin with such a backslash
+abbrev pub begins_continued : List ℕ → Bool
+begins_continued [] = false
+begins_continued (byte ∷ bytes) = continues byte bytes
 
 -- two bytes together
 abbrev pub is_pair : ℕ → ℕ → ℕ → List ℕ → Bool
@@ -39,7 +48,7 @@ abbrev pub quoted_turn : ℕ → List ℕ → Option Turn
 quoted_turn byte bytes =
     if is_line_end byte then None
     else (if continues byte bytes then goes_on true Plain
-    else (if nat_eq byte 92 then goes_on (not (begins_with 92 10 bytes)) Quoted
+    else (if nat_eq byte 92 then goes_on (not (begins_continued bytes)) Quoted
     else goes_on false (if nat_eq byte 34 then Plain else Quoted)))
 
 -- a byte of a comment
@@ -50,7 +59,7 @@ comment_turn byte bytes =
     else (if is_pair 42 47 byte bytes then goes_on true Plain else goes_on false Comment))
 
 abbrev pub turn : Bool → Mode → ℕ → List ℕ → Option Turn
-turn true mode byte bytes = goes_on false mode
+turn true mode byte bytes = goes_on (is_pair 13 10 byte bytes) mode
 turn false Plain byte bytes = plain_turn byte bytes
 turn false Quoted byte bytes = quoted_turn byte bytes
 turn false Comment byte bytes = comment_turn byte bytes

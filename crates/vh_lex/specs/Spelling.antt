@@ -12,11 +12,11 @@ use Rattle.vh_lex.specs.declared.piece.Piece.TheVariants as piece
 use Rattle.vh_lex.specs.declared.setting.Setting.{Setting}
 use Rattle.vh_lex.specs.declared.directive.Directive.{Directive}
 use Rattle.vh_lex.specs.Bytes.{begins, begins_with}
-use Rattle.vh_lex.specs.Front.{Named, name_of, comment_len, front}
+use Rattle.vh_lex.specs.Front.{Named, word_name, comment_len, front}
 use Rattle.vh_lex.specs.Made.{Macros, Made, macro_of}
 use Rattle.vh_lex.specs.Conditionals.{skips}
 use Rattle.vh_lex.specs.State.{State, moved}
-use Rattle.vh_lex.specs.Directives.{Step, directive_of, directed, seen_directive}
+use Rattle.vh_lex.specs.Directives.{Step, directive_of, directive_behind, directed, seen_directive}
 
 -- where a part stands: the macros and what the directives set, and the place that its tokens have
 pub record Around : Type 0 where
@@ -93,7 +93,7 @@ name_read None name len behind s = made_in s len (used (expanded most_levels (ar
 abbrev pub part_read : Part → ℕ → List ℕ → State → Step
 part_read (part.Token kind) len bytes s = made_in s len (with_token kind s.place s.made)
 part_read part.Module len bytes s = made_in s len (with_token (kind.Module s.setting) s.place s.made)
-part_read (part.Use name) len bytes s = name_read (directive_of name) name len (drop len bytes) s
+part_read (part.Use name) len bytes s = name_read (directive_behind (drop 1 bytes) name) name len (drop len bytes) s
 part_read (part.Wrong fault) len bytes s = Err (fault, 0)
 
 -- what the bytes of the source begin with
@@ -102,8 +102,8 @@ piece_read (piece.Blank len) bytes s = Ok (s, len)
 piece_read (piece.Kept p len) bytes s = part_read p len bytes s
 piece_read (piece.Fault fault at) bytes s = Err (fault, at)
 
--- what skipped bytes begin with: a comment, a directive of a conditional, or a byte or a name behind a backquote, of no
--- meaning (own; 19.4)
+-- what skipped bytes begin with: a comment, a directive of a conditional, or a byte or another word behind a backquote, of
+-- no meaning (own; 19.4)
 abbrev pub name_skipped : Option Directive → ℕ → List ℕ → State → Step
 name_skipped None at bytes s = Ok (s, at)
 name_skipped (Some d) at bytes s = seen_directive d at bytes s
@@ -116,7 +116,7 @@ abbrev pub comment_skipped : Option ℕ → List ℕ → State → Step
 comment_skipped (Some len) bytes s = Ok (s, len)
 comment_skipped None bytes s =
     if begins_with 47 42 bytes then Err (L5, 0)
-    else (if begins (λ b. nat_eq b 96) bytes then use_skipped (name_of (drop 1 bytes)) bytes s else Ok (s, 1))
+    else (if begins (λ b. nat_eq b 96) bytes then use_skipped (word_name (drop 1 bytes)) bytes s else Ok (s, 1))
 
 abbrev pub skipped : List ℕ → State → Step
 skipped bytes s = comment_skipped (comment_len bytes) bytes s

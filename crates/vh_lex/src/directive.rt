@@ -2,6 +2,7 @@ ghost use Rattle.std.specs.Prelude.{◌≡◌, is_some};
 ghost use Rattle.vh_lex.specs.Directives;
 
 use crate::table::spelled;
+use vh_base::is_name_start;
 
 /// A directive (IEEE 1364-2005, clause 19).
 #[derive(Clone, Copy, PartialEq, Eq)]
@@ -50,7 +51,21 @@ pub(crate) fn directive_of(name: &[u8]) -> Option<Directive>
     spelled(&DIRECTIVES, name)
 }
 
-/// Whether a name behind a backquote is that of a directive.
+/// The directive that a name is with which these bytes behind a backquote begin; an escaped one
+/// is none.
+pub(crate) fn directive_behind(bytes: &[u8], name: &[u8]) -> Option<Directive>
+    ensures { result ≡ Directives.directive_behind bytes.now name.now }
+{
+    let Some((first, _)) = bytes.split_first() else {
+        return None;
+    };
+    if is_name_start(*first) {
+        return directive_of(name);
+    }
+    None
+}
+
+/// Whether a name is the word of a directive.
 pub(crate) fn is_directive(name: &[u8]) -> bool
     ensures { result ≡ is_some (Directives.directive_of name.now) }
 {

@@ -63,7 +63,7 @@ fn turn(passes: bool, mode: Mode, first: u8, behind: &[u8]) -> Option<Next>
     ensures { option_map turn_seen result ≡ MacroTexts.turn passes mode first behind.now }
 {
     if passes {
-        return goes_on(false, mode);
+        return goes_on(is_pair(b'\r', b'\n', first, behind), mode);
     }
     match mode {
         Mode::Plain => plain_turn(first, behind),
@@ -83,7 +83,7 @@ fn plain_turn(first: u8, behind: &[u8]) -> Option<Next>
 {
     if first == b'\n' || is_pair(b'/', b'/', first, behind) {
         None
-    } else if is_pair(b'\\', b'\n', first, behind) {
+    } else if continues(first, behind) {
         goes_on(true, Mode::Plain)
     } else if is_pair(b'/', b'*', first, behind) {
         goes_on(true, Mode::Comment)
@@ -99,10 +99,10 @@ fn quoted_turn(first: u8, behind: &[u8]) -> Option<Next>
 {
     if first == b'\n' {
         None
-    } else if is_pair(b'\\', b'\n', first, behind) {
+    } else if continues(first, behind) {
         goes_on(true, Mode::Plain)
     } else if first == b'\\' {
-        goes_on(!begins_with(b'\\', b'\n', behind), Mode::Quoted)
+        goes_on(!begins_continued(behind), Mode::Quoted)
     } else if first == b'"' {
         goes_on(false, Mode::Plain)
     } else {
@@ -115,7 +115,7 @@ fn comment_turn(first: u8, behind: &[u8]) -> Option<Next>
 {
     if first == b'\n' {
         None
-    } else if is_pair(b'\\', b'\n', first, behind) {
+    } else if continues(first, behind) {
         goes_on(true, Mode::Comment)
     } else if is_pair(b'*', b'/', first, behind) {
         goes_on(true, Mode::Plain)
@@ -130,6 +130,23 @@ fn is_pair(first: u8, second: u8, byte: u8, behind: &[u8]) -> bool
     byte == first && begins(second, behind)
 }
 
+// Whether a byte is a backslash before a line end: a line feed, alone or behind a carriage return.
+fn continues(first: u8, behind: &[u8]) -> bool
+    ensures { result ≡ MacroTexts.continues first behind.now }
+{
+    first == b'\\' && (begins(b'\n', behind) || begins_with(b'\r', b'\n', behind))
+}
+
+// Whether the bytes begin with a backslash before a line end.
+fn begins_continued(bytes: &[u8]) -> bool
+    ensures { result ≡ MacroTexts.begins_continued bytes.now }
+{
+    match bytes.split_first() {
+        Some((first, behind)) => continues(*first, behind),
+        None => false,
+    }
+}
+
 // The bytes without each backslash that stands before a line end.
 fn joined_lines(alloc: Global, text: &[u8]) -> Result<Vec<u8>, NoMemory>
     ensures { IfOk result (λ joined. joined.items ≡ MacroTexts.joined_lines text.now) }
@@ -137,7 +154,7 @@ fn joined_lines(alloc: Global, text: &[u8]) -> Result<Vec<u8>, NoMemory>
     let mut joined = Vec::new(alloc);
     let mut rest = text;
     while let Some((first, behind)) = rest.split_first() {
-        if !is_pair(b'\\', b'\n', *first, behind) {
+        if !continues(*first, behind) {
             joined.push(*first)?;
         }
         rest = behind;

@@ -28,16 +28,38 @@ pub(crate) fn name_of(bytes: &[u8]) -> Option<Named<'_>>
         return None;
     };
     if is_name_start(*first) {
-        let len = run_len(Class::Name, bytes);
-        return Some(Named {
-            name: &bytes[..len],
-            len,
-        });
+        return Some(simple_name(bytes));
     }
     if *first == b'\\' {
         return escaped_name(after);
     }
     None
+}
+
+/// The name without a backslash with which the bytes begin, which alone can be a directive's word.
+pub(crate) fn word_name(bytes: &[u8]) -> Option<Named<'_>>
+    ensures value { option_map named_seen result ≡ Front.word_name bytes.now }
+    ensures inside { IfSome result (λ named. named.len ≤ length bytes.now) }
+{
+    let Some((first, _)) = bytes.split_first() else {
+        return None;
+    };
+    if is_name_start(*first) {
+        return Some(simple_name(bytes));
+    }
+    None
+}
+
+// The bytes with which a name can go on.
+fn simple_name(bytes: &[u8]) -> Named<'_>
+    ensures value { named_seen result ≡ Front.simple_name bytes.now }
+    ensures inside { result.len ≤ length bytes.now }
+{
+    let len = run_len(Class::Name, bytes);
+    Named {
+        name: &bytes[..len],
+        len,
+    }
 }
 
 // The escaped name whose bytes behind the backslash these are.

@@ -8,13 +8,13 @@ ghost use Rattle.vh_lex.specs.Spelling;
 use crate::bytes::{after, begins, begins_with, upto};
 use crate::conditional::Conditionals;
 use crate::directed::first_setting;
-use crate::directive::directive_of;
+use crate::directive::{Directive, directive_behind, directive_of};
 use crate::expand::{Around, expand};
 use crate::fault::{Halt, LexFault, Stop};
 use crate::front::{comment_len, front};
 use crate::macros::Macros;
 use crate::made::Output;
-use crate::name::name_of;
+use crate::name::word_name;
 use crate::piece::{Part, Piece};
 use crate::place::moved;
 use crate::setting::Setting;
@@ -101,7 +101,10 @@ impl Reader {
         match part {
             Part::Token(kind) => made(len, self.made.push(kind, self.place)),
             Part::Module => made(len, self.made.push(Kind::Module(self.setting), self.place)),
-            Part::Use(name) => self.name_read(alloc, name.as_slice(), len, after(len, bytes)),
+            Part::Use(name) => {
+                let directive = directive_behind(after(1, bytes), name.as_slice());
+                self.name_read(alloc, directive, name.as_slice(), len, after(len, bytes))
+            }
             Part::Wrong(fault) => Err(Stop::Fault(fault, 0)),
         }
     }
@@ -110,14 +113,15 @@ impl Reader {
     fn name_read(
         &mut self,
         alloc: Global,
+        directive: Option<Directive>,
         name: &[u8],
         len: usize,
         behind: &[u8],
     ) -> Result<usize, Stop>
         requires { len + length behind.now ≤ usize.MAX }
-        ensures { Went (Spelling.name_read (Directives.directive_of name.now) name.now len behind.now self.old) result self.new }
+        ensures { Went (Spelling.name_read directive name.now len behind.now self.old) result self.new }
     {
-        match directive_of(name) {
+        match directive {
             Some(directive) => self.directed(alloc, directive, len, behind),
             None => made(len, self.used(alloc, name)),
         }
@@ -157,9 +161,9 @@ impl Reader {
     // A name behind a backquote in skipped text.
     fn use_skipped(&mut self, bytes: &[u8]) -> Result<usize, Stop>
         requires { 1 ≤ length bytes.now }
-        ensures { Went (Spelling.use_skipped (Front.name_of (drop 1 bytes.now)) bytes.now self.old) result self.new }
+        ensures { Went (Spelling.use_skipped (Front.word_name (drop 1 bytes.now)) bytes.now self.old) result self.new }
     {
-        let Some(named) = name_of(after(1, bytes)) else {
+        let Some(named) = word_name(after(1, bytes)) else {
             return Ok(1);
         };
         let at = named.len + 1;

@@ -120,7 +120,7 @@ fn check(rt: &impl Abort, alloc: Global, files: &[&[u8]], line: &str) -> Result<
 }
 
 // Texts with their tokens.
-static READ: [(&[u8], &str); 64] = [
+static READ: [(&[u8], &str); 66] = [
     (b"", ""),
     (b" \t\n\x0c\r\n ", ""),
     (b"a//b\nc", "1:1 a 2:1 c"),
@@ -199,6 +199,7 @@ static READ: [(&[u8], &str); 64] = [
     (b"`define A /* c */ 3\n`undef A\n`ifdef A x `endif", ""),
     (b"`define /* c */ A 3\n`A", "2:1 32~3"),
     (b"`define A \\\n x\n`A", "3:1 x"),
+    (b"`define A x \\\r\n y\r\n`A", "3:1 x 3:1 y"),
     // Conditionals.
     (b"`ifdef A\n x `else y `endif", "2:10 y"),
     (b"`ifndef A\n x `else y `endif", "2:2 x"),
@@ -219,7 +220,8 @@ static READ: [(&[u8], &str); 64] = [
         "2:31 z",
     ),
     (b"`ifdef /* c */\n A `endif x", "2:11 x"),
-    (b"`ifdef A `\\b//c `endif x", "1:24 x"),
+    (b"`ifdef A `\\b//c `endif x\n`endif y", "2:8 y"),
+    (b"`ifdef A `\\endif `endif x", "1:25 x"),
     // Settings.
     (
         b"`timescale 1 ns // c\n/ 10ps module",
@@ -250,7 +252,7 @@ fn texts(rt: HostRuntime) -> Result<(), Fail> {
 }
 
 // Texts with their faults.
-static REFUSED: [(&[u8], &str); 75] = [
+static REFUSED: [(&[u8], &str); 78] = [
     (b"/* a", "L5 1:1"),
     (b"a /* b\n * /", "L5 1:3"),
     (b"/*/", "L5 1:1"),
@@ -293,6 +295,10 @@ static REFUSED: [(&[u8], &str); 75] = [
     (b"a ` b", "L1 1:3"),
     (b"`1", "L1 1:1"),
     (b"x `FOO", "L3 1:3"),
+    (b"x `\\endif ", "L3 1:3"),
+    (b"`ifdef A `\\b//c `endif x", "L2 1:1"),
+    (b"`define A \"x\\\r\ny\"\n`A", "L5 3:1"),
+    (b"`define A \"\\\r\" \\\r\n y\n`A", "L5 3:1"),
     (b"`define M(x) x", "L3 1:1"),
     (b"`define A `A\n`A", "L3 2:1"),
     (b"`define A `else\n x `A", "L3 2:4"),
@@ -303,7 +309,6 @@ static REFUSED: [(&[u8], &str); 75] = [
     (b"`define M /* x\ny `M", "L5 2:3"),
     (b"`define M \"a\\\nb\"\n`M", "L5 3:1"),
     (b"`define M \"a\n`M", "L5 2:1"),
-    (b"`define A x \\\r\n `A", "L1 2:2"),
     (b"`define A 8'hg 'q\n `A", "L4 2:2"),
     (b"`else", "L2 1:1"),
     (b" `endif", "L2 1:2"),
