@@ -5,7 +5,7 @@ use Rattle.std.specs.Map.{lookup, set_value}
 use Rattle.std.specs.Option.{option_and_then}
 use Rattle.indexmap.specs.IndexMap.{insert_entry}
 use Rattle.vh_scope.specs.declared.names.Meaning.{Meaning}
-use Rattle.vh_scope.specs.Names.{Table, Names, named, meaning_in, with_name, declared}
+use Rattle.vh_scope.specs.Names.{Table, Names, named, meaning_in, with_name, declared, with_meaning, declared_anew}
 use Rattle.vh_scope.specs.Views.{table_seen}
 
 -- A look-up by bytes is one among the names as they are seen.
@@ -69,3 +69,49 @@ not_named scope name ns t absent at =
 pub declared-new : (scope : ℕ) (name : List ℕ) (m : Meaning) (ns : Names)
     → is_some (meaning_in ns scope name) ≡ false → declared scope name m ns ≡ with_name scope (name, m) ns
 declared-new scope name m ns absent = rw absent refl
+
+-- Another meaning for a name: among the rows as the code holds them, and where no row has it.
+pub set_seen : {A : Type 0} (name : List ℕ) (m : Meaning) (rows : List (Vec ℕ A × Meaning))
+    → table_seen (set_value (λ k. bytes_eq name k.items) rows m) ≡ with_meaning name m (table_seen rows)
+set_seen name m [] = refl
+set_seen {A} name m (e ∷ es) = at_first (bytes_eq name e.0.items) (set_seen name m es)
+  where
+    at_first : (b : Bool) → table_seen (set_value (λ k. bytes_eq name k.items) es m) ≡ with_meaning name m (table_seen es)
+        → table_seen (cond b ((e.0, m) ∷ es) (e ∷ set_value (λ k. bytes_eq name k.items) es m))
+        ≡ cond b ((e.0.items, m) ∷ table_seen es) ((e.0.items, e.1) ∷ with_meaning name m (table_seen es))
+    at_first true rest = refl
+    at_first false rest = ap (λ rows. (e.0.items, e.1) ∷ rows) rest
+
+pub set_none : (name : List ℕ) (m : Meaning) (t : Table) → named name t ≡ None → with_meaning name m t ≡ t
+set_none name m [] h = refl
+set_none name m (d ∷ t) h = at_first (bytes_eq name d.0) h (set_none name m t)
+  where
+    at_first : (b : Bool) → cond b (Some d.1) (named name t) ≡ None → (named name t ≡ None → with_meaning name m t ≡ t)
+        → cond b ((d.0, m) ∷ t) (d ∷ with_meaning name m t) ≡ d ∷ t
+    at_first true is rest = absurd (cc)
+    at_first false is rest = ap (λ (rows : Table). d ∷ rows) (rest is)
+
+-- The same of a scope among the scopes.
+pub anew-there : (scope : ℕ) (name : List ℕ) (m : Meaning) (ns : Names) (t : Table)
+    → lookup (λ s. scope == s) ns ≡ Some t
+    → set_value (λ s. scope == s) ns (with_meaning name m t) ≡ declared_anew scope name m ns
+anew-there scope name m [] t h = absurd (cc)
+anew-there scope name m (s ∷ ns) t h = at_first (scope == s.0) h (anew-there scope name m ns t)
+  where
+    at_first : (b : Bool) → cond b (Some s.1) (lookup (λ n. scope == n) ns) ≡ Some t
+        → (lookup (λ n. scope == n) ns ≡ Some t → set_value (λ n. scope == n) ns (with_meaning name m t) ≡ declared_anew scope name m ns)
+        → cond b ((s.0, with_meaning name m t) ∷ ns) (s ∷ set_value (λ n. scope == n) ns (with_meaning name m t))
+        ≡ cond b ((s.0, with_meaning name m s.1) ∷ ns) (s ∷ declared_anew scope name m ns)
+    at_first true is rest = let same : s.1 ≡ t = cc in ap (λ (u : Table). (s.0, with_meaning name m u) ∷ ns) (sym same)
+    at_first false is rest = ap (λ (rows : Names). s ∷ rows) (rest is)
+
+pub anew-none : (scope : ℕ) (name : List ℕ) (m : Meaning) (ns : Names)
+    → lookup (λ s. scope == s) ns ≡ None → declared_anew scope name m ns ≡ ns
+anew-none scope name m [] h = refl
+anew-none scope name m (s ∷ ns) h = at_first (scope == s.0) h (anew-none scope name m ns)
+  where
+    at_first : (b : Bool) → cond b (Some s.1) (lookup (λ n. scope == n) ns) ≡ None
+        → (lookup (λ n. scope == n) ns ≡ None → declared_anew scope name m ns ≡ ns)
+        → cond b ((s.0, with_meaning name m s.1) ∷ ns) (s ∷ declared_anew scope name m ns) ≡ s ∷ ns
+    at_first true is rest = absurd (cc)
+    at_first false is rest = ap (λ (rows : Names). s ∷ rows) (rest is)

@@ -25,6 +25,17 @@ abbrev pub with_name : ℕ → List ℕ × Meaning → Names → Names
 with_name scope d [] = (scope, d ∷ []) ∷ []
 with_name scope d (s ∷ ns) = if scope == s.0 then (s.0, s.1 ++ d ∷ []) ∷ ns else s ∷ with_name scope d ns
 
+-- Another meaning for a name of a scope.
+abbrev pub with_meaning : List ℕ → Meaning → Table → Table
+with_meaning name meaning [] = []
+with_meaning name meaning (d ∷ t) = if bytes_eq name d.0 then (d.0, meaning) ∷ t else d ∷ with_meaning name meaning t
+
+-- What a declared name stands for is said anew: all else stays.
+abbrev pub declared_anew : ℕ → List ℕ → Meaning → Names → Names
+declared_anew scope name meaning [] = []
+declared_anew scope name meaning (s ∷ ns) =
+    if scope == s.0 then (s.0, with_meaning name meaning s.1) ∷ ns else s ∷ declared_anew scope name meaning ns
+
 -- A name is declared in a scope: the first declaration of a name stays.
 abbrev pub declared : ℕ → List ℕ → Meaning → Names → Names
 declared scope name meaning ns =

@@ -1,5 +1,5 @@
 ghost use Rattle.std.specs.Prelude.{◌≡◌, [], IfOk, OnErr, not, is_some};
-ghost use Rattle.vh_scope.specs.Names.{meaning_in, declared};
+ghost use Rattle.vh_scope.specs.Names.{meaning_in, declared, declared_anew};
 
 use crate::table::Table;
 use indexmap::IndexMap;
@@ -77,5 +77,14 @@ impl Names {
             }
         }
         Ok(true)
+    }
+
+    /// Says anew what a declared name stands for; where it isn't declared in the scope, nothing changes.
+    pub fn declare_anew(&mut self, scope: ObjId, name: &[u8], meaning: Meaning)
+        ensures { self.new ≡ declared_anew scope name.now meaning self.old }
+    {
+        if let Some(table) = self.scopes.get_mut(&scope.number()) {
+            table.set(name, meaning);
+        }
     }
 }

@@ -1,5 +1,5 @@
 ghost use Rattle.std.specs.Prelude.{◌≡◌, ◌++◌, ◌∷◌, [], None, IfOk, OnOk, OnErr};
-ghost use Rattle.vh_scope.specs.Names.{named};
+ghost use Rattle.vh_scope.specs.Names.{named, with_meaning};
 
 use crate::names::Meaning;
 use indexmap::IndexMap;
@@ -39,6 +39,15 @@ impl Table {
         ensures { result ≡ named name.now self.now }
     {
         self.names.get(name).copied()
+    }
+
+    // Another meaning for a name, where it is there.
+    pub(crate) fn set(&mut self, name: &[u8], meaning: Meaning)
+        ensures { self.new ≡ with_meaning name.now meaning self.old }
+    {
+        if let Some(place) = self.names.get_mut(name) {
+            *place = meaning;
+        }
     }
 
     // One name more.

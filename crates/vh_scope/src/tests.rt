@@ -105,6 +105,18 @@ fn the_first_declaration_stays(rt: HostRuntime) -> Result<(), Fail> {
 }
 
 #[test]
+fn a_declaration_is_made_anew(rt: HostRuntime) -> Result<(), Fail> {
+    let alloc = rt.alloc();
+    let mut names = names(alloc)?;
+    names.declare_anew(ObjId::new(TOP), b"data", object(INNER));
+    names.declare_anew(ObjId::new(TOP), b"nothing", object(INNER));
+    assert!(rt; names.meaning(ObjId::new(TOP), b"data") == Some(object(INNER)));
+    assert!(rt; names.meaning(ObjId::new(TOP), b"i") == Some(Meaning::Genvar));
+    assert!(rt; names.meaning(ObjId::new(TOP), b"nothing").is_none());
+    Ok(())
+}
+
+#[test]
 fn paths_go_through_scopes(rt: HostRuntime) -> Result<(), Fail> {
     let alloc = rt.alloc();
     let names = names(alloc)?;
