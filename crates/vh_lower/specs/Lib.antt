@@ -1,0 +1,10 @@
+-- Why the code of a statement isn't made
+pub mod Faults
+-- What becomes of a design so far, step by step
+pub mod Making
+-- The labels of a statement, and the turns of its loops
+pub mod Labels
+-- What each statement is lowered to, a row for each
+pub mod Statements
+-- How contracts see what the code holds
+pub mod Views

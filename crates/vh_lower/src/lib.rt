@@ -1,0 +1,30 @@
+//! Statements to flat code, or their first fault (IEEE 1364-2005, clauses 9, 10 and 17).
+//!
+//! The contract that the layer above uses: [`lower`] answers the code of a statement that
+//! `specs/Statements.antt` gives, a row for each statement, and adds to a design what it needs
+//! ([`Added`]); or it answers the first fault in the order of the text.
+//!
+//! It stands on `vh_bind_stmt` for the parts of statements, and on `vh_flow` for the code of a bound
+//! statement.
+#![tactic(auto)]
+
+mod added;
+mod assignments;
+mod blocks;
+mod cases;
+mod events;
+mod fault;
+mod fronts;
+mod heads;
+mod labels;
+mod loops;
+mod making;
+mod objects;
+mod simple;
+mod stmt;
+mod systems;
+mod tasks;
+
+pub use added::Added;
+pub use fault::LowerFault;
+pub use stmt::lower;
