@@ -451,6 +451,15 @@ abbrev pub inside_of : Surroundings → Option ℕ → Surroundings
 inside_of w None = w
 inside_of w (Some o) = inside w o
 
+-- A block with its statements, which stand in its own scope where it has a name. (9.8)
+abbrev pub block_of_row : BlockWord → ℕ → Option ℕ → List FlowTree → FlowTree
+block_of_row word n o fs = named_block o (joined word n fs)
+
+abbrev pub block_flow : Surroundings → Place → BlockWord → Option Id → (Surroundings → Making (List FlowTree)) → Making FlowTree
+block_flow w place word id all =
+    block_number word w place >>= (λ n. block_scope w id >>= (λ o. all (inside_of w o) >>= (λ fs.
+    pure (block_of_row word n o fs))))
+
 -- What an event control other than `@*` waits for. (9.7.2 to 9.7.4)
 abbrev pub listed_terms : Scope → EventTree → Outcome (Option (List Term))
 listed_terms s any_event = Ok (Some [])
@@ -539,9 +548,7 @@ abbrev mutual
       headed (loop_kind word) w place e >>= (λ h. stmt_flow w body >>= (λ f. pure (loop_flow word h f)))
   form_flow w place (forever_stmt body) =
       numbered a.Forever w place >>= (λ n. stmt_flow w body >>= (λ f. pure (forever_flow n f)))
-  form_flow w place (block_stmt word id decls all) =
-      block_number word w place >>= (λ n. block_scope w id >>= (λ o. stmts_flow (inside_of w o) [] all >>= (λ fs.
-      pure (named_block o (joined word n fs)))))
+  form_flow w place (block_stmt word id decls all) = block_flow w place word id (λ u. stmts_flow u [] all)
 
   -- The branch that stands behind an `else`.
   pub else_flow : Surroundings → ElseTree → Making FlowTree

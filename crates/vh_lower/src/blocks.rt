@@ -3,7 +3,7 @@ ghost use Rattle.vh_bind.specs.Steps.{Gives};
 ghost use Rattle.vh_flow.specs.Views.{flow_tree};
 ghost use Rattle.vh_bind_stmt.specs.Views.{surroundings_seen};
 ghost use Rattle.vh_lower.specs.Making.{Makes};
-ghost use Rattle.vh_lower.specs.Statements.{block_number, block_of, block_named, block_scope, joined, named_block};
+ghost use Rattle.vh_lower.specs.Statements.{block_number, block_of, block_of_row, block_named, block_scope, joined, named_block};
 ghost use Rattle.vh_lower.specs.Views.{added_seen, flows_seen};
 
 use crate::added::Added;
@@ -81,8 +81,8 @@ pub(crate) fn block_scope(
     }
 }
 
-/// Statements of a block.
-pub(crate) fn joined(word: BlockWord, number: u32, row: Items<Flow>) -> Result<Flow, NoMemory>
+// Statements of a block.
+fn joined(word: BlockWord, number: u32, row: Items<Flow>) -> Result<Flow, NoMemory>
     ensures { IfOk result (λ f. flow_tree f ≡ joined word number (flows_seen row)) }
 {
     match word {
@@ -100,12 +100,8 @@ pub(crate) fn joined(word: BlockWord, number: u32, row: Items<Flow>) -> Result<F
     }
 }
 
-/// They, in a block of this name.
-pub(crate) fn named_block(
-    alloc: Global,
-    object: Option<ObjId>,
-    body: Flow,
-) -> Result<Flow, NoMemory>
+// They, in a block of this name.
+fn named_block(alloc: Global, object: Option<ObjId>, body: Flow) -> Result<Flow, NoMemory>
     ensures { IfOk result (λ f. flow_tree f ≡ named_block object (flow_tree body)) }
 {
     match object {
@@ -115,4 +111,18 @@ pub(crate) fn named_block(
             Flow::new(FlowForm::Block { object, body })
         }
     }
+}
+
+/// A block with its statements.
+pub(crate) fn block_of_row(
+    alloc: Global,
+    word: BlockWord,
+    number: u32,
+    object: Option<ObjId>,
+    row: Items<Flow>,
+) -> Result<Flow, NoMemory>
+    ensures { IfOk result (λ f. flow_tree f ≡ block_of_row word number object (flows_seen row)) }
+{
+    let body = joined(word, number, row)?;
+    named_block(alloc, object, body)
 }

@@ -2,17 +2,17 @@ ghost use Rattle.std.specs.Prelude.{◌≡◌, [], ◌∷◌, ◌++◌, map, tru
 ghost use Rattle.std.specs.Option.{option_map};
 ghost use Rattle.vh_nodes.specs.Fits.{is_unit};
 ghost use Rattle.vh_ast.specs.Statements;
-ghost use Rattle.vh_ast.specs.Views.{citem_tree, else_tree, event_tree, stmt_tree};
+ghost use Rattle.vh_ast.specs.Views.{citem_tree, event_tree, stmt_tree};
 ghost use Rattle.vh_bind.specs.declared.scope.Mode.TheVariants as mode;
 ghost use Rattle.vh_bind.specs.Nodes.{IsSound};
 ghost use Rattle.vh_bind_stmt.specs.Views.{surroundings_seen};
 ghost use Rattle.vh_flow.specs.Views.{flow_tree};
 ghost use Rattle.vh_lower.specs.Making.{Makes};
-ghost use Rattle.vh_lower.specs.Statements.{behind_front, else_flow, event_flow, inside, item_flow, items_flow, lowered, stmt_flow, stmts_flow};
+ghost use Rattle.vh_lower.specs.Statements.{behind_front, block_flow, event_flow, inside, inside_of, item_flow, items_flow, lowered, stmt_flow, stmts_flow};
 ghost use Rattle.vh_lower.specs.Views.{added_seen, cases_seen, flows_seen, MakesCases, MakesTo};
 
 use crate::added::Added;
-use crate::blocks::{block_number, block_scope, joined, named_block};
+use crate::blocks::{block_number, block_of_row, block_scope};
 use crate::cases::{Cases, case_flow, no_cases, values_of, with_default, with_item};
 use crate::events::event_front;
 use crate::fault::LowerFault;
@@ -24,7 +24,7 @@ use crate::making::{numbered, reading_from};
 use crate::simple::{one_pause, simple_flow};
 use sqlite_items::Items;
 use std::alloc::Global;
-use vh_ast::{Citem, Event, Labels, LoopWord, Stmt, StmtForm};
+use vh_ast::{BlockWord, Citem, Event, Id, Labels, LoopWord, Stmt, StmtForm};
 use vh_base::{NoMemory, ObjId, Place};
 use vh_bind::Scope;
 use vh_bind_stmt::Surroundings;
@@ -137,16 +137,7 @@ fn lower_stmt(
             id,
             stmts,
             ..
-        } => {
-            let number = block_number(added, *word, around, place)?;
-            let object = block_scope(around, added, id)?;
-            let row = match object {
-                None => lower_row(alloc, around, added, stmts.as_slice())?,
-                Some(object) => lower_inside(alloc, around, added, object, stmts.as_slice())?,
-            };
-            let body = joined(*word, number, row)?;
-            Ok(named_block(alloc, object, body)?)
-        }
+        } => lower_block(alloc, around, added, place, *word, id, stmts.as_slice()),
     }
 }
 
@@ -205,6 +196,56 @@ fn lower_row(
         add_flow(&mut row, flow)?;
     }
     Ok(row)
+}
+
+// A block with its statements.
+#[cycle(lower)]
+fn lower_block(
+    alloc: Global,
+    around: &Surroundings,
+    added: &mut Added,
+    place: Place,
+    word: BlockWord,
+    id: &Option<Id>,
+    stmts: &[Stmt],
+) -> Result<Flow, LowerFault>
+    requires sound { IsSound mode.Value (surroundings_seen around.now).scope (added_seen added.old).exprs }
+    requires unit { is_unit (surroundings_seen around.now).scope.precision
+        (surroundings_seen around.now).scope.unit ≡ true }
+    ensures made { MakesTo flow_tree
+        (block_flow (surroundings_seen around.now) place word id.now (λ u. stmts_flow u [] (Statements.stmts (map stmt_tree stmts.now))) (added_seen added.old))
+        result (added_seen added.new) }
+    ensures sound { OnOk result
+        (IsSound mode.Value (surroundings_seen around.now).scope (added_seen added.new).exprs) }
+{
+    let number = block_number(added, word, around, place)?;
+    let object = block_scope(around, added, id)?;
+    let row = lower_scoped(alloc, around, added, object, stmts)?;
+    Ok(block_of_row(alloc, word, number, object, row)?)
+}
+
+// Its statements, which stand in its own scope where it has a name.
+#[cycle(lower)]
+fn lower_scoped(
+    alloc: Global,
+    around: &Surroundings,
+    added: &mut Added,
+    object: Option<ObjId>,
+    stmts: &[Stmt],
+) -> Result<Items<Flow>, LowerFault>
+    requires sound { IsSound mode.Value (surroundings_seen around.now).scope (added_seen added.old).exprs }
+    requires unit { is_unit (surroundings_seen around.now).scope.precision
+        (surroundings_seen around.now).scope.unit ≡ true }
+    ensures made { MakesTo flows_seen
+        (stmts_flow (inside_of (surroundings_seen around.now) object) [] (Statements.stmts (map stmt_tree stmts.now)) (added_seen added.old))
+        result (added_seen added.new) }
+    ensures sound { OnOk result
+        (IsSound mode.Value (surroundings_seen around.now).scope (added_seen added.new).exprs) }
+{
+    match object {
+        None => lower_row(alloc, around, added, stmts),
+        Some(object) => lower_inside(alloc, around, added, object, stmts),
+    }
 }
 
 // The same inside of a named block.
