@@ -4,7 +4,7 @@ use Rattle.std.proofs.Common.{ap, sym, ◌∙◌}
 use Rattle.vh_flow.specs.declared.flow.FlowForm.{FlowForm}
 use Rattle.vh_flow.specs.declared.flow.FlowForm.TheVariants as form
 use Rattle.vh_flow.specs.declared.flow.Flow.{Flow, roll-Flow, out-Flow, fold-roll-Flow, fold_out-Flow}
-use Rattle.vh_flow.specs.Trees.{FlowTree, flow, case_of, case_items}
+use Rattle.vh_flow.specs.Trees.{flow, case_of, case_items}
 use Rattle.vh_flow.specs.Views.{flow_tree, form_tree}
 
 -- what is made of each of a list twice is made of it at once

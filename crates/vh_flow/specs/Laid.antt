@@ -152,3 +152,7 @@ abbrev pub code_of : CodeKind → FlowTree → Code
 code_of of.Initial f = code_from (goes.To 0) (with_instruction end_of (laid f (goes.To (size_of f)) None empty))
 code_of of.Always f = code_from (goes.To 0) (laid f (goes.To 0) None (with_instruction (turn_of (size_of f)) empty))
 code_of of.Body f = code_from (start_at 0 (size_of f) goes.Back) (laid f goes.Back None empty)
+code_of of.Value f = code_from (start_at 0 (size_of f) goes.Back) (laid f goes.Back None empty)
+code_of of.Assign f =
+    let again = start_at 0 (size_of f) goes.Back in
+    code_from again (laid f again None empty)

@@ -2,5 +2,7 @@
 pub mod Trees
 -- The flat code of a tree
 pub mod Laid
+-- At which places a code goes on
+pub mod Places
 -- How contracts see what the code holds
 pub mod Views

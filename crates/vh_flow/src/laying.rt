@@ -34,9 +34,14 @@ pub fn code_of(alloc: Global, kind: CodeKind, flow: &Flow) -> Result<Code, NoMem
             lay(alloc, &mut so, Goes::To(0), None, flow)?;
             Ok(code_from(Goes::To(0), so))
         }
-        CodeKind::Body => {
+        CodeKind::Body | CodeKind::Value => {
             lay(alloc, &mut so, Goes::Back, None, flow)?;
             Ok(code_from(start_at(0, size, Goes::Back), so))
+        }
+        CodeKind::Assign => {
+            let again = start_at(0, size, Goes::Back);
+            lay(alloc, &mut so, again, None, flow)?;
+            Ok(code_from(again, so))
         }
     }
 }

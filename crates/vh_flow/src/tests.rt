@@ -181,6 +181,18 @@ fn rows_go_on_at_the_next_label(rt: HostRuntime) -> Result<(), Fail> {
 }
 
 #[test]
+fn values_and_assignments(rt: HostRuntime) -> Result<(), Fail> {
+    let alloc = rt.alloc();
+    let two = pair(alloc, label(1)?, label(2)?)?;
+    let text = code(alloc, CodeKind::Value, two)?;
+    assert_eq!(rt; text.as_str(), "0 s>1 s>b");
+    let two = pair(alloc, label(1)?, label(2)?)?;
+    let text = code(alloc, CodeKind::Assign, two)?;
+    assert_eq!(rt; text.as_str(), "0 s>1 s>0");
+    Ok(())
+}
+
+#[test]
 fn an_if(rt: HostRuntime) -> Result<(), Fail> {
     let alloc = rt.alloc();
     let both = choice(alloc, test(7), label(1)?, label(2)?)?;
