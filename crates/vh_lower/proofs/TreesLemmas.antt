@@ -1,15 +1,18 @@
--- What a statement of the code is seen as, where it is a `case`.
-use Rattle.std.proofs.Common.{◌≡◌, ◌∙◌, List, sym, ap}
+-- What a statement of the code is seen as, where it is a `case` or a block.
+use Rattle.std.proofs.Common.{◌≡◌, ◌∙◌, List, Option, sym, ap}
 use Rattle.std.specs.Prelude.{map}
 use Rattle.vh_base.specs.declared.place.Place.{Place}
 use Rattle.vh_ast.specs.declared.expr.Expr.{Expr}
+use Rattle.vh_ast.specs.declared.declared.Decl.{Decl}
+use Rattle.vh_ast.specs.declared.stmt.BlockWord.{BlockWord}
 use Rattle.vh_ast.specs.declared.stmt.CaseWord.{CaseWord}
 use Rattle.vh_ast.specs.declared.stmt.Citem.{Citem}
 use Rattle.vh_ast.specs.declared.stmt.StmtForm.{StmtForm}
 use Rattle.vh_ast.specs.declared.stmt.StmtForm.TheVariants as form
 use Rattle.vh_ast.specs.declared.stmt.Stmt.{Stmt, roll-Stmt, out-Stmt, fold-roll-Stmt, fold_out-Stmt}
-use Rattle.vh_ast.specs.Statements.{stmt, case_stmt, citems}
-use Rattle.vh_ast.specs.Views.{expr_tree, stmt_tree, citem_tree}
+use Rattle.vh_ast.specs.declared.token.Id.{Id}
+use Rattle.vh_ast.specs.Statements.{stmt, case_stmt, citems, block_stmt, stmts}
+use Rattle.vh_ast.specs.Views.{decl_tree, expr_tree, stmt_tree, citem_tree}
 use Rattle.vh_ast.proofs.ViewsLemmas.{stmt_tree-Case}
 
 abbrev at_place : Place → StmtForm Stmt → Stmt
@@ -24,3 +27,7 @@ made_of s f is =
 pub tree-Case : (s : Stmt) (word : CaseWord) (value : Expr) (all : List (Citem Stmt)) → (out-Stmt s).form ≡ form.Case word value all
     → stmt_tree s ≡ stmt (out-Stmt s).place (case_stmt word (expr_tree value) (citems (map citem_tree all)))
 tree-Case s word value all is = made_of s _ is ∙ stmt_tree-Case (out-Stmt s).place word value all
+
+pub tree-Block : (s : Stmt) (word : BlockWord) (id : Option Id) (decls : List Decl) (all : List Stmt) → (out-Stmt s).form ≡ form.Block word id decls all
+    → stmt_tree s ≡ stmt (out-Stmt s).place (block_stmt word id (map decl_tree decls) (stmts (map stmt_tree all)))
+tree-Block s word id decls all is = made_of s _ is ∙ fold-roll-Stmt _ _ _

@@ -1,6 +1,6 @@
 -- The labels of a statement, and the turns of its loops. (IEEE 1364-2005, clause 9; own: a test behind the body of a loop
 -- stands there once more, since it begins no execution of the loop)
-use Rattle.std.specs.Prelude.{ℕ, List, [], ◌∷◌, ◌++◌, map, Bool, true, false, Option, Some, None}
+use Rattle.std.specs.Prelude.{ℕ, List, [], ◌∷◌, ◌++◌, map, Bool, true, false, Some}
 use Rattle.vh_nodes.specs.declared.expr.Selected.{Selected}
 use Rattle.vh_nodes.specs.declared.object.ObjectInfo.{ObjectInfo}
 use Rattle.vh_code.specs.declared.operation.Operation.{Operation}

@@ -6,5 +6,7 @@ pub mod Making
 pub mod Labels
 -- What each statement is lowered to, a row for each
 pub mod Statements
+-- The codes of declared initial values and of continuous assignments
+pub mod Processes
 -- How contracts see what the code holds
 pub mod Views

@@ -10,7 +10,6 @@ use Rattle.vh_code.specs.declared.statement.StmtKind.{StmtKind}
 use Rattle.vh_code.specs.declared.wait.Term.{Term}
 use Rattle.vh_code.specs.declared.wait.WaitInfo.{WaitInfo}
 use Rattle.vh_bind.specs.Steps.{Fault, Nodes, Step}
-use Rattle.vh_bind.specs.Scopes.{Scope}
 use Rattle.vh_bind_stmt.specs.Calls.{Surroundings, calls_of, reads_of}
 use Rattle.vh_lower.specs.declared.fault.LowerFault.{LowerFault}
 use Rattle.vh_lower.specs.declared.fault.LowerFault.TheVariants as faults

@@ -1,7 +1,7 @@
 -- What each statement is lowered to, a row for each. Faults are found in the order of the text. (IEEE 1364-2005,
 -- clause 9; the labels are own)
-use Rattle.std.specs.Prelude.{ℕ, List, [], ◌∷◌, ◌++◌, ◌==◌, ◌&&◌, length, Bool, true, false, if◌then◌else◌, Option, Some, None, Ok, Err, bytes_eq, codes, slice_get, is_some}
-use Rattle.std.specs.Option.{option_map, option_and_then}
+use Rattle.std.specs.Prelude.{ℕ, List, [], ◌∷◌, ◌++◌, ◌==◌, ◌&&◌, length, Bool, true, false, if◌then◌else◌, Option, Some, None, Ok, Err, bytes_eq, codes}
+use Rattle.std.specs.Option.{option_and_then}
 use Rattle.vh_base.specs.declared.faults.DesignFault.{DesignFault}
 use Rattle.vh_base.specs.declared.faults.DesignFault.TheVariants.{N1, N5, N7, N10}
 use Rattle.vh_base.specs.declared.place.Place.{Place}
@@ -9,7 +9,7 @@ use Rattle.vh_nodes.specs.declared.expr.Selected.{Selected}
 use Rattle.vh_nodes.specs.declared.object.Kind.{Kind}
 use Rattle.vh_nodes.specs.declared.object.Kind.TheVariants as of
 use Rattle.vh_nodes.specs.Kinds.{is_event, is_disable_target, is_named_block, is_forcible, is_variable, rank}
-use Rattle.vh_nodes.specs.Fits.{has_kind, has_body}
+use Rattle.vh_nodes.specs.Fits.{has_kind}
 use Rattle.vh_nodes.specs.Widths.{width_of, signed_of, widest, all_signed}
 use Rattle.vh_code.specs.declared.operation.CaseKind.{CaseKind}
 use Rattle.vh_code.specs.declared.operation.CaseKind.TheVariants as compares
@@ -45,12 +45,12 @@ use Rattle.vh_ast.specs.declared.stmt.LoopWord.TheVariants as loops
 use Rattle.vh_ast.specs.declared.stmt.ReleaseWord.{ReleaseWord}
 use Rattle.vh_ast.specs.declared.stmt.ReleaseWord.TheVariants as releases
 use Rattle.vh_ast.specs.declared.token.Id.{Id}
-use Rattle.vh_ast.specs.Expressions.{ExprTree, place_of, NameTree, start_of, SelTree, no_sel, index_sel, both_sel, part_sel}
-use Rattle.vh_ast.specs.Statements.{DelayTree, EventTree, any_event, named_event, listed_events, LvTree, LvPartTree, opened, target, closed, SetTree, SimpleTree, empty, assign, trigger, disable, force, release, task_call, system_call, LabelsTree, values, default, CitemTree, StmtTree, stmt, StmtFormTree, simple_stmt, delay_stmt, event_stmt, wait_stmt, if_stmt, case_stmt, for_stmt, loop_stmt, forever_stmt, block_stmt, ElseTree, no_else, else_stmt, Citems, no_citem, one_citem, Stmts, no_stmt, one_stmt}
+use Rattle.vh_ast.specs.Expressions.{ExprTree, NameTree, start_of, SelTree, no_sel, index_sel, both_sel, part_sel}
+use Rattle.vh_ast.specs.Statements.{DelayTree, EventTree, any_event, named_event, listed_events, LvTree, LvPartTree, opened, target, closed, SetTree, SimpleTree, empty, assign, trigger, disable, force, release, task_call, system_call, LabelsTree, values, default, StmtTree, stmt, StmtFormTree, simple_stmt, delay_stmt, event_stmt, wait_stmt, if_stmt, case_stmt, for_stmt, loop_stmt, forever_stmt, block_stmt, ElseTree, no_else, else_stmt, Citems, no_citem, one_citem, Stmts, no_stmt, one_stmt}
 use Rattle.vh_bind.specs.declared.readable.Readable.{Readable}
 use Rattle.vh_bind.specs.declared.readable.Readable.TheVariants as read
 use Rattle.vh_bind.specs.declared.scope.Mode.TheVariants as mode
-use Rattle.vh_bind.specs.Steps.{Nodes, Step}
+use Rattle.vh_bind.specs.Steps.{Nodes}
 use Rattle.vh_bind.specs.Selects.{Outcome, with_ok}
 use Rattle.vh_bind.specs.Scopes.{Scope, here}
 use Rattle.vh_bind.specs.Constants.{bound, name_meant, name_read}
@@ -565,9 +565,6 @@ abbrev mutual
   items_flow w c no_citem = pure c
   items_flow w c (one_citem place labels body more) =
       item_with w c labels (stmt_flow w body) >>= (λ d. items_flow w d more)
-
-abbrev pub item_flow : Surroundings → Cases → CitemTree → Making Cases
-item_flow w c i = item_with w c i.labels (stmt_flow w i.body)
 
 -- The code of a statement, by what it is of.
 abbrev pub lowered : CodeKind → Surroundings → StmtTree → Making Code

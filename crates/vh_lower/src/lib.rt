@@ -2,7 +2,9 @@
 //!
 //! The contract that the layer above uses: [`lower`] answers the code of a statement that
 //! `specs/Statements.antt` gives, a row for each statement, and adds to a design what it needs
-//! ([`Added`]); or it answers the first fault in the order of the text.
+//! ([`Added`]); or it answers the first fault in the order of the text. [`initial_code`] and
+//! [`drive_code`] do so for declared initial values and continuous assignments
+//! (`specs/Processes.antt`).
 //!
 //! It stands on `vh_bind_stmt` for the parts of statements, and on `vh_flow` for the code of a bound
 //! statement.
@@ -20,6 +22,7 @@ mod labels;
 mod loops;
 mod making;
 mod objects;
+mod processes;
 mod simple;
 mod stmt;
 mod systems;
@@ -27,4 +30,5 @@ mod tasks;
 
 pub use added::Added;
 pub use fault::LowerFault;
+pub use processes::{drive_code, initial_code};
 pub use stmt::lower;

@@ -2,13 +2,14 @@ ghost use Rattle.std.specs.Prelude.{◌≡◌, [], ◌∷◌, ◌++◌, map, tru
 ghost use Rattle.std.specs.Option.{option_map};
 ghost use Rattle.vh_nodes.specs.Fits.{is_unit};
 ghost use Rattle.vh_ast.specs.Statements;
-ghost use Rattle.vh_ast.specs.Views.{citem_tree, event_tree, stmt_tree};
+ghost use Rattle.vh_ast.specs.Views.{citem_tree, event_tree, labels_tree, stmt_tree};
 ghost use Rattle.vh_bind.specs.declared.scope.Mode.TheVariants as mode;
 ghost use Rattle.vh_bind.specs.Nodes.{IsSound};
 ghost use Rattle.vh_bind_stmt.specs.Views.{surroundings_seen};
+ghost use Rattle.vh_flow.specs.Places.{is_closed};
 ghost use Rattle.vh_flow.specs.Views.{flow_tree};
 ghost use Rattle.vh_lower.specs.Making.{Makes};
-ghost use Rattle.vh_lower.specs.Statements.{behind_front, block_flow, event_flow, inside, inside_of, item_flow, items_flow, lowered, stmt_flow, stmts_flow};
+ghost use Rattle.vh_lower.specs.Statements.{behind_front, block_flow, event_flow, inside, inside_of, item_with, items_flow, lowered, stmt_flow, stmts_flow};
 ghost use Rattle.vh_lower.specs.Views.{added_seen, cases_seen, flows_seen, MakesCases, MakesTo};
 
 use crate::added::Added;
@@ -308,7 +309,7 @@ fn lower_items(
         (IsSound mode.Value (surroundings_seen around.now).scope (added_seen added.new).exprs) }
 {
     for citem in citems {
-        lower_item(alloc, around, added, cases, citem)?;
+        lower_item(alloc, around, added, cases, &citem.labels, &citem.body)?;
     }
     Ok(())
 }
@@ -320,26 +321,27 @@ fn lower_item(
     around: &Surroundings,
     added: &mut Added,
     cases: &mut Cases,
-    citem: &Citem<Stmt>,
+    labels: &Labels,
+    body: &Stmt,
 ) -> Result<(), LowerFault>
     requires sound { IsSound mode.Value (surroundings_seen around.now).scope (added_seen added.old).exprs }
     requires unit { is_unit (surroundings_seen around.now).scope.precision
         (surroundings_seen around.now).scope.unit ≡ true }
     ensures made { MakesCases
-        (item_flow (surroundings_seen around.now) (cases_seen cases.old) (citem_tree citem.now) (added_seen added.old))
+        (item_with (surroundings_seen around.now) (cases_seen cases.old) (labels_tree labels.now) (stmt_flow (surroundings_seen around.now) (stmt_tree body.now)) (added_seen added.old))
         result (cases_seen cases.new) (added_seen added.new) }
     ensures sound { OnOk result
         (IsSound mode.Value (surroundings_seen around.now).scope (added_seen added.new).exprs) }
 {
-    match &citem.labels {
+    match labels {
         Labels::Values(values) => {
             let labels = values_of(alloc, around, added, &mut cases.calls, values.as_slice())?;
-            let body = lower_stmt(alloc, around, added, &citem.body)?;
+            let body = lower_stmt(alloc, around, added, body)?;
             with_item(cases, labels, body)?;
             Ok(())
         }
         Labels::Default => {
-            let body = lower_stmt(alloc, around, added, &citem.body)?;
+            let body = lower_stmt(alloc, around, added, body)?;
             with_default(cases, body)?;
             Ok(())
         }
@@ -354,6 +356,27 @@ fn scopes_inside(alloc: Global, object: ObjId, around: &[ObjId]) -> Result<Vec<O
     scopes.push(object)?;
     scopes.extend_from_slice(around)?;
     Ok(scopes)
+}
+
+// The code of a statement.
+fn laid_statement(
+    alloc: Global,
+    around: &Surroundings,
+    added: &mut Added,
+    kind: CodeKind,
+    stmt: &Stmt,
+) -> Result<Code, LowerFault>
+    requires sound { IsSound mode.Value (surroundings_seen around.now).scope (added_seen added.old).exprs }
+    requires unit { is_unit (surroundings_seen around.now).scope.precision
+        (surroundings_seen around.now).scope.unit ≡ true }
+    ensures made { Makes
+        (lowered kind (surroundings_seen around.now) (stmt_tree stmt.now) (added_seen added.old))
+        result (added_seen added.new) }
+    ensures sound { OnOk result
+        (IsSound mode.Value (surroundings_seen around.now).scope (added_seen added.new).exprs) }
+{
+    let flow = lower_stmt(alloc, around, added, stmt)?;
+    Ok(code_of(alloc, kind, &flow)?)
 }
 
 /// The code of a statement by what it is of, or its first fault (IEEE 1364-2005, clause 9).
@@ -372,7 +395,7 @@ pub fn lower(
         result (added_seen added.new) }
     ensures sound { OnOk result
         (IsSound mode.Value (surroundings_seen around.now).scope (added_seen added.new).exprs) }
+    ensures closed { IfOk result (λ c. is_closed c ≡ true) }
 {
-    let flow = lower_stmt(alloc, around, added, stmt)?;
-    Ok(code_of(alloc, kind, &flow)?)
+    laid_statement(alloc, around, added, kind, stmt)
 }

@@ -3,15 +3,15 @@
 
 use std::alloc::Global;
 use std::test::Fail;
-use vh_ast::{Stmt, TaskDirection};
+use vh_ast::{Delay, Expr, Simple, Stmt, StmtForm, TaskDirection};
 use vh_base::{ExprId, NoMemory, ObjId, Place, Sequence};
 use vh_bind::{Genvar, Mode, Routine, Scope, push};
 use vh_bind_stmt::{Argument, Arguments, Surroundings};
-use vh_code::{Arm, Code, Goes, Instruction, Loop, Operation, Pause, Single};
+use vh_code::{Arm, Code, Edge, Goes, Instruction, Loop, Operation, Pause, Single, Term, WaitInfo};
 use vh_flow::CodeKind;
 use vh_lex::Lexer;
 use vh_logic::Vec4;
-use vh_lower::{Added, LowerFault, lower};
+use vh_lower::{Added, LowerFault, drive_code, initial_code, lower};
 use vh_nodes::{Detail, ExprKind, Kind, ObjectInfo, Range};
 use vh_parse_stmt::parse_stmt;
 use vh_scope::{Meaning, Names, Top};
@@ -152,10 +152,51 @@ fn added(alloc: Global, scope: &Scope) -> Result<Added, LowerFault> {
     Ok(added)
 }
 
+// What is lowered: a statement by what it is of; or the right side of an assignment as the initial value
+// of `q`, or as what drives no driver.
+#[derive(Clone, Copy)]
+enum Wanted {
+    Statement(CodeKind),
+    Value,
+    Driven,
+}
+
+fn right_side(stmt: &Stmt) -> Option<(&Option<Delay>, &Expr)> {
+    match &stmt.form {
+        StmtForm::Simple(Simple::Assign { delay, value, .. }) => Some((delay, value)),
+        _ => None,
+    }
+}
+
+fn made(
+    alloc: Global,
+    around: &Surroundings,
+    added: &mut Added,
+    wanted: Wanted,
+    stmt: &Stmt,
+) -> Result<Code, LowerFault> {
+    match wanted {
+        Wanted::Statement(kind) => lower(alloc, around, added, kind, stmt),
+        Wanted::Value => {
+            let Some((_, value)) = right_side(stmt) else {
+                return Err(LowerFault::PassedOver);
+            };
+            initial_code(alloc, around, added, ObjId::new(4), value)
+        }
+        Wanted::Driven => {
+            let Some((delay, value)) = right_side(stmt) else {
+                return Err(LowerFault::PassedOver);
+            };
+            let drivers = Sequence::new(Vec::new(alloc));
+            drive_code(alloc, around, added, drivers, delay, value)
+        }
+    }
+}
+
 fn lowered(
     alloc: Global,
     world: &World,
-    kind: CodeKind,
+    wanted: Wanted,
     stmt: &Stmt,
 ) -> Result<(Code, Added), LowerFault> {
     let top = Top {
@@ -188,7 +229,7 @@ fn lowered(
         arguments: &arguments,
     };
     let mut added = added(alloc, &scope)?;
-    let code = lower(alloc, &around, &mut added, kind, stmt)?;
+    let code = made(alloc, &around, &mut added, wanted, stmt)?;
     Ok((code, added))
 }
 
@@ -236,6 +277,8 @@ fn letter(operation: &Operation) -> &'static str {
         Operation::Leave(_) => ")",
         Operation::Single(single) => single_letter(*single),
         Operation::End => "e",
+        Operation::Initial { .. } => "i",
+        Operation::Drive(_) => "d",
         _ => "?",
     }
 }
@@ -292,9 +335,9 @@ fn shown(alloc: Global, code: &Code) -> Result<String, NoMemory> {
     Ok(text)
 }
 
-fn answer(alloc: Global, kind: CodeKind, stmt: &Stmt) -> Result<String, Fail> {
+fn answer(alloc: Global, wanted: Wanted, stmt: &Stmt) -> Result<String, Fail> {
     let world = World::new(alloc)?;
-    match lowered(alloc, &world, kind, stmt) {
+    match lowered(alloc, &world, wanted, stmt) {
         Ok((code, _)) => Ok(shown(alloc, &code)?),
         Err(LowerFault::Refused(fault, place)) => {
             Ok(format!(in alloc; "{fault:?} {column}", column = place.column)?)
@@ -304,7 +347,7 @@ fn answer(alloc: Global, kind: CodeKind, stmt: &Stmt) -> Result<String, Fail> {
     }
 }
 
-fn read(alloc: Global, kind: CodeKind, text: &[u8]) -> Result<String, Fail> {
+fn read(alloc: Global, wanted: Wanted, text: &[u8]) -> Result<String, Fail> {
     let mut lexer = Lexer::new(alloc)?;
     if text.len() > 1_000 {
         return Ok(String::new(alloc));
@@ -312,14 +355,14 @@ fn read(alloc: Global, kind: CodeKind, text: &[u8]) -> Result<String, Fail> {
     lexer.file(alloc, 1, text)?;
     let tokens = lexer.tokens().as_slice();
     match parse_stmt(alloc, tokens, 0, false, PLACE) {
-        Ok((stmt, _)) => answer(alloc, kind, stmt.get()),
+        Ok((stmt, _)) => answer(alloc, wanted, stmt.get()),
         Err(_) => Ok(format!(in alloc; "not read")?),
     }
 }
 
 // Whether the body of a task with this statement has this code, or it has this fault.
 fn holds(alloc: Global, text: &str, wanted: &str) -> Result<bool, Fail> {
-    let got = read(alloc, CodeKind::Body, text.as_bytes())?;
+    let got = read(alloc, Wanted::Statement(CodeKind::Body), text.as_bytes())?;
     Ok(got.as_str() == wanted)
 }
 
@@ -1271,14 +1314,259 @@ fn n1_argument(rt: HostRuntime) -> Result<(), Fail> {
 
 #[test]
 fn an_initial_ends(rt: HostRuntime) -> Result<(), Fail> {
-    let got = read(rt.alloc(), CodeKind::Initial, b"r = 1;")?;
+    let got = read(rt.alloc(), Wanted::Statement(CodeKind::Initial), b"r = 1;")?;
     assert_eq!(rt; got.as_str(), "!={0}>1 e>b");
     Ok(())
 }
 
 #[test]
 fn an_always_turns(rt: HostRuntime) -> Result<(), Fail> {
-    let got = read(rt.alloc(), CodeKind::Always, b"#5 r = 1;")?;
+    let got = read(
+        rt.alloc(),
+        Wanted::Statement(CodeKind::Always),
+        b"#5 r = 1;",
+    )?;
     assert_eq!(rt; got.as_str(), "u>1 !#{0}>2 !={1}>0");
+    Ok(())
+}
+
+fn show_term(text: &mut String, term: Term) -> Result<(), NoMemory> {
+    match term {
+        Term::Digits {
+            object,
+            low,
+            width,
+            edge,
+        } => {
+            let letter = match edge {
+                Edge::Any => "",
+                Edge::Rising => "+",
+                Edge::Falling => "-",
+            };
+            write!(
+                text,
+                "{object}.{low}.{width}{letter}",
+                object = object.number()
+            )?;
+        }
+        Term::Event(object) => write!(text, "e{object}", object = object.number())?,
+        Term::Reads(object) => write!(text, "{object}", object = object.number())?,
+    }
+    Ok(())
+}
+
+fn shown_waits(alloc: Global, waits: &[WaitInfo]) -> Result<String, NoMemory> {
+    let mut text = String::new(alloc);
+    for wait in waits {
+        text.push_str("(")?;
+        for term in wait.terms.as_slice() {
+            text.push_str(" ")?;
+            show_term(&mut text, *term)?;
+        }
+        text.push_str(" )")?;
+    }
+    Ok(text)
+}
+
+fn waited(alloc: Global, wanted: Wanted, stmt: &Stmt) -> Result<String, Fail> {
+    let world = World::new(alloc)?;
+    match lowered(alloc, &world, wanted, stmt) {
+        Ok((_, added)) => Ok(shown_waits(alloc, &added.waits)?),
+        Err(_) => Ok(format!(in alloc; "refused")?),
+    }
+}
+
+// Whether a statement waits so: objects by their numbers, with the lowest digit, the number of digits
+// and the edge where an event control names them, and `e` before an event.
+fn waits_in(alloc: Global, kind: Wanted, text: &str, wanted: &str) -> Result<bool, Fail> {
+    let mut lexer = Lexer::new(alloc)?;
+    if text.len() > 1_000 {
+        return Ok(false);
+    }
+    lexer.file(alloc, 1, text.as_bytes())?;
+    let tokens = lexer.tokens().as_slice();
+    match parse_stmt(alloc, tokens, 0, false, PLACE) {
+        Ok((stmt, _)) => {
+            let got = waited(alloc, kind, stmt.get())?;
+            Ok(got.as_str() == wanted)
+        }
+        Err(_) => Ok(false),
+    }
+}
+
+fn waits_for(alloc: Global, text: &str, wanted: &str) -> Result<bool, Fail> {
+    waits_in(alloc, Wanted::Statement(CodeKind::Body), text, wanted)
+}
+
+#[test]
+fn reads_of_an_assignment(rt: HostRuntime) -> Result<(), Fail> {
+    let holds = waits_for(rt.alloc(), "@* r = q + m[k];", "( 4 5 7 )")?;
+    assert!(rt; holds);
+    Ok(())
+}
+
+#[test]
+fn reads_of_a_target(rt: HostRuntime) -> Result<(), Fail> {
+    let holds = waits_for(rt.alloc(), "@* m[q] = s;", "( 4 6 )")?;
+    assert!(rt; holds);
+    Ok(())
+}
+
+#[test]
+fn no_read_of_an_output(rt: HostRuntime) -> Result<(), Fail> {
+    let holds = waits_for(rt.alloc(), "@* t(q, r);", "( 4 )")?;
+    assert!(rt; holds);
+    Ok(())
+}
+
+#[test]
+fn a_read_of_an_inout(rt: HostRuntime) -> Result<(), Fail> {
+    let holds = waits_for(rt.alloc(), "@* v(q);", "( 4 )")?;
+    assert!(rt; holds);
+    Ok(())
+}
+
+#[test]
+fn reads_of_arguments(rt: HostRuntime) -> Result<(), Fail> {
+    let holds = waits_for(rt.alloc(), "@* r = f(q + s);", "( 4 6 )")?;
+    assert!(rt; holds);
+    Ok(())
+}
+
+#[test]
+fn reads_of_branches(rt: HostRuntime) -> Result<(), Fail> {
+    let holds = waits_for(rt.alloc(), "@* if (q) r = s; else #k r = w;", "( 4 6 5 2 )")?;
+    assert!(rt; holds);
+    Ok(())
+}
+
+#[test]
+fn reads_of_a_case(rt: HostRuntime) -> Result<(), Fail> {
+    let holds = waits_for(
+        rt.alloc(),
+        "@* case (q) s: r = k; default: r = w; endcase",
+        "( 4 6 5 2 )",
+    )?;
+    assert!(rt; holds);
+    Ok(())
+}
+
+#[test]
+fn reads_of_a_condition(rt: HostRuntime) -> Result<(), Fail> {
+    let holds = waits_for(rt.alloc(), "@* wait (q) r = s;", "( 4 )( 4 6 )")?;
+    assert!(rt; holds);
+    Ok(())
+}
+
+#[test]
+fn no_read_of_a_control(rt: HostRuntime) -> Result<(), Fail> {
+    let holds = waits_for(rt.alloc(), "@* @(s) r = q;", "( 6.0.1 )( 4 )")?;
+    assert!(rt; holds);
+    Ok(())
+}
+
+#[test]
+fn reads_of_a_display(rt: HostRuntime) -> Result<(), Fail> {
+    let holds = waits_for(rt.alloc(), "@* $display(\"%d\", q, , m[0]);", "( 4 7 )")?;
+    assert!(rt; holds);
+    Ok(())
+}
+
+#[test]
+fn reads_of_a_force(rt: HostRuntime) -> Result<(), Fail> {
+    let holds = waits_for(rt.alloc(), "@* force r = q;", "( 4 )")?;
+    assert!(rt; holds);
+    Ok(())
+}
+
+#[test]
+fn reads_of_a_loop(rt: HostRuntime) -> Result<(), Fail> {
+    let holds = waits_for(
+        rt.alloc(),
+        "@* for (k = q; k < s; k = k + 1) r = w;",
+        "( 4 5 6 5 2 )",
+    )?;
+    assert!(rt; holds);
+    Ok(())
+}
+
+#[test]
+fn a_wait(rt: HostRuntime) -> Result<(), Fail> {
+    let holds = waits_for(rt.alloc(), "wait (q & m[s]) ;", "( 4 6 7 )")?;
+    assert!(rt; holds);
+    Ok(())
+}
+
+#[test]
+fn edges_waited_for(rt: HostRuntime) -> Result<(), Fail> {
+    let holds = waits_for(
+        rt.alloc(),
+        "@(posedge s or negedge r[2] or r[3:1] or e) ;",
+        "( 6.0.1+ 3.2.1- 3.1.3 e8 )",
+    )?;
+    assert!(rt; holds);
+    Ok(())
+}
+
+#[test]
+fn nested_any(rt: HostRuntime) -> Result<(), Fail> {
+    let holds = waits_for(rt.alloc(), "@* begin r = q; @* r = s; end", "( 6 )( 4 6 )")?;
+    assert!(rt; holds);
+    Ok(())
+}
+
+#[test]
+fn a_value(rt: HostRuntime) -> Result<(), Fail> {
+    let got = read(rt.alloc(), Wanted::Value, b"r = 5;")?;
+    assert_eq!(rt; got.as_str(), "i>b");
+    Ok(())
+}
+
+#[test]
+fn a_value_of_a_call(rt: HostRuntime) -> Result<(), Fail> {
+    let got = read(rt.alloc(), Wanted::Value, b"r = f(q);")?;
+    assert_eq!(rt; got.as_str(), "(>1 )>2 i>b");
+    Ok(())
+}
+
+#[test]
+fn n1_initial_value(rt: HostRuntime) -> Result<(), Fail> {
+    let got = read(rt.alloc(), Wanted::Value, b"r = z;")?;
+    assert_eq!(rt; got.as_str(), "N1 5");
+    Ok(())
+}
+
+#[test]
+fn a_drive(rt: HostRuntime) -> Result<(), Fail> {
+    let got = read(rt.alloc(), Wanted::Driven, b"r = q;")?;
+    assert_eq!(rt; got.as_str(), "d>0");
+    Ok(())
+}
+
+#[test]
+fn a_drive_of_a_call(rt: HostRuntime) -> Result<(), Fail> {
+    let got = read(rt.alloc(), Wanted::Driven, b"r = f(q);")?;
+    assert_eq!(rt; got.as_str(), "(>1 )>2 d>0");
+    Ok(())
+}
+
+#[test]
+fn calls_in_a_delayed_drive(rt: HostRuntime) -> Result<(), Fail> {
+    let got = read(rt.alloc(), Wanted::Driven, b"r = #(f(1)) f(2);")?;
+    assert_eq!(rt; got.as_str(), "(>1 )>2 (>3 )>4 d>0");
+    Ok(())
+}
+
+#[test]
+fn n1_drive_delay(rt: HostRuntime) -> Result<(), Fail> {
+    let got = read(rt.alloc(), Wanted::Driven, b"r = #z y;")?;
+    assert_eq!(rt; got.as_str(), "N1 6");
+    Ok(())
+}
+
+#[test]
+fn a_drive_waits_for_its_right_side(rt: HostRuntime) -> Result<(), Fail> {
+    let holds = waits_in(rt.alloc(), Wanted::Driven, "r = #k q + f(s);", "( 4 6 )")?;
+    assert!(rt; holds);
     Ok(())
 }

@@ -1,6 +1,6 @@
--- A `case` of the code is seen as one.
+-- A `case` of the code is seen as one, and a block.
 use Rattle.std.proofs.Common.{rules}
-use Rattle.vh_lower.proofs.TreesLemmas.{tree-Case}
+use Rattle.vh_lower.proofs.TreesLemmas.{tree-Case, tree-Block}
 use Rattle.vh_lower.proofs.stmt.+lower.Goals as goal
 
 pub lower_stmt-returns-in_err-lower_items-in-Case-clause-made : goal.lower_stmt-returns-in_err-lower_items-in-Case-clause-made
@@ -10,3 +10,7 @@ lower_stmt-returns-in_err-lower_items-in-Case-clause-made t c =
 pub lower_stmt-returns-in_ok-case_flow-in-Case-clause-made : goal.lower_stmt-returns-in_ok-case_flow-in-Case-clause-made
 lower_stmt-returns-in_ok-case_flow-in-Case-clause-made t c =
     rw (tree-Case c.args.stmt.now _ _ _ c.in-Case.is) (search rules)
+
+pub lower_stmt-returns-in-Block-clause-made : goal.lower_stmt-returns-in-Block-clause-made
+lower_stmt-returns-in-Block-clause-made t c =
+    rw (tree-Block c.args.stmt.now _ _ _ _ c.in-Block.is, ← c.as_slice-in-Block.ensures) c.lower_block.ensures.made

@@ -1,0 +1,245 @@
+ghost use Rattle.std.specs.Prelude.{◌≡◌, ◌++◌, true, IfOk, OnOk};
+ghost use Rattle.std.specs.Option.{option_map};
+ghost use Rattle.vh_nodes.specs.Fits.{is_unit};
+ghost use Rattle.vh_ast.specs.Views.{delay_tree, expr_tree};
+ghost use Rattle.vh_bind.specs.declared.scope.Mode.TheVariants as mode;
+ghost use Rattle.vh_bind.specs.Nodes.{IsSound};
+ghost use Rattle.vh_bind_stmt.specs.Views.{surroundings_seen};
+ghost use Rattle.vh_flow.specs.Places.{is_closed};
+ghost use Rattle.vh_flow.specs.Views.{flow_tree};
+ghost use Rattle.vh_lower.specs.Making.{Makes};
+ghost use Rattle.vh_lower.specs.Processes.{plain_label, plain_labels, plain_code, initial_labels, initial_code, drive_at, drive_behind, drive_labels, drive_code};
+ghost use Rattle.vh_lower.specs.Views.{added_seen, flows_seen};
+
+use crate::added::Added;
+use crate::assignments::and_then;
+use crate::fault::LowerFault;
+use crate::labels::{Operations, in_row};
+use crate::making::{delay_of, reading_from, value_of};
+use sqlite_items::Items;
+use std::alloc::Global;
+use vh_ast::{Delay, Expr};
+use vh_base::{Boxed, ExprId, NoMemory, ObjId, WaitId};
+use vh_bind_stmt::Surroundings;
+use vh_code::{Code, Delay as Wait, Drive, DriverIds, Operation};
+use vh_flow::{CodeKind, Flow, FlowForm, Mark, Step, code_of};
+
+// A label that belongs to no statement.
+fn plain_label(operation: Operation) -> Result<Flow, NoMemory>
+    ensures { IfOk result (λ f. flow_tree f ≡ plain_label operation) }
+{
+    let mark = Mark {
+        stmt: None,
+        first: false,
+    };
+    Flow::new(FlowForm::Step(Step { operation, mark }))
+}
+
+// Such labels behind others.
+fn add_plain(row: &mut Items<Flow>, operations: Operations) -> Result<(), NoMemory>
+    ensures { OnOk result (flows_seen row.new ≡ flows_seen row.old ++ plain_labels operations) }
+{
+    for operation in operations.into_vec() {
+        row.push(plain_label(operation)?)?;
+    }
+    Ok(())
+}
+
+// The code of a process of such labels.
+fn plain_code(alloc: Global, kind: CodeKind, operations: Operations) -> Result<Code, NoMemory>
+    ensures { IfOk result (λ c. c ≡ plain_code kind operations) }
+{
+    let mut row = Items::new(alloc);
+    add_plain(&mut row, operations)?;
+    let flow = in_row(row)?;
+    code_of(alloc, kind, &flow)
+}
+
+// The labels of a declared initial value.
+fn initial_labels(
+    alloc: Global,
+    around: &Surroundings,
+    added: &mut Added,
+    object: ObjId,
+    value: &Expr,
+) -> Result<Operations, LowerFault>
+    requires sound { IsSound mode.Value (surroundings_seen around.now).scope (added_seen added.old).exprs }
+    requires unit { is_unit (surroundings_seen around.now).scope.precision
+        (surroundings_seen around.now).scope.unit ≡ true }
+    ensures made { Makes
+        (initial_labels (surroundings_seen around.now) object (expr_tree value.now) (added_seen added.old))
+        result (added_seen added.new) }
+    ensures sound { OnOk result
+        (IsSound mode.Value (surroundings_seen around.now).scope (added_seen added.new).exprs) }
+{
+    let mut operations = Vec::new(alloc);
+    let value = value_of(alloc, around, added, &mut operations, value)?;
+    Ok(and_then(operations, Operation::Initial { object, value })?)
+}
+
+// The code of a declared initial value.
+fn laid_value(
+    alloc: Global,
+    around: &Surroundings,
+    added: &mut Added,
+    object: ObjId,
+    value: &Expr,
+) -> Result<Code, LowerFault>
+    requires sound { IsSound mode.Value (surroundings_seen around.now).scope (added_seen added.old).exprs }
+    requires unit { is_unit (surroundings_seen around.now).scope.precision
+        (surroundings_seen around.now).scope.unit ≡ true }
+    ensures made { Makes
+        (initial_code (surroundings_seen around.now) object (expr_tree value.now) (added_seen added.old))
+        result (added_seen added.new) }
+    ensures sound { OnOk result
+        (IsSound mode.Value (surroundings_seen around.now).scope (added_seen added.new).exprs) }
+{
+    let operations = initial_labels(alloc, around, added, object, value)?;
+    Ok(plain_code(alloc, CodeKind::Value, operations)?)
+}
+
+/// The code of a declared initial value of a variable, or its first fault (IEEE 1364-2005, 6.2.1).
+pub fn initial_code(
+    alloc: Global,
+    around: &Surroundings,
+    added: &mut Added,
+    object: ObjId,
+    value: &Expr,
+) -> Result<Code, LowerFault>
+    requires sound { IsSound mode.Value (surroundings_seen around.now).scope (added_seen added.old).exprs }
+    requires unit { is_unit (surroundings_seen around.now).scope.precision
+        (surroundings_seen around.now).scope.unit ≡ true }
+    ensures made { Makes
+        (initial_code (surroundings_seen around.now) object (expr_tree value.now) (added_seen added.old))
+        result (added_seen added.new) }
+    ensures sound { OnOk result
+        (IsSound mode.Value (surroundings_seen around.now).scope (added_seen added.new).exprs) }
+    ensures closed { IfOk result (λ c. is_closed c ≡ true) }
+{
+    laid_value(alloc, around, added, object, value)
+}
+
+// The label of a continuous assignment.
+fn drive_at(
+    alloc: Global,
+    drivers: DriverIds,
+    value: ExprId,
+    delay: Option<Wait>,
+    wait: WaitId,
+) -> Result<Operation, NoMemory>
+    ensures { IfOk result (λ o. o ≡ drive_at drivers value delay wait) }
+{
+    let drive = Drive {
+        drivers,
+        value,
+        delay,
+        wait,
+    };
+    Ok(Operation::Drive(Boxed::new(alloc, drive)?))
+}
+
+// Its labels behind some calls.
+fn drive_behind(
+    alloc: Global,
+    around: &Surroundings,
+    added: &mut Added,
+    drivers: DriverIds,
+    mut operations: Vec<Operation>,
+    delay: Option<Wait>,
+    value: &Expr,
+) -> Result<Operations, LowerFault>
+    requires sound { IsSound mode.Value (surroundings_seen around.now).scope (added_seen added.old).exprs }
+    requires unit { is_unit (surroundings_seen around.now).scope.precision
+        (surroundings_seen around.now).scope.unit ≡ true }
+    ensures made { Makes
+        (drive_behind (surroundings_seen around.now) drivers operations.items delay (expr_tree value.now) (added_seen added.old))
+        result (added_seen added.new) }
+    ensures sound { OnOk result
+        (IsSound mode.Value (surroundings_seen around.now).scope (added_seen added.new).exprs) }
+{
+    let from = added.exprs.len();
+    let value = value_of(alloc, around, added, &mut operations, value)?;
+    let wait = reading_from(alloc, added, from)?;
+    let drive = drive_at(alloc, drivers, value, delay, wait)?;
+    Ok(and_then(operations, drive)?)
+}
+
+// Its labels, with those of its delay.
+fn drive_labels(
+    alloc: Global,
+    around: &Surroundings,
+    added: &mut Added,
+    drivers: DriverIds,
+    delay: &Option<Delay>,
+    value: &Expr,
+) -> Result<Operations, LowerFault>
+    requires sound { IsSound mode.Value (surroundings_seen around.now).scope (added_seen added.old).exprs }
+    requires unit { is_unit (surroundings_seen around.now).scope.precision
+        (surroundings_seen around.now).scope.unit ≡ true }
+    ensures made { Makes
+        (drive_labels (surroundings_seen around.now) drivers (option_map delay_tree delay.now) (expr_tree value.now) (added_seen added.old))
+        result (added_seen added.new) }
+    ensures sound { OnOk result
+        (IsSound mode.Value (surroundings_seen around.now).scope (added_seen added.new).exprs) }
+{
+    let mut operations = Vec::new(alloc);
+    match delay {
+        None => drive_behind(alloc, around, added, drivers, operations, None, value),
+        Some(delay) => {
+            let delay = delay_of(alloc, around, added, &mut operations, delay)?;
+            drive_behind(
+                alloc,
+                around,
+                added,
+                drivers,
+                operations,
+                Some(delay),
+                value,
+            )
+        }
+    }
+}
+
+// The code of a continuous assignment.
+fn laid_assignment(
+    alloc: Global,
+    around: &Surroundings,
+    added: &mut Added,
+    drivers: DriverIds,
+    delay: &Option<Delay>,
+    value: &Expr,
+) -> Result<Code, LowerFault>
+    requires sound { IsSound mode.Value (surroundings_seen around.now).scope (added_seen added.old).exprs }
+    requires unit { is_unit (surroundings_seen around.now).scope.precision
+        (surroundings_seen around.now).scope.unit ≡ true }
+    ensures made { Makes
+        (drive_code (surroundings_seen around.now) drivers (option_map delay_tree delay.now) (expr_tree value.now) (added_seen added.old))
+        result (added_seen added.new) }
+    ensures sound { OnOk result
+        (IsSound mode.Value (surroundings_seen around.now).scope (added_seen added.new).exprs) }
+{
+    let operations = drive_labels(alloc, around, added, drivers, delay, value)?;
+    Ok(plain_code(alloc, CodeKind::Assign, operations)?)
+}
+
+/// The code of a continuous assignment to these drivers, or its first fault (IEEE 1364-2005, 6.1).
+pub fn drive_code(
+    alloc: Global,
+    around: &Surroundings,
+    added: &mut Added,
+    drivers: DriverIds,
+    delay: &Option<Delay>,
+    value: &Expr,
+) -> Result<Code, LowerFault>
+    requires sound { IsSound mode.Value (surroundings_seen around.now).scope (added_seen added.old).exprs }
+    requires unit { is_unit (surroundings_seen around.now).scope.precision
+        (surroundings_seen around.now).scope.unit ≡ true }
+    ensures made { Makes
+        (drive_code (surroundings_seen around.now) drivers (option_map delay_tree delay.now) (expr_tree value.now) (added_seen added.old))
+        result (added_seen added.new) }
+    ensures sound { OnOk result
+        (IsSound mode.Value (surroundings_seen around.now).scope (added_seen added.new).exprs) }
+    ensures closed { IfOk result (λ c. is_closed c ≡ true) }
+{
+    laid_assignment(alloc, around, added, drivers, delay, value)
+}
