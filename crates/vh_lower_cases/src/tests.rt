@@ -1,6 +1,14 @@
 //! Statements of a module: each label with a letter and where it goes on, `!` before the first label of
 //! an execution, and its statement's number; or the fault and its column.
 
+ghost use Rattle.std.specs.Prelude.{◌≡◌, true, IfOk};
+ghost use Rattle.vh_nodes.specs.Fits.{is_unit};
+ghost use Rattle.vh_bind.specs.declared.scope.Mode.TheVariants as mode;
+ghost use Rattle.vh_bind.specs.Nodes.{IsSound};
+ghost use Rattle.vh_bind.specs.Views.{scope_seen};
+ghost use Rattle.vh_bind_stmt.specs.Views.{surroundings_seen};
+ghost use Rattle.vh_lower.specs.Views.{added_seen};
+
 use std::alloc::Global;
 use std::test::Fail;
 use vh_ast::{Delay, Expr, Simple, Stmt, StmtForm, TaskDirection};
@@ -26,6 +34,7 @@ struct World {
     around: Vec<ObjId>,
     genvars: Vec<Genvar>,
     objects: Vec<ObjectInfo>,
+    arguments: Vec<Arguments>,
 }
 
 impl World {
@@ -35,6 +44,7 @@ impl World {
             around: Vec::from_slice(alloc, &[ObjId::new(0)])?,
             genvars: Vec::new(alloc),
             objects: Vec::new(alloc),
+            arguments: arguments(alloc)?,
         };
         world.object(alloc, Kind::Module, 1, Detail::Plain)?;
         let five = Detail::Value(ExprId::new(0));
@@ -140,7 +150,9 @@ const PLACE: Place = Place {
     column: 1,
 };
 
-fn added(alloc: Global, scope: &Scope) -> Result<Added, LowerFault> {
+fn added(alloc: Global, scope: &Scope) -> Result<Added, LowerFault>
+    ensures { IfOk result (λ a. IsSound mode.Value (scope_seen scope.now) (added_seen a).exprs) }
+{
     let mut added = Added {
         exprs: Vec::new(alloc),
         waits: Vec::new(alloc),
@@ -174,7 +186,11 @@ fn made(
     added: &mut Added,
     wanted: Wanted,
     stmt: &Stmt,
-) -> Result<Code, LowerFault> {
+) -> Result<Code, LowerFault>
+    requires sound { IsSound mode.Value (surroundings_seen around.now).scope (added_seen added.old).exprs }
+    requires unit { is_unit (surroundings_seen around.now).scope.precision
+        (surroundings_seen around.now).scope.unit ≡ true }
+{
     match wanted {
         Wanted::Statement(kind) => lower(alloc, around, added, kind, stmt),
         Wanted::Value => {
@@ -223,10 +239,9 @@ fn lowered(
         unit: 9,
         precision: 6,
     };
-    let arguments = arguments(alloc)?;
     let around = Surroundings {
         scope: &scope,
-        arguments: &arguments,
+        arguments: &world.arguments,
     };
     let mut added = added(alloc, &scope)?;
     let code = made(alloc, &around, &mut added, wanted, stmt)?;
