@@ -5,20 +5,17 @@ use Rattle.vh_base.specs.declared.faults.AppFault.TheVariants.{A1, A2, A3, A4, A
 use Rattle.vh_base.specs.declared.place.Place.{Place}
 use Rattle.vh_grammar.specs.Reading.{Fault, lost, deep, left_out, Out, got, stop}
 use Rattle.vh_grammar.specs.Table.{source}
+use Rattle.vh_script.specs.declared.app.TheConstants.{MOST_LEVELS}
 use Rattle.vh_script.specs.Token.{Terminal, word, number, text, mark, wrong, Token}
 use Rattle.vh_script.specs.Spelling.{tokens_of, kinds_of}
 use Rattle.vh_script.specs.Places.{place_at}
 use Rattle.vh_script.specs.Tree.{App}
 use Rattle.vh_script.specs.Table.{script_table}
 
--- How deep blocks nest at most, a procedure's having the depth 1 (own).
-abbrev pub most_levels : ℕ
-most_levels = 64
-
 -- What the table answers for the tokens, with the rules up to this fault: the laws of reading are about
 -- this (own).
 abbrev pub answer : AppFault → List (List ℕ) → List Terminal → Out Terminal App
-answer rules earlier ts = source (script_table rules earlier) most_levels ts
+answer rules earlier ts = source (script_table rules earlier) MOST_LEVELS ts
 
 -- The token with so many left, itself among them (own).
 abbrev pub token_at : List Token → ℕ → Option Token

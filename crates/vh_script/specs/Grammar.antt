@@ -196,9 +196,12 @@ set_end env =
     ended (act set_of (seq (tok (variable_in env.variables)) (after (the mark.Becomes)
     (seq (atom env) (opt (is_mark mark.Plus) (after (the mark.Plus) (atom env)))))))
 
--- block, a level deeper (own)
+-- block, a level deeper: no level is wanting where none begins (own)
+abbrev pub inner_block : Env → ℕ → G Run
+inner_block env room = nested (block env room)
+
 unfoldable pub nested_block : Env → ℕ → G Run
-nested_block env room = alt (is_mark mark.OpenBrace) (nested (block env room)) nothing
+nested_block env room = alt (is_mark mark.OpenBrace) (inner_block env room) nothing
 
 -- A command, and how many more there may be (own).
 abbrev pub counted : ℕ → Command → Command × ℕ

@@ -8,6 +8,9 @@ use Rattle.vh_grammar.specs.declared.stop.Stop.{Stop}
 use Rattle.vh_grammar.specs.Part.{only}
 use Rattle.vh_grammar.specs.Reading.{Out, got, next_is, token_of, read}
 use Rattle.vh_grammar.specs.Says.{Stops}
+use Rattle.vh_script.specs.declared.app.Procs as held_procs
+use Rattle.vh_script.specs.declared.block.Counted as held_counted
+use Rattle.vh_script.specs.declared.block.Run as held_run
 use Rattle.vh_script.specs.declared.env.Env as held_env
 use Rattle.vh_script.specs.declared.fault.ScriptFault.{ScriptFault}
 use Rattle.vh_script.specs.declared.fault.ScriptFault.TheVariants as faults
@@ -32,7 +35,7 @@ use Rattle.vh_script.specs.Spelling.{Piece, blank, token, no_token, unescaped}
 use Rattle.vh_script.specs.Tree as tree
 use Rattle.vh_script.specs.Tree.{Atom, Body, Order, Test, Command, Procedure, App}
 use Rattle.vh_script.specs.Env.{Env}
-use Rattle.vh_script.specs.Grammar.{G, grammar, Run}
+use Rattle.vh_script.specs.Grammar.{G, grammar, Run, Procs}
 
 -- A token of the code, which holds a text with its escapes (own).
 abbrev pub kind_seen : held_kind.Kind → Terminal
@@ -75,6 +78,9 @@ atom_seen atoms.Index = tree.index
 atom_seen atoms.Data = tree.data_
 atom_seen atoms.Time = tree.time
 atom_seen atoms.Last = tree.last
+
+abbrev pub atoms_seen : held_atom.Atom × held_atom.Atom → Atom × Atom
+atoms_seen a = (atom_seen a.0, atom_seen a.1)
 
 abbrev pub body_seen : held_body.Body → Body
 body_seen (bodies.Proc bytes) = tree.proc bytes.now
@@ -127,9 +133,20 @@ command_tree = held_command.fold-Command Command command_layer
 abbrev pub commands_seen : List held_command.Command → List Command
 commands_seen = map command_tree
 
+-- Commands as far as they are read, and one more (own).
+abbrev pub run_seen : held_run.Run → Run
+run_seen r = record { commands = commands_seen r.commands; room = r.room }
+
+abbrev pub counted_seen : held_counted.Counted → Command × ℕ
+counted_seen c = (command_tree c.command, c.room)
+
 -- Procedures, and a whole script of the code (own).
 abbrev pub procedure_seen : held_procedure.Procedure → Procedure
 procedure_seen p = record { name = p.name.now; commands = commands_seen p.commands }
+
+abbrev pub procs_seen : held_procs.Procs → Procs
+procs_seen p =
+    record { names = names_seen p.names.keys; procedures = map procedure_seen p.procedures; room = p.room }
 
 abbrev pub app_seen : held_app.App → App
 app_seen a =
@@ -149,6 +166,11 @@ Says view o (Err why) = Stops o why
 abbrev pub Passes : Out Terminal (Unit {0}) → Result (Bor (List held_token.Token)) Stop → Type 0
 Passes o (Ok rest) = o ≡ got tt (terminals rest.now)
 Passes o (Err why) = Stops o why
+
+-- The same where a value of the code is changed to what is read (own).
+abbrev pub Gives : {A : Type 0} → A → Out Terminal A → Result (Bor (List held_token.Token)) Stop → Type 0
+Gives a o (Ok rest) = o ≡ got a (terminals rest.now)
+Gives a o (Err why) = Stops o why
 
 -- Reading the part, with so many levels left below it, gives what the code returns (own).
 abbrev pub Reads : {A X : Type 0} → (X → A) → ℕ → G A → List held_token.Token → Result (X × Bor (List held_token.Token)) Stop → Type 0

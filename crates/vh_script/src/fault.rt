@@ -1,7 +1,9 @@
 //! Why a text has no script.
 
+ghost use Rattle.std.specs.Prelude.{◌≡◌};
+
 use thiserror::Error;
-use vh_base::{AppFault, Place};
+use vh_base::{AppFault, NoMemory, Place};
 
 /// Why a text has no script.
 #[derive(Clone, Copy, Debug, PartialEq, Eq, Error)]
@@ -11,4 +13,14 @@ pub enum ScriptFault {
     Refused(AppFault, Place),
     #[error("out of memory")]
     NoMemory,
+}
+
+impl From<NoMemory> for ScriptFault {
+    ghost use Rattle.vh_script.specs.declared.fault.ScriptFault.TheVariants.{NoMemory};
+
+    ghost from_gives = { λ _ fault. fault ≡ NoMemory };
+
+    fn from(_refused: NoMemory) -> ScriptFault {
+        ScriptFault::NoMemory
+    }
 }

@@ -1,6 +1,9 @@
 //! The scripts of applications.
 #![tactic(auto)]
 
+mod app;
+mod arguments;
+mod block;
 mod built;
 mod bytes;
 mod env;

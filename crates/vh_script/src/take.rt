@@ -226,8 +226,8 @@ pub fn body_word<'t, 'a>(at: At<'t, 'a>) -> Read<'t, 'a, BodyWord>
     }
 }
 
-// Whether a name is too long.
-fn is_long_name(rules: AppFault, name: &[u8]) -> bool
+/// Whether a name is too long.
+pub fn is_long_name(rules: AppFault, name: &[u8]) -> bool
     ensures { result ≡ spec.is_long_name rules name.now }
 {
     counts(rules, AppFault::A5) && name.len() > MOST_NAME
