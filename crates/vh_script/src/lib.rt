@@ -13,6 +13,8 @@ mod lexer;
 mod named;
 mod read;
 mod take;
+#[cfg(test)]
+mod tests;
 mod token;
 mod tree;
 mod words;
