@@ -4,9 +4,8 @@ use Rattle.vh_base.specs.declared.faults.AppFault.{AppFault}
 use Rattle.vh_lines.specs.declared.routine.Routine.{Routine}
 use Rattle.vh_lines.specs.declared.routine.Routine.TheVariants as routine
 use Rattle.vh_grammar.specs.Part.{Part, done, tok, seq, bind, act, alt, rep, iter, nested, unless, barred}
-use Rattle.vh_grammar.specs.Reading.{Fault, Out, got, stop, then_, next_is, taken, many, turns, run, reader, read, whole}
+use Rattle.vh_grammar.specs.Reading.{Out, got, stop, then_, next_is, taken, many, turns, run, reader, read, whole}
 use Rattle.vh_grammar.specs.Marking.{taken_from, marked_many, marked, marked_at, marks, answered_whole}
-use Rattle.vh_grammar.specs.Table.{source}
 use Rattle.vh_script.specs.declared.app.TheConstants.{MOST_LEVELS}
 use Rattle.vh_script.specs.declared.words.Opening.{Opening}
 use Rattle.vh_script.specs.declared.words.Opening.TheVariants as opens
@@ -16,7 +15,7 @@ use Rattle.vh_script.specs.Spelling.{kinds_of}
 use Rattle.vh_script.specs.Views.{kind_seen, token_seen, terminals}
 use Rattle.vh_script.specs.Tree.{Test}
 use Rattle.vh_script.specs.Env.{Env, startup_env, procedure_env}
-use Rattle.vh_script.specs.Grammar.{Name, block, Run, grammar, get_value_row, put_value_row, body, register_row, register_systf_row, arguments, order_end, order, sign, test, set_end, nested_block, otherwise, branches, if_end, while_end, target_end, ask_end, return_end, command_end, command, one_more, any_block, heading, declaration, startup_order, startup, procedure, rest_of, declared, app}
+use Rattle.vh_script.specs.Grammar.{Name, block, grammar, get_value_row, put_value_row, body, register_row, register_systf_row, arguments, order_end, order, sign, test, set_end, nested_block, otherwise, branches, if_end, while_end, target_end, ask_end, return_end, command_end, command, one_more, any_block, heading, declaration, startup_order, startup, procedure, rest_of, declared, app}
 use Rattle.vh_script.specs.Answers.{answer}
 
 -- a reading without a mark

@@ -1,9 +1,9 @@
 -- What is answered for the bytes of a script: its tree, or its first fault and where that stands.
-use Rattle.std.specs.Prelude.{◌≡◌, ◌==◌, ℕ, zero, ◌-◌, Bool, true, false, if◌then◌else◌, List, [], ◌∷◌, length, slice_get, Option, Some, None, Result, Ok, Err}
+use Rattle.std.specs.Prelude.{◌==◌, ℕ, ◌-◌, Bool, true, false, if◌then◌else◌, List, length, slice_get, Option, Some, None, Result, Ok, Err}
 use Rattle.vh_base.specs.declared.faults.AppFault.{AppFault}
 use Rattle.vh_base.specs.declared.faults.AppFault.TheVariants.{A1, A2, A3, A4, A5}
 use Rattle.vh_base.specs.declared.place.Place.{Place}
-use Rattle.vh_grammar.specs.Reading.{Fault, lost, deep, left_out, Out, got, stop}
+use Rattle.vh_grammar.specs.Reading.{lost, deep, left_out, Out, got, stop}
 use Rattle.vh_grammar.specs.Table.{source}
 use Rattle.vh_script.specs.declared.app.TheConstants.{MOST_LEVELS}
 use Rattle.vh_script.specs.Token.{Terminal, word, number, text, mark, wrong, Token}

@@ -1,9 +1,8 @@
 -- That the productions meet the conditions under which reading them means what it should.
-use Rattle.std.proofs.Common.{◌≡◌, ℕ, Bool, true, false, ◌&&◌, ◌||◌, cond, is_some, Option, Some, None, List, [], ◌∷◌, refl, ap, ◌∙◌, codes, ◌⊎◌, inl, inr}
+use Rattle.std.proofs.Common.{◌≡◌, ℕ, Bool, true, false, ◌&&◌, ◌||◌, cond, is_some, Some, None, List, refl, ap, ◌∙◌}
 use Rattle.std.specs.Str.{bytes_eq}
 use Rattle.std.proofs.lemmas.Slice.Eq.{bytes_eq-Decides}
 use Rattle.vh_base.specs.declared.faults.AppFault.{AppFault}
-use Rattle.vh_base.specs.declared.words.SystfKind.{SystfKind}
 use Rattle.vh_lines.specs.declared.routine.Routine.{Routine}
 use Rattle.vh_lines.specs.declared.routine.Routine.TheVariants as routine
 use Rattle.vh_grammar.specs.Conditions.{eats, Advances}
@@ -11,11 +10,10 @@ use Rattle.vh_grammar.specs.Firsts.{first_at}
 use Rattle.vh_grammar.specs.Choices.{Heeds}
 use Rattle.vh_script.specs.declared.token.Keyword.{Keyword}
 use Rattle.vh_script.specs.declared.token.Keyword.TheVariants as keyword
-use Rattle.vh_script.specs.declared.token.Mark.{Mark}
 use Rattle.vh_script.specs.declared.token.Mark.TheVariants as marks
 use Rattle.vh_script.specs.declared.words.Opening.{Opening}
 use Rattle.vh_script.specs.declared.words.Opening.TheVariants as opens
-use Rattle.vh_script.specs.Token.{Terminal, word, number, text, mark, wrong, keyword_text, is_mark, is_spelled}
+use Rattle.vh_script.specs.Token.{Terminal, word, number, text, mark, wrong, keyword_text, is_mark}
 use Rattle.vh_script.specs.Tree.{Test}
 use Rattle.vh_script.specs.Env.{Env, startup_env, procedure_env}
 use Rattle.vh_script.specs.Words.{opening_in, order_in}

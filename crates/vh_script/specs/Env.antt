@@ -1,5 +1,5 @@
 -- What decides on a token beside the grammar's rows: which rules count, and which names are in sight.
-use Rattle.std.specs.Prelude.{◌==◌, ℕ, Bool, ◌&&◌, not, nat_le, nat_lt, List, [], ◌∷◌, ◌++◌, length, Option, if◌then◌else◌, bytes_eq, position}
+use Rattle.std.specs.Prelude.{◌==◌, ℕ, Bool, ◌&&◌, nat_le, nat_lt, List, [], ◌∷◌, ◌++◌, length, Option, if◌then◌else◌, bytes_eq, position}
 use Rattle.std.specs.List.{list_any}
 use Rattle.vh_base.specs.declared.faults.AppFault.{AppFault}
 use Rattle.vh_base.specs.declared.faults.AppFault.TheVariants as fault

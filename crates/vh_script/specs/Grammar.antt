@@ -8,13 +8,11 @@
 --     test    = atom ( "==" | "!=" ) atom
 --     atom    = NUMBER | TEXT | "null" | NAME | "obj" | "me" | "value" | "index" | "data" | "time" | "last"
 --     order   = the word of a routine, and its arguments: a row each, below
-use Rattle.std.specs.Prelude.{ℕ, ◌-◌, Bool, true, false, is_some, List, [], ◌∷◌, ◌++◌, map, Option, Some, None, codes}
+use Rattle.std.specs.Prelude.{ℕ, ◌-◌, Bool, true, false, is_some, List, [], ◌∷◌, ◌++◌, Option, Some, None}
 use Rattle.vh_base.specs.declared.faults.AppFault.{AppFault}
 use Rattle.vh_base.specs.declared.format.Format.{Format}
 use Rattle.vh_base.specs.declared.words.Mode.{Mode}
-use Rattle.vh_base.specs.declared.words.Property.{Property}
 use Rattle.vh_base.specs.declared.words.Reason.{Reason}
-use Rattle.vh_base.specs.declared.words.Relation.{Relation}
 use Rattle.vh_base.specs.declared.words.SystfKind.{SystfKind}
 use Rattle.vh_lines.specs.declared.routine.Routine.{Routine}
 use Rattle.vh_lines.specs.declared.routine.Routine.TheVariants as routine
@@ -32,7 +30,6 @@ use Rattle.vh_script.specs.Token.{Terminal, keyword_text, is_mark, is_spelled}
 use Rattle.vh_script.specs.Tree as tree
 use Rattle.vh_script.specs.Tree.{Atom, Body, Order, Test, Command, Procedure, App, commands}
 use Rattle.vh_script.specs.Env.{Env, startup_env, procedure_env, with_name}
-use Rattle.vh_script.specs.Words as words
 use Rattle.vh_script.specs.Words.{atom_in, name_in, new_name_in, names_in, variable_in, order_in, opening_in, relation_in, property_in, format_in, mode_in, reason_in, kind_in, control_in, body_word_in}
 
 -- Commands as far as they are read, and how many more there may be (own).

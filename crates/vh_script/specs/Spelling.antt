@@ -1,5 +1,5 @@
 -- How the tokens of a script are spelled: the bytes, cut into tokens and white space from the left.
-use Rattle.std.specs.Prelude.{◌==◌, ℕ, zero, suc, ◌+◌, ◌-◌, ◌*◌, ◌<◌, Bool, true, false, ◌||◌, ◌&&◌, not, List, [], ◌∷◌, length, fold, map, Option, Some, None, if◌then◌else◌, take, drop, nat_lt}
+use Rattle.std.specs.Prelude.{◌==◌, ℕ, zero, suc, ◌+◌, ◌-◌, ◌*◌, Bool, true, false, ◌||◌, ◌&&◌, not, List, [], ◌∷◌, length, fold, map, Option, Some, None, if◌then◌else◌, take, drop, nat_lt}
 use Rattle.std.specs.List.{prefix_len}
 use Rattle.std.specs.Option.{option_map}
 use Rattle.vh_base.specs.Classes.{is_between, is_space, is_name_start, is_digit}

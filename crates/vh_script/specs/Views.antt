@@ -1,5 +1,5 @@
 -- How contracts see what the code holds, and what they say of it.
-use Rattle.std.specs.Prelude.{◌≡◌, ℕ, List, [], map, Bool, false, Option, Some, None, option_map, Result, Ok, Err}
+use Rattle.std.specs.Prelude.{◌≡◌, ℕ, List, map, Bool, false, Option, Some, None, option_map, Result, Ok, Err}
 use Rattle.std.specs.Borrow.{Bor}
 use Rattle.vh_base.specs.Lists.{names_seen}
 use Rattle.vh_base.specs.declared.faults.AppFault.{AppFault}

@@ -1,6 +1,6 @@
 -- What a token means where it stands, under the rules that count. Where the rule that an unknown word
 -- breaks doesn't count, it is read as any word.
-use Rattle.std.specs.Prelude.{◌==◌, ℕ, zero, suc, ◌||◌, ◌&&◌, Bool, true, false, not, nat_le, nat_lt, List, [], ◌∷◌, ◌++◌, length, drop, take, map, Option, Some, None, option_map, if◌then◌else◌, codes, bytes_eq}
+use Rattle.std.specs.Prelude.{ℕ, ◌&&◌, Bool, true, false, List, [], ◌∷◌, Option, Some, None, option_map, if◌then◌else◌, codes, bytes_eq}
 use Rattle.std.specs.List.{find}
 use Rattle.vh_base.specs.Words.{reason_text}
 use Rattle.vh_base.specs.declared.faults.AppFault.{AppFault}
@@ -27,12 +27,10 @@ use Rattle.vh_script.specs.declared.words.Opening.TheVariants as opens
 use Rattle.vh_script.specs.declared.words.BodyWord.{BodyWord}
 use Rattle.vh_script.specs.declared.words.BodyWord.TheVariants as bodies
 use Rattle.vh_script.specs.Token.{Terminal, word, number, text, mark, wrong}
-use Rattle.vh_script.specs.Spelling.{is_name_byte}
 use Rattle.vh_script.specs.Tree as tree
 use Rattle.vh_script.specs.Tree.{Atom}
 use Rattle.vh_script.specs.Built.{built_routines, built_reasons, natives_are_built}
 use Rattle.vh_script.specs.Env.{Env, counts, is_long_name, is_long_text, is_one_too_many, is_taken, with_name, variable_of}
-use Rattle.std.specs.List.{list_all}
 
 -- All relations, properties, formats and modes, and both kinds of user system names (IEEE 1364-2005,
 -- 26.6, 27.14, 27.32 and 27.34).

@@ -19,6 +19,7 @@ fn fault_of(
     alloc: Global,
     text: &[u8],
 ) -> Result<Option<(AppFault, u32, u32)>, Fail> {
+    assert!(rt; text.len() < 2_147_483_648);
     let mut earlier = Vec::new(alloc);
     if let Some(name) = Short::new(b"old") {
         earlier.push(name)?;
@@ -321,23 +322,16 @@ fn unknown_names_may_be_long(rt: HostRuntime) -> Result<(), Fail> {
 // brace, and another token there as one that could not stand there.
 #[test]
 fn blocks_nest_to_a_limit(rt: HostRuntime) -> Result<(), Fail> {
-    let mut text = repeated(rt.alloc(), b"app a; proc p { ", b"if (1 == 1) {", 63, b"")?;
-    let deep = text.len() as u32;
-    text.extend_from_slice(b"if (1 == 1) ")?;
-    let mut deeper = Vec::from_slice(rt.alloc(), &text)?;
-    deeper.extend_from_slice(b"{")?;
-    let told = fault_of(&rt, rt.alloc(), &deeper)?;
-    assert_eq!(rt; told, Some((AppFault::A5, 1, deep.saturating_add(13))));
-    let mut other = Vec::from_slice(rt.alloc(), &text)?;
-    other.extend_from_slice(b";")?;
-    let told = fault_of(&rt, rt.alloc(), &other)?;
-    assert_eq!(rt; told, Some((AppFault::A2, 1, deep.saturating_add(13))));
-    let mut whole = Vec::from_slice(rt.alloc(), &text[..deep as usize])?;
-    for _ in 0..64 {
-        whole.extend_from_slice(b"}")?;
-    }
+    let open = repeated(rt.alloc(), b"app a; proc p { ", b"if (1 == 1) {", 63, b"")?;
+    let whole = repeated(rt.alloc(), &open, b"}", 64, b"")?;
     let told = fault_of(&rt, rt.alloc(), &whole)?;
     assert_eq!(rt; told, None);
+    let deeper = repeated(rt.alloc(), &open, b"if (1 == 1) {", 1, b"")?;
+    let told = fault_of(&rt, rt.alloc(), &deeper)?;
+    assert_eq!(rt; told, Some((AppFault::A5, 1, 848)));
+    let other = repeated(rt.alloc(), &open, b"if (1 == 1) ;", 1, b"")?;
+    let told = fault_of(&rt, rt.alloc(), &other)?;
+    assert_eq!(rt; told, Some((AppFault::A2, 1, 848)));
     Ok(())
 }
 
@@ -380,35 +374,66 @@ fn is_name(text: Option<&&[u8]>, name: &[u8]) -> bool {
     }
 }
 
+// `y = by_name TEXT x`
+fn is_asked(command: &Command<'_>) -> bool {
+    match command {
+        Command::Ask(Some(1), asked) => match asked.get() {
+            Order::ByName { text, scope } => {
+                matches!(text, Atom::Text(_)) && matches!(scope, Atom::Variable(0))
+            }
+            _ => false,
+        },
+        _ => false,
+    }
+}
+
+// `set x = y + 7`
+fn is_sum(command: &Command<'_>) -> bool {
+    match command {
+        Command::Set(0, first, Some(second)) => {
+            matches!(first, Atom::Variable(1)) && matches!(second, Atom::Number(7))
+        }
+        _ => false,
+    }
+}
+
+// `while (..) { }`
+fn is_loop(command: &Command<'_>) -> bool {
+    match command {
+        Command::While { body, .. } => body.is_empty(),
+        _ => false,
+    }
+}
+
+// `if (obj != null) { .. } else { .. }`
+fn is_choice(command: &Command<'_>) -> bool {
+    let Command::If { test, holds, fails } = command else {
+        return false;
+    };
+    let tested = matches!(test.left, Atom::Obj) && !test.same && matches!(test.right, Atom::Null);
+    let first = match holds.as_slice() {
+        [only] => is_sum(only),
+        _ => false,
+    };
+    let second = match fails.as_slice() {
+        [only] => is_loop(only),
+        _ => false,
+    };
+    tested && first && second
+}
+
 // The commands of the second procedure.
 fn is_tree(app: &App<'_>) -> bool {
     let Some(procedure) = app.procedures.get(1) else {
         return false;
     };
-    let commands = procedure.commands.as_slice();
-    let [
-        Command::Ask(Some(1), asked),
-        Command::If { test, holds, fails },
-        Command::Return,
-    ] = commands
-    else {
+    let [first, second, third] = procedure.commands.as_slice() else {
         return false;
     };
-    let whole = matches!(
-        asked.get(),
-        Order::ByName {
-            text: Atom::Text(_),
-            scope: Atom::Variable(0)
-        }
-    );
-    let tested = matches!(test.left, Atom::Obj) && !test.same && matches!(test.right, Atom::Null);
-    let [Command::Set(0, Atom::Variable(1), Some(Atom::Number(7)))] = holds.as_slice() else {
-        return false;
-    };
-    let [Command::While { body, .. }] = fails.as_slice() else {
-        return false;
-    };
-    whole && tested && body.is_empty() && procedure.name == b"q".as_slice()
+    procedure.name == b"q".as_slice()
+        && is_asked(first)
+        && is_choice(second)
+        && matches!(third, Command::Return)
 }
 
 #[test]

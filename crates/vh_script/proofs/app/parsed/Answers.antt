@@ -1,5 +1,5 @@
 -- What a parser reads is what the table answers.
-use Rattle.std.proofs.Common.{◌≡◌, sym, ap, ◌∙◌, subst}
+use Rattle.std.proofs.Common.{sym, ap, ◌∙◌, subst}
 use Rattle.vh_grammar.specs.Says.{Accepts}
 use Rattle.vh_script.specs.Answers.{answer}
 use Rattle.vh_script.specs.Views.{app_seen, terminals}
