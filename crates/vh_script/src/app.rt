@@ -54,7 +54,8 @@ impl<'a> Procs<'a> {
 
     // Adds a procedure.
     fn add(&mut self, name: &'a [u8], run: Run<'a>) -> Result<(), Stop>
-        ensures { let next = rows.with_procedure (procs_seen self.old) name.now (run_seen run.entry) in
+        ensures { let procs = procs_seen self.old in
+            let next = rows.with_procedure procs name.now (run_seen run.entry) in
             MatchResult result (λ u. procs_seen self.new ≡ next) (λ stop. stop ≡ Memory) }
     {
         let Run { commands, room } = run;

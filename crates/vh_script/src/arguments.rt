@@ -1,5 +1,5 @@
-//! Orders: a function for the arguments of each routine, which ensures one equation with the reading of
-//! its row.
+//! Orders: a function for the arguments of each routine, which ensures one equation with the
+//! reading of its row.
 
 ghost use Rattle.std.specs.Prelude.{◌≡◌};
 ghost use Rattle.vh_grammar.specs.Part.{act, tok, seq, two, opt, after};
@@ -33,7 +33,8 @@ fn atoms<'t, 'a>(levels: usize, env: &Env<'a>, at: At<'t, 'a>) -> Read<'t, 'a, (
 
 // `TEXT SCOPE`
 fn by_name<'t, 'a>(levels: usize, env: &Env<'a>, at: At<'t, 'a>) -> Read<'t, 'a, Order<'a>>
-    ensures { Reads order_seen levels (act rows.by_name_of (rows.atoms (env_seen env.now))) at.now result }
+    ensures { let part = act rows.by_name_of (rows.atoms (env_seen env.now)) in
+        Reads order_seen levels part at.now result }
 {
     let ((text, scope), rest) = atoms(levels, env, at)?;
     Ok((Order::ByName { text, scope }, rest))
@@ -41,7 +42,8 @@ fn by_name<'t, 'a>(levels: usize, env: &Env<'a>, at: At<'t, 'a>) -> Read<'t, 'a,
 
 // `H N`
 fn by_index<'t, 'a>(levels: usize, env: &Env<'a>, at: At<'t, 'a>) -> Read<'t, 'a, Order<'a>>
-    ensures { Reads order_seen levels (act rows.by_index_of (rows.atoms (env_seen env.now))) at.now result }
+    ensures { let part = act rows.by_index_of (rows.atoms (env_seen env.now)) in
+        Reads order_seen levels part at.now result }
 {
     let ((memory, index), rest) = atoms(levels, env, at)?;
     Ok((Order::ByIndex { memory, index }, rest))
@@ -49,7 +51,8 @@ fn by_index<'t, 'a>(levels: usize, env: &Env<'a>, at: At<'t, 'a>) -> Read<'t, 'a
 
 // `H H`
 fn compare<'t, 'a>(levels: usize, env: &Env<'a>, at: At<'t, 'a>) -> Read<'t, 'a, Order<'a>>
-    ensures { Reads order_seen levels (act rows.compare_of (rows.atoms (env_seen env.now))) at.now result }
+    ensures { let part = act rows.compare_of (rows.atoms (env_seen env.now)) in
+        Reads order_seen levels part at.now result }
 {
     let ((left, right), rest) = atoms(levels, env, at)?;
     Ok((Order::Compare(left, right), rest))
@@ -101,7 +104,8 @@ fn get_str<'t, 'a>(levels: usize, env: &Env<'a>, at: At<'t, 'a>) -> Read<'t, 'a,
 
 // `H`
 fn scan<'t, 'a>(levels: usize, env: &Env<'a>, at: At<'t, 'a>) -> Read<'t, 'a, Order<'a>>
-    ensures { Reads order_seen levels (act tree.scan (rows.atom (env_seen env.now))) at.now result }
+    ensures { let part = act tree.scan (rows.atom (env_seen env.now)) in
+        Reads order_seen levels part at.now result }
 {
     let (value, rest) = atom(env, at)?;
     Ok((Order::Scan(value), rest))
@@ -109,7 +113,8 @@ fn scan<'t, 'a>(levels: usize, env: &Env<'a>, at: At<'t, 'a>) -> Read<'t, 'a, Or
 
 // `H`
 fn free<'t, 'a>(levels: usize, env: &Env<'a>, at: At<'t, 'a>) -> Read<'t, 'a, Order<'a>>
-    ensures { Reads order_seen levels (act tree.free (rows.atom (env_seen env.now))) at.now result }
+    ensures { let part = act tree.free (rows.atom (env_seen env.now)) in
+        Reads order_seen levels part at.now result }
 {
     let (value, rest) = atom(env, at)?;
     Ok((Order::Free(value), rest))
@@ -117,7 +122,8 @@ fn free<'t, 'a>(levels: usize, env: &Env<'a>, at: At<'t, 'a>) -> Read<'t, 'a, Or
 
 // `H`
 fn cancel<'t, 'a>(levels: usize, env: &Env<'a>, at: At<'t, 'a>) -> Read<'t, 'a, Order<'a>>
-    ensures { Reads order_seen levels (act tree.cancel (rows.atom (env_seen env.now))) at.now result }
+    ensures { let part = act tree.cancel (rows.atom (env_seen env.now)) in
+        Reads order_seen levels part at.now result }
 {
     let (value, rest) = atom(env, at)?;
     Ok((Order::Cancel(value), rest))
@@ -125,7 +131,8 @@ fn cancel<'t, 'a>(levels: usize, env: &Env<'a>, at: At<'t, 'a>) -> Read<'t, 'a, 
 
 // `H`
 fn remove<'t, 'a>(levels: usize, env: &Env<'a>, at: At<'t, 'a>) -> Read<'t, 'a, Order<'a>>
-    ensures { Reads order_seen levels (act tree.remove (rows.atom (env_seen env.now))) at.now result }
+    ensures { let part = act tree.remove (rows.atom (env_seen env.now)) in
+        Reads order_seen levels part at.now result }
 {
     let (value, rest) = atom(env, at)?;
     Ok((Order::Remove(value), rest))
@@ -133,7 +140,8 @@ fn remove<'t, 'a>(levels: usize, env: &Env<'a>, at: At<'t, 'a>) -> Read<'t, 'a, 
 
 // `H`
 fn cb_info<'t, 'a>(levels: usize, env: &Env<'a>, at: At<'t, 'a>) -> Read<'t, 'a, Order<'a>>
-    ensures { Reads order_seen levels (act tree.cb_info (rows.atom (env_seen env.now))) at.now result }
+    ensures { let part = act tree.cb_info (rows.atom (env_seen env.now)) in
+        Reads order_seen levels part at.now result }
 {
     let (value, rest) = atom(env, at)?;
     Ok((Order::CbInfo(value), rest))
@@ -141,7 +149,8 @@ fn cb_info<'t, 'a>(levels: usize, env: &Env<'a>, at: At<'t, 'a>) -> Read<'t, 'a,
 
 // `TEXT`
 fn print<'t, 'a>(levels: usize, env: &Env<'a>, at: At<'t, 'a>) -> Read<'t, 'a, Order<'a>>
-    ensures { Reads order_seen levels (act tree.print (rows.atom (env_seen env.now))) at.now result }
+    ensures { let part = act tree.print (rows.atom (env_seen env.now)) in
+        Reads order_seen levels part at.now result }
 {
     let (value, rest) = atom(env, at)?;
     Ok((Order::Print(value), rest))
@@ -149,7 +158,8 @@ fn print<'t, 'a>(levels: usize, env: &Env<'a>, at: At<'t, 'a>) -> Read<'t, 'a, O
 
 // `N`
 fn set_data<'t, 'a>(levels: usize, env: &Env<'a>, at: At<'t, 'a>) -> Read<'t, 'a, Order<'a>>
-    ensures { Reads order_seen levels (act tree.set_data (rows.atom (env_seen env.now))) at.now result }
+    ensures { let part = act tree.set_data (rows.atom (env_seen env.now)) in
+        Reads order_seen levels part at.now result }
 {
     let (value, rest) = atom(env, at)?;
     Ok((Order::SetData(value), rest))

@@ -1,5 +1,6 @@
-//! Commands and blocks: a function for each production, which ensures one equation with the reading of
-//! its part. They call each other, a level deeper for each block; the commands of a block are a loop.
+//! Commands and blocks: a function for each production, which ensures one equation with the reading
+//! of its part. They call each other, a level deeper for each block; the commands of a block are a
+//! loop.
 
 ghost use Rattle.std.specs.Prelude.{◌≡◌, Option, Some, None, option_map, MatchResult, OnOk};
 ghost use Rattle.vh_grammar.specs.declared.stop.Stop.TheVariants.{Memory};
@@ -53,7 +54,8 @@ impl<'a> Run<'a> {
 
     // Adds a command.
     fn add(&mut self, next: Counted<'a>) -> Result<(), AllocError>
-        ensures { OnOk result (run_seen self.new ≡ rows.with_command (run_seen self.old) (counted_seen next.entry)) }
+        ensures { let more = rows.with_command (run_seen self.old) (counted_seen next.entry) in
+            OnOk result (run_seen self.new ≡ more) }
     {
         let Counted { command, room } = next;
         self.commands.push(command.into_inner())?;
@@ -92,7 +94,8 @@ fn set<'a>(
     first: Atom<'a>,
     second: Option<Atom<'a>>,
 ) -> Result<Boxed<Command<'a>>, Stop>
-    ensures { let made = tree.set number (atom_seen first.entry) (option_map atom_seen second.entry) in
+    ensures { let more = option_map atom_seen second.entry in
+        let made = tree.set number (atom_seen first.entry) more in
         MatchResult result (λ c. command_tree c ≡ made) (λ stop. stop ≡ Memory) }
 {
     Ok(Boxed::new(alloc, Command::Set(number, first, second))?)
@@ -105,7 +108,8 @@ fn chosen<'a>(
     holds: Items<Command<'a>>,
     fails: Run<'a>,
 ) -> Result<Counted<'a>, Stop>
-    ensures { let made = rows.choice_of (test_seen test.entry) (commands_seen holds.entry) (run_seen fails.entry) in
+    ensures { let other = run_seen fails.entry in
+        let made = rows.choice_of (test_seen test.entry) (commands_seen holds.entry) other in
         MatchResult result (λ c. counted_seen c ≡ made) (λ stop. stop ≡ Memory) }
 {
     let Run {
@@ -237,8 +241,8 @@ fn inner_block<'t, 'a>(
     }
 }
 
-/// `block`, with so many levels left for it and what stands in it, and room for so many commands. It
-/// takes stack in the levels, and not in the number of tokens.
+/// `block`, with so many levels left for it and what stands in it, and room for so many commands.
+/// It takes stack in the levels, and not in the number of tokens.
 #[cycle(blocks)]
 #[tactic(auto, unfolding(crate::specs::Grammar::nested_block))]
 pub fn nested_block<'t, 'a>(

@@ -1,4 +1,5 @@
-//! What the program performs today. What is built later gets a row here, and stands in no other place.
+//! What the program performs today. What is built later gets a row here, and stands in no other
+//! place.
 
 ghost use Rattle.std.specs.Prelude.{◌≡◌};
 ghost use Rattle.vh_script.specs.Built as spec;

@@ -1,4 +1,5 @@
-//! What decides on a token beside the grammar's rows: which rules count, and which names are in sight.
+//! What decides on a token beside the grammar's rows: which rules count, and which names are in
+//! sight.
 
 ghost use Rattle.std.specs.Prelude.{◌≡◌};
 ghost use Rattle.vh_script.specs.Env as spec;

@@ -144,10 +144,10 @@ fn refused(
     }
 }
 
-/// The script that the bytes are, in front of which scripts of these names stand; or its first fault, and
-/// where that stands. Of two faults at one place the least is answered. It takes time and memory in the
-/// number of bytes, and stack in the levels of blocks alone; a script that is refused is read up to three
-/// times more.
+/// The script that the bytes are, in front of which scripts of these names stand; or its first
+/// fault, and where that stands. Of two faults at one place the least is answered. It takes time
+/// and memory in the number of bytes, and stack in the levels of blocks alone; a script that is
+/// refused is read up to three times more.
 pub fn read_script<'a>(
     alloc: Global,
     bytes: &'a [u8],

@@ -272,7 +272,8 @@ pub fn new_name<'t, 'a>(
     names: &IndexSet<&'a [u8]>,
     at: At<'t, 'a>,
 ) -> Read<'t, 'a, &'a [u8]>
-    ensures { TakesMeaning (λ n. n.now) (words.new_name_in rules (names_seen names.now.keys)) at.now result }
+    ensures { let meaning = words.new_name_in rules (names_seen names.now.keys) in
+        TakesMeaning (λ n. n.now) meaning at.now result }
 {
     let [first, rest @ ..] = at else {
         return Err(Stop::Lost(0));
@@ -330,7 +331,8 @@ fn is_long_text(rules: AppFault, text: &[u8]) -> bool
 
 // What a name is in an atom of a procedure.
 fn procedure_word(names: &IndexSet<&[u8]>, word: &[u8]) -> Option<Atom<'static>>
-    ensures { option_map atom_seen result ≡ words.procedure_word (names_seen names.now.keys) word.now }
+    ensures { let names = names_seen names.now.keys in
+        option_map atom_seen result ≡ words.procedure_word names word.now }
 {
     if word == b"null".as_slice() {
         Some(Atom::Null)
@@ -370,7 +372,8 @@ fn atom_word(env: &Env<'_>, word: &[u8]) -> Option<Atom<'static>>
 
 // What a token is in an atom.
 fn atom_of<'a>(env: &Env<'_>, kind: Kind<'a>) -> Option<Atom<'a>>
-    ensures { option_map atom_seen result ≡ words.atom_in (env_seen env.now) (kind_seen kind.entry) }
+    ensures { let env = env_seen env.now in
+        option_map atom_seen result ≡ words.atom_in env (kind_seen kind.entry) }
 {
     match kind {
         Kind::Word(_, word) => atom_word(env, word),
@@ -500,7 +503,8 @@ fn opening_in(env: &Env<'_>, room: usize, kind: Kind<'_>) -> Option<Opening>
 
 /// Whether a command is next, where there is room for so many.
 pub fn opening_is_next(env: &Env<'_>, room: usize, at: At<'_, '_>) -> bool
-    ensures { result ≡ token_is_next (λ t. is_some (words.opening_in (env_seen env.now) room t)) at.now }
+    ensures { let env = env_seen env.now in
+        result ≡ token_is_next (λ t. is_some (words.opening_in env room t)) at.now }
 {
     match at {
         [] => false,

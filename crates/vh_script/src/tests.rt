@@ -257,8 +257,8 @@ fn repeated(
     Ok(text)
 }
 
-// What stands before a part that is repeated, the part, what stands behind it, how many of the part a
-// script has at most, and the column of the fault where it has one more.
+// What stands before a part that is repeated, the part, what stands behind it, how many of the part
+// a script has at most, and the column of the fault where it has one more.
 type Limit = (&'static [u8], &'static [u8], &'static [u8], u32, u32);
 
 static LIMITS: [Limit; 6] = [
@@ -318,8 +318,8 @@ fn unknown_names_may_be_long(rt: HostRuntime) -> Result<(), Fail> {
     Ok(())
 }
 
-// Blocks in each other: 64 are a script, of which a procedure's is the first; the 65th is refused at its
-// brace, and another token there as one that could not stand there.
+// Blocks in each other: 64 are a script, of which a procedure's is the first; the 65th is refused
+// at its brace, and another token there as one that could not stand there.
 #[test]
 fn blocks_nest_to_a_limit(rt: HostRuntime) -> Result<(), Fail> {
     let open = repeated(rt.alloc(), b"app a; proc p { ", b"if (1 == 1) {", 63, b"")?;

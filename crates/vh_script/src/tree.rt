@@ -1,10 +1,11 @@
-//! The tree of a script. Names and texts lie in the script's bytes, texts with their escapes; variables
-//! have their numbers.
+//! The tree of a script. Names and texts lie in the script's bytes, texts with their escapes;
+//! variables have their numbers.
 
 use sqlite_items::{Boxed, Items};
 use vh_base::{Format, Mode, Property, Reason, Relation, SystfKind};
 
-/// `atom = NUMBER | TEXT | "null" | NAME | "obj" | "me" | "value" | "index" | "data" | "time" | "last"`
+/// `atom = NUMBER | TEXT | "null" | NAME | "obj" | "me" | "value" | "index" | "data" | "time" |
+/// "last"`
 #[derive(Clone, Copy)]
 pub enum Atom<'a> {
     Number(u64),
