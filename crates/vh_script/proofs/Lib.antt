@@ -1,0 +1,5 @@
+mod Cutting
+mod Numbers
+mod Plain
+mod Loops
+mod Names
