@@ -1,0 +1,2 @@
+-- A round that changes nothing
+pub mod RoundsLemmas

@@ -1,0 +1,272 @@
+-- What is known of a module's objects: the values of parameters, ranges, and the faults that the first pass finds in them.
+-- (IEEE 1364-2005, 4.3, 4.9 and 4.10)
+use Rattle.std.specs.Prelude.{ℕ, ◌+◌, ◌-◌, Bool, true, false, ◌||◌, List, [], ◌∷◌, ◌++◌, length, if◌then◌else◌, nat_lt, nat_le, Option, Some, None, Ok, Err, slice_get, slice_set}
+use Rattle.std.specs.Option.{option_map}
+use Rattle.vh_base.specs.declared.faults.DesignFault.TheVariants.{N3, N11}
+use Rattle.vh_base.specs.declared.place.Place.{Place}
+use Rattle.vh_logic.specs.declared.vector.TheConstants.{MAX_WIDTH}
+use Rattle.vh_logic.specs.Vector.{Vector, width_of}
+use Rattle.vh_logic.specs.Parts.{resized}
+use Rattle.vh_ast.specs.Expressions.{ExprTree}
+use Rattle.vh_ast.specs.Declarations.{RangeTree, TypeTree}
+use Rattle.vh_nodes.specs.declared.expr.ExprNode.{ExprNode}
+use Rattle.vh_nodes.specs.declared.expr.ExprKind.TheVariants as kind
+use Rattle.vh_nodes.specs.declared.expr.Range.{Range}
+use Rattle.vh_nodes.specs.declared.object.Detail.{Detail}
+use Rattle.vh_nodes.specs.declared.object.Detail.TheVariants as detail
+use Rattle.vh_nodes.specs.declared.object.ObjectInfo.{ObjectInfo}
+use Rattle.vh_scope.specs.Names.{Names, declared_anew}
+use Rattle.vh_bind.specs.Constants.{constant}
+use Rattle.vh_bind.specs.Scopes.{Scope}
+use Rattle.vh_bind.specs.Selects.{Outcome, with_ok, with_some, number_in, most_bound}
+use Rattle.vh_bind.specs.Steps.{Fault, Nodes}
+use Rattle.vh_sites.specs.Sites as S
+use Rattle.vh_sites.specs.Sites.{Declared, SiteTree, Sites, VarType, typed, one_digit, integer_type, time_type, variable, words, named_event, code, named_block, result, argument}
+use Rattle.vh_declare.specs.declared.ranges.Measure.{Measure}
+use Rattle.vh_declare.specs.Least.{both, least, numbered}
+use Rattle.vh_declare.specs.Objects.{around_in, lone_digit, meaning_of}
+
+-- What a module sets for all that stands in it: its name, its time unit and its precision. (12.1 and 19.8)
+pub record Home : Type 0 where
+  pub name : List ℕ
+  pub unit : ℕ
+  pub precision : ℕ
+
+-- The names and objects so far, and the values of parameters, which are expressions.
+pub record Known : Type 0 where
+  pub names : Names
+  pub objects : List ObjectInfo
+  pub exprs : Nodes
+
+-- Where a constant stands: in a scope of the module.
+abbrev pub scope_in : Home → Known → List ℕ → Scope
+scope_in h k around = record {
+  names = k.names;
+  around = around;
+  top = 0;
+  top_name = h.name;
+  genvars = [];
+  objects = k.objects;
+  exprs = k.exprs;
+  routines = [];
+  unit = h.unit;
+  precision = h.precision;
+}
+
+abbrev pub scope_at : Home → Known → ℕ → Scope
+scope_at h k scope = scope_in h k (around_in k.objects scope)
+
+-- A range: both bounds are numbers from 0 to 2^31 - 1, and it has so many elements at most. (4.3.1; the limits own)
+abbrev pub span : Range → ℕ
+span r = if nat_le r.right r.left then (r.left - r.right) + 1 else (r.right - r.left) + 1
+
+abbrev pub bound : Scope → Place → ExprTree → Outcome (Option ℕ)
+bound sc place e = with_ok (constant sc 0 e) (λ v. number_in place 0 most_bound v)
+
+abbrev pub within : Place → ℕ → ℕ → ℕ → Outcome (Option Range)
+within place most left right =
+    if nat_le (span (record { left = left; right = right })) most then
+    Ok (Some (record { left = left; right = right })) else Err (N3, place)
+
+abbrev pub bounds : Scope → RangeTree → Outcome (Option ℕ × Option ℕ)
+bounds sc r = both (bound sc r.place r.left) (bound sc r.place r.right)
+
+abbrev pub range_of : Scope → ℕ → RangeTree → Outcome (Option Range)
+range_of sc most r =
+    with_ok (bounds sc r) (λ b.
+    with_some b.0 (λ left. with_some b.1 (λ right. within r.place most left right)))
+
+abbrev pub type_range : Scope → Option RangeTree → Outcome (Option Range)
+type_range sc None = Ok (Some lone_digit)
+type_range sc (Some r) = range_of sc MAX_WIDTH r
+
+-- What is known of an object once its ranges are: the bounds of its digits, its width and its sign,
+-- and how many words a memory has, from which address on.
+abbrev pub vector_measure : Bool → Range → Measure
+vector_measure signed r = record { range = r; width = span r; signed = signed; words = 0; lowest = None }
+
+abbrev pub lowest_of : Range → ℕ
+lowest_of r = if nat_le r.left r.right then r.left else r.right
+
+abbrev pub words_measure : Bool → Range → Range → Measure
+words_measure signed addresses r =
+    record { range = r; width = span r; signed = signed; words = span addresses; lowest = Some (lowest_of addresses) }
+
+abbrev pub typed_measure : Scope → TypeTree → Outcome (Option Measure)
+typed_measure sc t = with_ok (type_range sc t.range) (λ r. Ok (option_map (vector_measure t.signed) r))
+
+abbrev pub var_measure : Scope → VarType → Outcome (Option Measure)
+var_measure sc (typed t) = typed_measure sc t
+var_measure sc one_digit = Ok (Some (vector_measure false lone_digit))
+var_measure sc integer_type = Ok (Some (vector_measure true (record { left = 31; right = 0 })))
+var_measure sc time_type = Ok (Some (vector_measure false (record { left = 63; right = 0 })))
+
+abbrev pub most_words : ℕ
+most_words = 65536
+
+abbrev pub memory_measure : Scope → TypeTree → RangeTree → Outcome (Option Measure)
+memory_measure sc t r =
+    with_ok (type_range sc t.range) (λ d. with_ok (range_of sc most_words r) (λ a.
+    with_some d (λ digits. with_some a (λ addresses. Ok (Some (words_measure t.signed addresses digits))))))
+
+-- A parameter: without a range it has the width of its value, and its sign where none is written; with one its value is
+-- that of an assignment to so many digits. (4.10.1)
+abbrev pub own_value : Bool → Vector → Range × Vector
+own_value signed v =
+    (record { left = width_of v - 1; right = 0 }, resized v (width_of v) (signed || v.signed))
+
+abbrev pub ranged_value : Scope → Bool → ExprTree → Range → Outcome (Option (Range × Vector))
+ranged_value sc signed e r =
+    with_ok (constant sc (span r) e) (λ v. Ok (option_map (λ x. (r, resized x (span r) signed)) v))
+
+abbrev pub known_range : Scope → Bool → ExprTree → Option Range → Outcome (Option (Range × Vector))
+known_range sc signed e None = with_ok (constant sc 0 e) (λ v. Ok None)
+known_range sc signed e (Some r) = ranged_value sc signed e r
+
+abbrev pub typed_value : Scope → Bool → Option RangeTree → ExprTree → Outcome (Option (Range × Vector))
+typed_value sc signed None e = with_ok (constant sc 0 e) (λ v. Ok (option_map (own_value signed) v))
+typed_value sc signed (Some r) e = with_ok (range_of sc MAX_WIDTH r) (known_range sc signed e)
+
+abbrev pub parameter_value : Scope → Option TypeTree → ExprTree → Outcome (Option (Range × Vector))
+parameter_value sc None e = typed_value sc false None e
+parameter_value sc (Some t) e = typed_value sc t.signed t.range e
+
+-- Parameters need each other: each takes its value as soon as all that it needs have theirs, in as many rounds as there
+-- are sites. (4.10; the order is own)
+abbrev pub edited : ℕ → (ObjectInfo → ObjectInfo) → List ObjectInfo → Option ObjectInfo → List ObjectInfo
+edited n f os None = os
+edited n f os (Some o) = slice_set os n (f o)
+
+abbrev pub with_object : ℕ → (ObjectInfo → ObjectInfo) → List ObjectInfo → List ObjectInfo
+with_object n f os = edited n f os (slice_get os n)
+
+abbrev pub literal_node : Vector → ExprNode
+literal_node v = record { kind = kind.Literal v; width = width_of v; signed = v.signed }
+
+abbrev pub valued_object : ℕ → Vector → ObjectInfo → ObjectInfo
+valued_object e v o = record o { width = width_of v; signed = v.signed; detail = detail.Value e }
+
+abbrev pub with_value : ℕ → SiteTree → Range × Vector → Known → Known
+with_value n s v k = record {
+  names = declared_anew s.scope s.name (meaning_of s.declared n v.0) k.names;
+  objects = with_object n (valued_object (length k.exprs) v.1) k.objects;
+  exprs = k.exprs ++ literal_node v.1 ∷ [];
+}
+
+abbrev pub has_value : Detail → Bool
+has_value (detail.Value e) = true
+has_value _ = false
+
+abbrev pub valued_in : Option ObjectInfo → Bool
+valued_in None = true
+valued_in (Some o) = has_value o.detail
+
+abbrev pub is_valued : ℕ → Known → Bool
+is_valued n k = valued_in (slice_get k.objects n)
+
+abbrev pub settled_by : ℕ → SiteTree → Known → Option (Range × Vector) → Known
+settled_by n s k (Some v) = with_value n s v k
+settled_by n s k None = k
+
+abbrev pub given : Outcome (Option (Range × Vector)) → Option (Range × Vector)
+given (Ok v) = v
+given (Err fault) = None
+
+abbrev pub settled : Home → ℕ → SiteTree → Declared → Known → Known
+settled h n s (variable t value) k = k
+settled h n s (words t r) k = k
+settled h n s named_event k = k
+settled h n s (S.constant t e) k =
+    if is_valued n k then k else settled_by n s k (given (parameter_value (scope_at h k s.scope) t e))
+settled h n s (code w st) k = k
+settled h n s (named_block w) k = k
+settled h n s (result t) k = k
+settled h n s (argument d t) k = k
+
+abbrev pub settled_site : Home → ℕ → SiteTree → Known → Known
+settled_site h n s k = settled h n s s.declared k
+
+abbrev pub round : Home → Sites → Known → Known
+round h so k = numbered (settled_site h) 1 so k
+
+abbrev pub rounds : Sites → Home → Sites → Known → Known
+rounds [] h so k = k
+rounds (s ∷ more) h so k = rounds more h so (round h so k)
+
+-- The first pass over the sites: what is known, the least fault so far, whether something was passed over, since it needs a
+-- parameter that has no value, and how many words the memories have.
+pub record Checked : Type 0 where
+  pub known : Known
+  pub fault : Option Fault
+  pub passed : Bool
+  pub words : ℕ
+
+abbrev pub detail_with : Option ℕ → Detail → Detail
+detail_with None d = d
+detail_with (Some lowest) d = detail.Memory lowest
+
+abbrev pub measured_object : Measure → ObjectInfo → ObjectInfo
+measured_object m o = record o {
+  width = m.width;
+  signed = m.signed;
+  words = m.words;
+  detail = detail_with m.lowest o.detail;
+}
+
+abbrev pub with_measure : ℕ → SiteTree → Measure → Known → Known
+with_measure n s m k = record k {
+  names = declared_anew s.scope s.name (meaning_of s.declared n m.range) k.names;
+  objects = with_object n (measured_object m) k.objects;
+}
+
+abbrev pub most_objects : ℕ
+most_objects = 100000
+
+abbrev pub most_words_in_all : ℕ
+most_words_in_all = 1048576
+
+-- Above these numbers it is N11. (own)
+abbrev pub too_many : SiteTree → Bool → Option Fault
+too_many s b = if b then Some (N11, s.place) else None
+
+abbrev pub with_words : ℕ → SiteTree → Measure → Checked → Checked
+with_words n s m c = record c {
+  known = with_measure n s m c.known;
+  fault = least c.fault (too_many s (nat_lt most_words_in_all (c.words + m.words)));
+  words = c.words + m.words;
+}
+
+abbrev pub measured_by : ℕ → SiteTree → Checked → Outcome (Option Measure) → Checked
+measured_by n s c (Ok (Some m)) = with_words n s m c
+measured_by n s c (Ok None) = record c { passed = true }
+measured_by n s c (Err fault) = record c { fault = least c.fault (Some fault) }
+
+abbrev pub valued_by : Checked → Outcome (Option (Range × Vector)) → Checked
+valued_by c (Ok (Some v)) = c
+valued_by c (Ok None) = record c { passed = true }
+valued_by c (Err fault) = record c { fault = least c.fault (Some fault) }
+
+abbrev pub measured_var : Home → ℕ → SiteTree → VarType → Checked → Checked
+measured_var h n s t c = measured_by n s c (var_measure (scope_at h c.known s.scope) t)
+
+abbrev pub measured_memory : Home → ℕ → SiteTree → TypeTree → RangeTree → Checked → Checked
+measured_memory h n s t r c = measured_by n s c (memory_measure (scope_at h c.known s.scope) t r)
+
+abbrev pub measured_parameter : Home → SiteTree → Option TypeTree → ExprTree → Checked → Checked
+measured_parameter h s t e c = valued_by c (parameter_value (scope_at h c.known s.scope) t e)
+
+abbrev pub measured : Home → ℕ → SiteTree → Declared → Checked → Checked
+measured h n s (variable t value) c = measured_var h n s t c
+measured h n s (words t r) c = measured_memory h n s t r c
+measured h n s named_event c = c
+measured h n s (S.constant t e) c = measured_parameter h s t e c
+measured h n s (code w st) c = c
+measured h n s (named_block w) c = c
+measured h n s (result t) c = measured_var h n s t c
+measured h n s (argument d t) c = measured_var h n s t c
+
+abbrev pub counted : ℕ → SiteTree → Checked → Checked
+counted n s c = record c { fault = least c.fault (too_many s (nat_le most_objects n)) }
+
+abbrev pub measured_site : Home → ℕ → SiteTree → Checked → Checked
+measured_site h n s c = measured h n s s.declared (counted n s c)

@@ -1,0 +1,253 @@
+ghost use Rattle.std.specs.Prelude.{◌≡◌, ◌+◌, length, IfOk, OnOk};
+ghost use Rattle.vh_bind.specs.Steps.{Gives};
+ghost use Rattle.vh_ast.specs.Views.{expr_tree, module_tree, range_tree, type_tree};
+ghost use Rattle.vh_sites.specs.Views.{data_type_seen, site_seen, sites_seen, var_type_seen};
+ghost use Rattle.vh_declare.specs.Constants;
+ghost use Rattle.vh_declare.specs.FirstPass;
+ghost use Rattle.vh_declare.specs.Least.{numbered};
+ghost use Rattle.vh_declare.specs.Views;
+ghost use Rattle.vh_declare.specs.Views.{checked_seen, home_seen, known_seen};
+
+use crate::known::{Home, Known};
+use crate::least::{Fault, least};
+use crate::objects::{meaning_of, module_objects, named_sites, next_number};
+use crate::parameters::{Bounded, settle};
+use crate::ranges::Measure;
+use crate::standing::{memory_at, parameter_at, var_at};
+use std::alloc::Global;
+use vh_ast::{DataType, Expr, Module};
+use vh_base::{DesignFault, NoMemory, ObjId};
+use vh_bind::ElabFault;
+use vh_nodes::{Detail, ObjectInfo};
+use vh_sites::{Declared, Site, VarType};
+
+/// The first pass over the sites: what is known, the least fault so far, whether something was passed
+/// over, since it needs a parameter that has no value, and how many words the memories have.
+#[derive(Drop)]
+pub struct Checked {
+    pub known: Known,
+    pub fault: Option<Fault>,
+    pub passed: bool,
+    pub words: u64,
+}
+
+// How many objects and words a design may have.
+const MOST_OBJECTS: u32 = 100_000;
+
+const MOST_WORDS_IN_ALL: u64 = 1_048_576;
+
+// An object of this measure.
+fn measure_object(object: &mut ObjectInfo, measure: Measure)
+    ensures { object.new ≡ Constants.measured_object measure object.old }
+{
+    object.width = measure.width;
+    object.signed = measure.signed;
+    object.words = measure.words;
+    if let Some(lowest) = measure.lowest {
+        object.detail = Detail::Memory(lowest);
+    }
+}
+
+// An object takes its measure.
+fn set_measure(objects: &mut Vec<ObjectInfo>, number: u32, measure: Measure)
+    ensures { objects.new.items
+        ≡ Constants.with_object number (Constants.measured_object measure) objects.old.items }
+{
+    if let Some(object) = objects.get_mut(number as usize) {
+        measure_object(object, measure);
+    }
+}
+
+// What a fault is, where there is too much.
+fn too_many(site: &Site, is_too_many: bool) -> Option<Fault>
+    ensures { result ≡ Constants.too_many (site_seen site.now) is_too_many }
+{
+    if is_too_many {
+        Some((DesignFault::N11, site.place))
+    } else {
+        None
+    }
+}
+
+// An object has a measure, needs what has no value, or has a fault.
+fn take_measure(
+    number: u32,
+    site: &Site,
+    measure: Result<Option<Measure>, ElabFault>,
+    checked: &mut Checked,
+) -> Result<(), NoMemory>
+    ensures { Views.MeasuresBy number (site_seen site.now) (checked_seen checked.old) measure result (checked_seen checked.new) }
+{
+    match measure {
+        Ok(Some(measure)) => {
+            let meaning = meaning_of(site.declared, number, measure.range);
+            checked
+                .known
+                .names
+                .declare_anew(ObjId::new(site.scope), site.name, meaning);
+            set_measure(&mut checked.known.objects, number, measure);
+            let Some(words) = checked.words.checked_add(u64::from(measure.words)) else {
+                return Err(NoMemory);
+            };
+            checked.words = words;
+            checked.fault = least(checked.fault, too_many(site, words > MOST_WORDS_IN_ALL));
+        }
+        Ok(None) => checked.passed = true,
+        Err(ElabFault::Refused(fault, place)) => {
+            checked.fault = least(checked.fault, Some((fault, place)));
+        }
+        Err(ElabFault::NoMemory) => return Err(NoMemory),
+    }
+    Ok(())
+}
+
+// A parameter has a value, needs one that hasn't, or has a fault.
+fn take_parameter(
+    value: Result<Option<Bounded>, ElabFault>,
+    checked: &mut Checked,
+) -> Result<(), NoMemory>
+    ensures { Views.ValuesBy (checked_seen checked.old) value result (checked_seen checked.new) }
+{
+    match value {
+        Ok(Some(_)) => {}
+        Ok(None) => checked.passed = true,
+        Err(ElabFault::Refused(fault, place)) => {
+            checked.fault = least(checked.fault, Some((fault, place)));
+        }
+        Err(ElabFault::NoMemory) => return Err(NoMemory),
+    }
+    Ok(())
+}
+
+// A variable.
+fn measure_var(
+    alloc: Global,
+    home: Home,
+    number: u32,
+    site: &Site,
+    var_type: VarType,
+    checked: &mut Checked,
+) -> Result<(), NoMemory>
+    ensures { OnOk result (checked_seen checked.new
+        ≡ Constants.measured_var (home_seen home.entry) number (site_seen site.now) (var_type_seen var_type.entry) (checked_seen checked.old)) }
+{
+    let measure = var_at(alloc, home, &checked.known, site.scope, var_type);
+    take_measure(number, site, measure, checked)
+}
+
+// A memory.
+fn measure_memory(
+    alloc: Global,
+    home: Home,
+    number: u32,
+    site: &Site,
+    data_type: &DataType,
+    addresses: &vh_ast::Range,
+    checked: &mut Checked,
+) -> Result<(), NoMemory>
+    ensures { OnOk result (checked_seen checked.new
+        ≡ Constants.measured_memory (home_seen home.entry) number (site_seen site.now) (type_tree data_type.now) (range_tree addresses.now) (checked_seen checked.old)) }
+{
+    let measure = memory_at(
+        alloc,
+        home,
+        &checked.known,
+        site.scope,
+        data_type,
+        addresses,
+    );
+    take_measure(number, site, measure, checked)
+}
+
+// A parameter.
+fn measure_parameter(
+    alloc: Global,
+    home: Home,
+    site: &Site,
+    data_type: Option<&DataType>,
+    e: &Expr,
+    checked: &mut Checked,
+) -> Result<(), NoMemory>
+    ensures { OnOk result (checked_seen checked.new
+        ≡ Constants.measured_parameter (home_seen home.entry) (site_seen site.now) (data_type_seen data_type.entry) (expr_tree e.now) (checked_seen checked.old)) }
+{
+    let value = parameter_at(alloc, home, &checked.known, site.scope, data_type, e);
+    take_parameter(value, checked)
+}
+
+// One site in the first pass.
+fn measure_site(
+    alloc: Global,
+    home: Home,
+    number: u32,
+    site: &Site,
+    checked: &mut Checked,
+) -> Result<(), NoMemory>
+    ensures { OnOk result (checked_seen checked.new
+        ≡ Constants.measured_site (home_seen home.entry) number (site_seen site.now) (checked_seen checked.old)) }
+{
+    let fault = too_many(site, number >= MOST_OBJECTS);
+    checked.fault = least(checked.fault, fault);
+    match site.declared {
+        Declared::Variable(var_type, _) => {
+            measure_var(alloc, home, number, site, var_type, checked)
+        }
+        Declared::Words(data_type, addresses) => {
+            measure_memory(alloc, home, number, site, data_type, addresses, checked)
+        }
+        Declared::Constant(data_type, e) => {
+            measure_parameter(alloc, home, site, data_type, e, checked)
+        }
+        Declared::Result(var_type) => measure_var(alloc, home, number, site, var_type, checked),
+        Declared::Argument(_, var_type) => {
+            measure_var(alloc, home, number, site, var_type, checked)
+        }
+        Declared::Event | Declared::Code(_, _) | Declared::Block(_) => Ok(()),
+    }
+}
+
+// All of them.
+fn measure_sites(
+    alloc: Global,
+    home: Home,
+    sites: &[Site],
+    checked: &mut Checked,
+) -> Result<(), NoMemory>
+    ensures { OnOk result (checked_seen checked.new
+        ≡ numbered (Constants.measured_site (home_seen home.entry)) 1 (sites_seen sites.now) (checked_seen checked.old)) }
+{
+    let mut number = 1;
+    for site in sites {
+        measure_site(alloc, home, number, site, checked)?;
+        number = next_number(number)?;
+    }
+    Ok(())
+}
+
+/// The first pass: names, parameters, ranges, and their least fault.
+pub fn first_pass(
+    alloc: Global,
+    home: Home,
+    module: &Module,
+    sites: &[Site],
+) -> Result<Checked, NoMemory>
+    requires { home_seen home ≡ FirstPass.home_of (module_tree module.now) }
+    ensures { IfOk result (λ c. checked_seen c
+        ≡ FirstPass.checked (module_tree module.now) (sites_seen sites.now)) }
+{
+    let naming = named_sites(alloc, sites)?;
+    let mut known = Known {
+        names: naming.names,
+        objects: module_objects(alloc, module, sites)?,
+        exprs: Vec::new(alloc),
+    };
+    settle(alloc, home, sites, &mut known)?;
+    let mut checked = Checked {
+        known,
+        fault: naming.fault,
+        passed: false,
+        words: 0,
+    };
+    measure_sites(alloc, home, sites, &mut checked)?;
+    Ok(checked)
+}

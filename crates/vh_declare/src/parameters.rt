@@ -1,0 +1,239 @@
+ghost use Rattle.std.specs.Prelude.{◌≡◌, ◌≤◌, ◌+◌, ◌++◌, ◌∷◌, [], false, length, slice_get, Some, IfOk, OnOk};
+ghost use Rattle.vh_logic.specs.declared.vector.TheConstants.{MAX_WIDTH};
+ghost use Rattle.vh_ast.specs.Views.{expr_tree, type_tree};
+ghost use Rattle.vh_bind.specs.Steps.{Gives};
+ghost use Rattle.vh_bind.specs.Views.{scope_seen};
+ghost use Rattle.vh_sites.specs.Views.{data_type_seen, site_seen, sites_seen};
+ghost use Rattle.vh_declare.specs.Constants;
+ghost use Rattle.vh_declare.specs.Views.{home_seen, known_seen, range_seen, IsGiven};
+
+use crate::known::{Home, Known};
+use crate::objects::{meaning_of, next_number};
+use crate::ranges::{range_of, span};
+use crate::standing::parameter_at;
+use std::alloc::Global;
+use vh_ast::{DataType, Expr};
+use vh_base::{ExprId, NoMemory, ObjId};
+use vh_bind::{ElabFault, Scope, constant};
+use vh_logic::{MAX_WIDTH, Vec4, resize};
+use vh_nodes::{Detail, ExprKind, ExprNode, ObjectInfo, Range};
+use vh_sites::{Declared, Site};
+
+/// The value of a parameter, with the bounds of its digits.
+pub(crate) type Bounded = (Range, Vec4);
+
+// A value in its own width.
+fn own_value(signed: bool, value: Vec4) -> Bounded
+    ensures { result ≡ Constants.own_value signed value }
+{
+    let range = Range {
+        left: value.width() - 1,
+        right: 0,
+    };
+    (
+        range,
+        resize(&value, value.width(), signed || value.is_signed()),
+    )
+}
+
+// A value in a range.
+fn ranged_value(
+    alloc: Global,
+    scope: &Scope,
+    signed: bool,
+    e: &Expr,
+    range: Range,
+) -> Result<Option<Bounded>, ElabFault>
+    requires { Constants.span range ≤ MAX_WIDTH }
+    ensures { Gives (Constants.ranged_value (scope_seen scope.now) signed (expr_tree e.now) range) result }
+{
+    let width = span(range) as u32;
+    match constant(alloc, scope, e, width)? {
+        None => Ok(None),
+        Some(value) => Ok(Some((range, resize(&value, width, signed)))),
+    }
+}
+
+// A value, with its sign and its range as they are written.
+fn typed_value(
+    alloc: Global,
+    scope: &Scope,
+    signed: bool,
+    range: Option<&vh_ast::Range>,
+    e: &Expr,
+) -> Result<Option<Bounded>, ElabFault>
+    ensures { Gives (Constants.typed_value (scope_seen scope.now) signed (range_seen range.entry) (expr_tree e.now)) result }
+{
+    let Some(range) = range else {
+        let value = constant(alloc, scope, e, 0)?;
+        return Ok(value.map(|v| own_value(signed, v)));
+    };
+    match range_of(alloc, scope, MAX_WIDTH, range)? {
+        None => {
+            constant(alloc, scope, e, 0)?;
+            Ok(None)
+        }
+        Some(range) => ranged_value(alloc, scope, signed, e, range),
+    }
+}
+
+/// The value of a parameter with the bounds of its digits; none where it needs one that has no value
+/// (IEEE 1364-2005, 4.10.1).
+pub(crate) fn parameter_value(
+    alloc: Global,
+    scope: &Scope,
+    data_type: Option<&DataType>,
+    e: &Expr,
+) -> Result<Option<Bounded>, ElabFault>
+    ensures { Gives (Constants.parameter_value (scope_seen scope.now) (data_type_seen data_type.entry) (expr_tree e.now)) result }
+{
+    match data_type {
+        None => typed_value(alloc, scope, false, None, e),
+        Some(data_type) => {
+            typed_value(alloc, scope, data_type.signed, data_type.range.as_ref(), e)
+        }
+    }
+}
+
+// Whether an object has a value, or isn't there.
+fn is_valued(number: u32, known: &Known) -> bool
+    ensures { result ≡ Constants.is_valued number (known_seen known.now) }
+{
+    match known.objects.get(number as usize) {
+        None => true,
+        Some(object) => matches!(object.detail, Detail::Value(_)),
+    }
+}
+
+// An object of this value.
+fn value_object(object: &mut ObjectInfo, e: u32, value: Vec4)
+    ensures { object.new ≡ Constants.valued_object e value object.old }
+{
+    object.width = value.width();
+    object.signed = value.is_signed();
+    object.detail = Detail::Value(ExprId::new(e));
+}
+
+// An object takes a value.
+fn set_value(objects: &mut Vec<ObjectInfo>, number: u32, e: u32, value: Vec4)
+    ensures { objects.new.items
+        ≡ Constants.with_object number (Constants.valued_object e value) objects.old.items }
+{
+    if let Some(object) = objects.get_mut(number as usize) {
+        value_object(object, e, value);
+    }
+}
+
+// A parameter takes its value.
+fn take_value(number: u32, site: &Site, value: Bounded, known: &mut Known) -> Result<(), NoMemory>
+    ensures { OnOk result (known_seen known.new
+        ≡ Constants.with_value number (site_seen site.now) value (known_seen known.old)) }
+{
+    let (range, value) = value;
+    let Ok(e) = u32::try_from(known.exprs.len()) else {
+        return Err(NoMemory);
+    };
+    known.exprs.push(ExprNode {
+        kind: ExprKind::Literal(value),
+        width: value.width(),
+        signed: value.is_signed(),
+    })?;
+    let meaning = meaning_of(site.declared, number, range);
+    known
+        .names
+        .declare_anew(ObjId::new(site.scope), site.name, meaning);
+    set_value(&mut known.objects, number, e, value);
+    Ok(())
+}
+
+// A value, where there is one: a fault is found later.
+fn value_or_none(value: Result<Option<Bounded>, ElabFault>) -> Result<Option<Bounded>, NoMemory>
+    ensures { IsGiven value result }
+{
+    match value {
+        Ok(value) => Ok(value),
+        Err(ElabFault::Refused(_, _)) => Ok(None),
+        Err(ElabFault::NoMemory) => Err(NoMemory),
+    }
+}
+
+// The value of a site's parameter, where it can have one: a fault is found later.
+fn value_at(
+    alloc: Global,
+    home: Home,
+    site: &Site,
+    data_type: Option<&DataType>,
+    e: &Expr,
+    known: &Known,
+) -> Result<Option<Bounded>, NoMemory>
+    ensures { IfOk result (λ v. v ≡ Constants.given
+        (Constants.parameter_value (Constants.scope_at (home_seen home.entry) (known_seen known.now) site.now.scope) (data_type_seen data_type.entry) (expr_tree e.now))) }
+{
+    let value = parameter_at(alloc, home, known, site.scope, data_type, e);
+    value_or_none(value)
+}
+
+// A site's parameter takes its value, where it can; answers whether it did.
+fn settle_site(
+    alloc: Global,
+    home: Home,
+    number: u32,
+    site: &Site,
+    known: &mut Known,
+) -> Result<bool, NoMemory>
+    ensures settled { OnOk result (known_seen known.new
+        ≡ Constants.settled_site (home_seen home.entry) number (site_seen site.now) (known_seen known.old)) }
+    ensures same { result ≡ Ok false → known_seen known.new ≡ known_seen known.old }
+{
+    let Declared::Constant(data_type, e) = site.declared else {
+        return Ok(false);
+    };
+    if is_valued(number, known) {
+        return Ok(false);
+    }
+    let Some(value) = value_at(alloc, home, site, data_type, e, known)? else {
+        return Ok(false);
+    };
+    take_value(number, site, value, known)?;
+    Ok(true)
+}
+
+// One round; answers whether a parameter took its value.
+fn settle_round(
+    alloc: Global,
+    home: Home,
+    sites: &[Site],
+    known: &mut Known,
+) -> Result<bool, NoMemory>
+    ensures settled { OnOk result (known_seen known.new
+        ≡ Constants.round (home_seen home.entry) (sites_seen sites.now) (known_seen known.old)) }
+    ensures same { result ≡ Ok false → known_seen known.new ≡ known_seen known.old }
+{
+    let mut changed = false;
+    let mut number = 1;
+    for site in sites {
+        if settle_site(alloc, home, number, site, known)? {
+            changed = true;
+        }
+        number = next_number(number)?;
+    }
+    Ok(changed)
+}
+
+/// The parameters take their values, each as soon as all that it needs have theirs.
+pub(crate) fn settle(
+    alloc: Global,
+    home: Home,
+    sites: &[Site],
+    known: &mut Known,
+) -> Result<(), NoMemory>
+    ensures { OnOk result (known_seen known.new
+        ≡ Constants.rounds (sites_seen sites.now) (home_seen home.entry) (sites_seen sites.now) (known_seen known.old)) }
+{
+    for _round in sites {
+        if !settle_round(alloc, home, sites, known)? {
+            return Ok(());
+        }
+    }
+    Ok(())
+}

@@ -1,0 +1,212 @@
+ghost use Rattle.std.specs.Prelude.{◌≡◌, ◌≤◌, ◌-◌, ◌^◌, IfOk, IfSome};
+ghost use Rattle.std.specs.Option.{option_map};
+ghost use Rattle.vh_logic.specs.declared.vector.TheConstants.{MAX_WIDTH};
+ghost use Rattle.vh_ast.specs.Views.{expr_tree, range_tree, type_tree};
+ghost use Rattle.vh_bind.specs.Steps.{Gives};
+ghost use Rattle.vh_bind.specs.Views.{scope_seen};
+ghost use Rattle.vh_sites.specs.Views.{var_type_seen};
+ghost use Rattle.vh_declare.specs.Least;
+ghost use Rattle.vh_declare.specs.Constants;
+
+use crate::least::lesser;
+use crate::objects::LONE_DIGIT;
+use std::alloc::Global;
+use vh_ast::{DataType, Expr};
+use vh_base::{DesignFault, Place};
+use vh_bind::{ElabFault, Scope, constant, number_in};
+use vh_logic::MAX_WIDTH;
+use vh_nodes::Range;
+use vh_sites::VarType;
+
+// The greatest bound.
+const MOST_BOUND: u64 = 0x7fff_ffff;
+
+/// How many words a memory may have.
+pub(crate) const MOST_WORDS: u32 = 65_536;
+
+/// How many elements a range has.
+pub(crate) fn span(range: Range) -> u64
+    ensures { result ≡ Constants.span range }
+{
+    u64::from(range.left.abs_diff(range.right)) + 1
+}
+
+// One bound of a range.
+fn bound(alloc: Global, scope: &Scope, place: Place, e: &Expr) -> Result<Option<u64>, ElabFault>
+    ensures value { Gives (Constants.bound (scope_seen scope.now) place (expr_tree e.now)) result }
+    ensures most { IfOk result (λ o. IfSome o (λ n. n ≤ 2 ^ 31 - 1)) }
+{
+    let value = constant(alloc, scope, e, 0)?;
+    number_in(place, 0, MOST_BOUND, value)
+}
+
+// Both bounds, or the lesser of their faults.
+fn bounds(
+    alloc: Global,
+    scope: &Scope,
+    range: &vh_ast::Range,
+) -> Result<(Option<u64>, Option<u64>), ElabFault>
+    ensures value { Gives (Constants.bounds (scope_seen scope.now) (range_tree range.now)) result }
+    ensures left { IfOk result (λ b. IfSome b.0 (λ n. n ≤ 2 ^ 31 - 1)) }
+    ensures right { IfOk result (λ b. IfSome b.1 (λ n. n ≤ 2 ^ 31 - 1)) }
+{
+    let left = bound(alloc, scope, range.place, &range.left);
+    let right = bound(alloc, scope, range.place, &range.right);
+    match left {
+        Ok(left) => match right {
+            Ok(right) => Ok((left, right)),
+            Err(fault) => Err(fault),
+        },
+        Err(ElabFault::NoMemory) => Err(ElabFault::NoMemory),
+        Err(ElabFault::Refused(f, p)) => match right {
+            Ok(_) => Err(ElabFault::Refused(f, p)),
+            Err(ElabFault::NoMemory) => Err(ElabFault::NoMemory),
+            Err(ElabFault::Refused(g, q)) => {
+                let (fault, place) = lesser((f, p), (g, q));
+                Err(ElabFault::Refused(fault, place))
+            }
+        },
+    }
+}
+
+// A range of so many elements at most.
+fn within(place: Place, most: u32, left: u64, right: u64) -> Result<Option<Range>, ElabFault>
+    requires left { left ≤ 2 ^ 31 - 1 }
+    requires right { right ≤ 2 ^ 31 - 1 }
+    ensures value { Gives (Constants.within place most left right) result }
+    ensures most { IfOk result (λ o. IfSome o (λ r. Constants.span r ≤ most)) }
+{
+    let range = Range {
+        left: left as u32,
+        right: right as u32,
+    };
+    if span(range) > u64::from(most) {
+        return Err(ElabFault::Refused(DesignFault::N3, place));
+    }
+    Ok(Some(range))
+}
+
+/// A range; none where it needs a parameter that has no value (IEEE 1364-2005, 4.3.1).
+pub(crate) fn range_of(
+    alloc: Global,
+    scope: &Scope,
+    most: u32,
+    range: &vh_ast::Range,
+) -> Result<Option<Range>, ElabFault>
+    ensures value { Gives (Constants.range_of (scope_seen scope.now) most (range_tree range.now)) result }
+    ensures most { IfOk result (λ o. IfSome o (λ r. Constants.span r ≤ most)) }
+{
+    let (left, right) = bounds(alloc, scope, range)?;
+    let Some(left) = left else {
+        return Ok(None);
+    };
+    let Some(right) = right else {
+        return Ok(None);
+    };
+    within(range.place, most, left, right)
+}
+
+/// The range of a type: one digit where none is written.
+pub(crate) fn type_range(
+    alloc: Global,
+    scope: &Scope,
+    data_type: &DataType,
+) -> Result<Option<Range>, ElabFault>
+    ensures value { Gives (Constants.type_range (scope_seen scope.now) (type_tree data_type.now).range) result }
+    ensures most { IfOk result (λ o. IfSome o (λ r. Constants.span r ≤ MAX_WIDTH)) }
+{
+    match &data_type.range {
+        None => Ok(Some(LONE_DIGIT)),
+        Some(range) => range_of(alloc, scope, MAX_WIDTH, range),
+    }
+}
+
+/// What is known of an object once its ranges are: the bounds of its digits, its width and its sign,
+/// and how many words a memory has, from which address on.
+#[derive(Clone, Copy)]
+pub(crate) struct Measure {
+    pub(crate) range: Range,
+    pub(crate) width: u32,
+    pub(crate) signed: bool,
+    pub(crate) words: u32,
+    pub(crate) lowest: Option<u32>,
+}
+
+// That of a vector.
+fn vector_measure(signed: bool, range: Range) -> Measure
+    requires { Constants.span range ≤ MAX_WIDTH }
+    ensures { result ≡ Constants.vector_measure signed range }
+{
+    Measure {
+        range,
+        width: span(range) as u32,
+        signed,
+        words: 0,
+        lowest: None,
+    }
+}
+
+// That of a memory with these addresses.
+fn words_measure(signed: bool, addresses: Range, range: Range) -> Measure
+    requires digits { Constants.span range ≤ MAX_WIDTH }
+    requires words { Constants.span addresses ≤ 65536 }
+    ensures { result ≡ Constants.words_measure signed addresses range }
+{
+    Measure {
+        range,
+        width: span(range) as u32,
+        signed,
+        words: span(addresses) as u32,
+        lowest: Some(addresses.left.min(addresses.right)),
+    }
+}
+
+// That of a type.
+fn typed_measure(
+    alloc: Global,
+    scope: &Scope,
+    data_type: &DataType,
+) -> Result<Option<Measure>, ElabFault>
+    ensures { Gives (Constants.typed_measure (scope_seen scope.now) (type_tree data_type.now)) result }
+{
+    match type_range(alloc, scope, data_type)? {
+        None => Ok(None),
+        Some(range) => Ok(Some(vector_measure(data_type.signed, range))),
+    }
+}
+
+/// That of a variable.
+pub(crate) fn var_measure(
+    alloc: Global,
+    scope: &Scope,
+    var_type: VarType,
+) -> Result<Option<Measure>, ElabFault>
+    ensures { Gives (Constants.var_measure (scope_seen scope.now) (var_type_seen var_type.entry)) result }
+{
+    match var_type {
+        VarType::Typed(data_type) => typed_measure(alloc, scope, data_type),
+        VarType::OneDigit => Ok(Some(vector_measure(false, LONE_DIGIT))),
+        VarType::Integer => Ok(Some(vector_measure(true, Range { left: 31, right: 0 }))),
+        VarType::Time => Ok(Some(vector_measure(false, Range { left: 63, right: 0 }))),
+    }
+}
+
+/// That of a memory.
+pub(crate) fn memory_measure(
+    alloc: Global,
+    scope: &Scope,
+    data_type: &DataType,
+    addresses: &vh_ast::Range,
+) -> Result<Option<Measure>, ElabFault>
+    ensures { Gives (Constants.memory_measure (scope_seen scope.now) (type_tree data_type.now) (range_tree addresses.now)) result }
+{
+    let digits = type_range(alloc, scope, data_type)?;
+    let addresses = range_of(alloc, scope, MOST_WORDS, addresses)?;
+    let Some(digits) = digits else {
+        return Ok(None);
+    };
+    let Some(addresses) = addresses else {
+        return Ok(None);
+    };
+    Ok(Some(words_measure(data_type.signed, addresses, digits)))
+}

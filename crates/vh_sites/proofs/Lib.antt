@@ -1,0 +1,2 @@
+-- What a statement of the code is seen as
+pub mod TreesLemmas
