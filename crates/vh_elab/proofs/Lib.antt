@@ -1,0 +1,2 @@
+-- The rules of a design as a test
+pub mod FittingLemmas

@@ -1,0 +1,13 @@
+use Rattle.std.proofs.Common.{◌≡◌, drop}
+use Rattle.vh_bind.specs.Nodes.{AreSound}
+use Rattle.vh_sites.specs.Views.{sites_seen}
+use Rattle.vh_elab.specs.Coded.{statements_coded, statements_from}
+use Rattle.vh_elab.specs.Views.{coding_seen, ready_seen}
+use Rattle.vh_elab.proofs.second_pass.code_statements.Given as goal
+
+-- Those so far, with those that are left, are all of them.
+abbrev pub invariant-loop-site : goal.invariant-loop-site
+invariant-loop-site l =
+    (statements_from (ready_seen l.ready) l.number (sites_seen (drop l.site-index l.sites)) (coding_seen l.coding)
+    ≡ statements_coded (ready_seen l.ready) (sites_seen l.sites) (coding_seen l.fn.coding))
+    × AreSound (ready_seen l.ready).objects (ready_seen l.ready).home.precision (coding_seen l.coding).added.exprs

@@ -1,0 +1,346 @@
+use std::alloc::Global;
+use std::fmt::Write;
+use std::process::Abort;
+use std::test::Fail;
+use vh_base::{ObjId, Place, ProcId};
+use vh_code::Operation;
+use vh_design::Design;
+use vh_elab::{Elaboration, elaborate};
+use vh_lex::{Lexer, Token};
+use vh_parse_items::parse;
+
+// What comes of tokens.
+fn of_tokens(alloc: Global, tokens: &[Token]) -> Result<Elaboration, &'static str> {
+    let after = Place {
+        file: 1,
+        line: 1,
+        column: 1,
+    };
+    let Ok(source) = parse(alloc, tokens, after) else {
+        return Err("no source");
+    };
+    match elaborate(alloc, &source) {
+        Ok(elaboration) => Ok(elaboration),
+        Err(_) => Err("no memory"),
+    }
+}
+
+// What comes of a text.
+fn of_text(alloc: Global, text: &[u8]) -> Result<Elaboration, &'static str> {
+    let Ok(mut lexer) = Lexer::new(alloc) else {
+        return Err("no memory");
+    };
+    if text.len() > 1000 || lexer.file(alloc, 1, text).is_err() {
+        return Err("no tokens");
+    }
+    of_tokens(alloc, lexer.tokens().as_slice())
+}
+
+// An object: its name, its width, whether it is signed, and how many words it has.
+fn push_object(line: &mut String, design: &Design, number: u32) -> Result<(), Fail> {
+    let id = ObjId::new(number);
+    if number >= design.counts().objects {
+        return Ok(());
+    }
+    let object = design.object(id);
+    for byte in object.name.as_slice() {
+        line.push(*byte as char)?;
+    }
+    write!(line, ":{}", object.width)?;
+    if object.signed {
+        line.push('s')?;
+    }
+    if object.words > 0 {
+        write!(line, "x{}", object.words)?;
+    }
+    line.push(' ')?;
+    Ok(())
+}
+
+// A process: that of a first value, or of a construct.
+fn push_process(line: &mut String, design: &Design, number: u32) -> Result<(), Fail> {
+    let id = ProcId::new(u64::from(number));
+    if number >= design.counts().processes {
+        return Ok(());
+    }
+    let code = design.code(id);
+    match code.instructions.as_slice().last() {
+        Some(last) => {
+            let letter = match last.operation {
+                Operation::Initial { .. } => 'V',
+                _ => 'C',
+            };
+            line.push(letter)?;
+        }
+        None => line.push('?')?,
+    }
+    Ok(())
+}
+
+fn push_design(line: &mut String, design: &Design) -> Result<(), Fail> {
+    let counts = design.counts();
+    for number in 0..counts.objects {
+        push_object(line, design, number)?;
+    }
+    line.push('|')?;
+    for number in 0..counts.processes {
+        push_process(line, design, number)?;
+    }
+    Ok(())
+}
+
+// What comes of a text in one line: the objects of its design, and a letter for each process; or the
+// fault and its column; or `later`.
+fn shown(alloc: Global, text: &[u8]) -> Result<String, Fail> {
+    let mut line = String::new(alloc);
+    match of_text(alloc, text) {
+        Ok(Elaboration::Made(design)) => push_design(&mut line, &design)?,
+        Ok(Elaboration::Refused(fault, place)) => {
+            write!(line, "{fault:?} {}:{}", place.line, place.column)?;
+        }
+        Ok(Elaboration::Later) => line.push_str("later")?,
+        Err(word) => line.push_str(word)?,
+    }
+    Ok(line)
+}
+
+fn check_all(rt: &impl Abort, alloc: Global, rows: &[(&[u8], &str)]) -> Result<(), Fail> {
+    for (text, line) in rows {
+        let told = shown(alloc, text)?;
+        assert_eq!(rt; told.as_str(), *line);
+    }
+    Ok(())
+}
+
+// Faults, with their places.
+static FAULTS: [(&[u8], &str); 38] = [
+    (b"module m; initial a = 1; endmodule", "N1 1:19"),
+    (b"module m; reg a; initial a = b; endmodule", "N1 1:30"),
+    (b"module m; reg [w:0] a; endmodule", "N1 1:16"),
+    (b"module m; parameter P = Q; endmodule", "N1 1:25"),
+    (b"module m; initial t; endmodule", "N1 1:19"),
+    (b"module m; reg a; initial a; endmodule", "N1 1:26"),
+    (
+        b"module m; reg [7:0] r [0:3]; initial r = 1; endmodule",
+        "N1 1:38",
+    ),
+    (
+        b"module m; reg a; initial begin : b end initial a = b; endmodule",
+        "N1 1:52",
+    ),
+    (
+        b"module m; function f; input x; f = x; endfunction initial disable f; endmodule",
+        "N1 1:67",
+    ),
+    (b"module m; reg a = q; initial a = 1; endmodule", "N1 1:19"),
+    (b"module top; reg [3:0] a; reg a; endmodule", "N2 1:30"),
+    (
+        b"module m; task t; input a; reg a; ; endtask endmodule",
+        "N2 1:32",
+    ),
+    (b"module m; reg a; task a; ; endtask endmodule", "N2 1:23"),
+    (
+        b"module m; parameter P = 1; localparam P = 2; endmodule",
+        "N2 1:39",
+    ),
+    (
+        b"module m; initial begin : b end initial begin : b end endmodule",
+        "N2 1:49",
+    ),
+    (
+        b"module m; function f; input f; f = 1; endfunction endmodule",
+        "N2 1:29",
+    ),
+    (b"module m #(parameter P = 1); reg P; endmodule", "N2 1:34"),
+    (b"module m; reg [64:0] a; endmodule", "N3 1:15"),
+    (b"module m; reg [-1:0] a; endmodule", "N3 1:15"),
+    (b"module m; reg [1'bx:0] a; endmodule", "N3 1:15"),
+    (b"module m; reg [7:0] a [0:65536]; endmodule", "N3 1:23"),
+    (b"module m; parameter [64:0] P = 1; endmodule", "N3 1:21"),
+    (
+        b"module m; task t; input [64:0] a; ; endtask endmodule",
+        "N3 1:25",
+    ),
+    (
+        b"module m; function [64:0] f; input a; f = a; endfunction endmodule",
+        "N3 1:20",
+    ),
+    (
+        b"module m; initial begin : b reg [64:0] a; end endmodule",
+        "N3 1:33",
+    ),
+    (b"module m; reg a; reg [a:0] b; endmodule", "N4 1:23"),
+    (b"module m; parameter P = m.Q; endmodule", "N4 1:25"),
+    (b"module m; reg [$time:0] a; endmodule", "N4 1:16"),
+    (
+        b"module m; function f; input x; f = x; endfunction parameter P = f(1); endmodule",
+        "N4 1:65",
+    ),
+    (
+        b"module m; parameter P = 1; initial P = 2; endmodule",
+        "N5 1:36",
+    ),
+    (
+        b"module m; reg a, b; initial @(a + b) ; endmodule",
+        "N6 1:31",
+    ),
+    (
+        b"module m; reg a [0:1]; initial @(a) ; endmodule",
+        "N6 1:34",
+    ),
+    (
+        b"module m; task t; input a; ; endtask initial t; endmodule",
+        "N7 1:46",
+    ),
+    (
+        b"module m; reg a; function f; input x; f = x; endfunction initial a = f(1, 2); endmodule",
+        "N7 1:70",
+    ),
+    (b"module m; initial $foo; endmodule", "N10 1:19"),
+    (
+        b"module m; reg a; initial $finish(a); endmodule",
+        "N10 1:26",
+    ),
+    (b"module m; initial $display(\"%d\"); endmodule", "N10 1:19"),
+    (b"", "N9 1:1"),
+];
+
+#[test]
+fn faults(rt: HostRuntime) -> Result<(), Fail> {
+    check_all(&rt, rt.alloc(), &FAULTS)
+}
+
+// Of two faults the least: by pass, and in a pass by place.
+static TWO_FAULTS: [(&[u8], &str); 12] = [
+    (
+        b"module m; initial a = 1; reg [64:0] b; endmodule",
+        "N3 1:30",
+    ),
+    (b"module m; initial a = 1; reg b, b; endmodule", "N2 1:33"),
+    (
+        b"module m; parameter P = q; reg [64:0] b; endmodule",
+        "N1 1:25",
+    ),
+    (b"module m; reg [q:-1] b; endmodule", "N3 1:15"),
+    (b"module m; reg [q:r] b; endmodule", "N1 1:16"),
+    (b"module m; reg [64:0] b; reg b; endmodule", "N3 1:15"),
+    (
+        b"module m; initial begin : b reg x = y; z = 1; end endmodule",
+        "N1 1:37",
+    ),
+    (
+        b"module m; initial begin z = 1; begin : b reg x = y; end end endmodule",
+        "N1 1:25",
+    ),
+    (
+        b"module m; initial begin : b reg x = y; x = 1; end endmodule",
+        "N1 1:37",
+    ),
+    (b"module m; reg a = q; initial r = 1; endmodule", "N1 1:19"),
+    (
+        b"module m; reg [P:0] a; parameter P = q; endmodule",
+        "N1 1:38",
+    ),
+    (
+        b"module m; reg [P:0] a [P:0]; parameter Q = P; parameter P = q; endmodule",
+        "N1 1:61",
+    ),
+];
+
+#[test]
+fn two_faults(rt: HostRuntime) -> Result<(), Fail> {
+    check_all(&rt, rt.alloc(), &TWO_FAULTS)
+}
+
+// What comes later.
+static LATER: [(&[u8], &str); 13] = [
+    (b"module m; wire w; endmodule", "later"),
+    (b"module m(a); input a; endmodule", "later"),
+    (b"module m; reg a; wire b = a; endmodule", "later"),
+    (b"module m; assign a = 1; endmodule", "later"),
+    (b"module m; genvar i; endmodule", "later"),
+    (b"module m; if (1) reg a; endmodule", "later"),
+    (b"module m; n u(); endmodule", "later"),
+    (b"module m; and (a, b, c); endmodule", "later"),
+    (b"module m; endmodule module n; endmodule", "later"),
+    (b"module m; reg a; initial force a = 1; endmodule", "later"),
+    (
+        b"module m; reg a; initial begin assign a = 1; deassign a; end endmodule",
+        "later",
+    ),
+    (
+        b"module m; reg a; function f; input x; output y; f = x; endfunction initial a = 1; endmodule",
+        "later",
+    ),
+    (
+        b"module m; parameter P = Q; parameter Q = P; endmodule",
+        "later",
+    ),
+];
+
+#[test]
+fn what_comes_later(rt: HostRuntime) -> Result<(), Fail> {
+    check_all(&rt, rt.alloc(), &LATER)
+}
+
+// Designs.
+static MADE: [(&[u8], &str); 14] = [
+    (b"module m; endmodule", "m:1 |"),
+    (
+        b"module m; reg a; reg signed [7:0] b; integer i; time t; endmodule",
+        "m:1 a:1 b:8s i:32s t:64 |",
+    ),
+    (
+        b"module m; reg [3:0] r [7:4], s; endmodule",
+        "m:1 r:4x4 s:4 |",
+    ),
+    (
+        b"module m; event e; initial ; always ; endmodule",
+        "m:1 e:1 :1 :1 |CC",
+    ),
+    (
+        b"module m; parameter P = 4; parameter Q = 3'b1; parameter signed R = 3'b1; parameter signed [7:0] S = P; endmodule",
+        "m:1 P:32s Q:3 R:3s S:8s |",
+    ),
+    (
+        b"module m #(parameter [3:0] P = 1, Q = 2); endmodule",
+        "m:1 P:4 Q:4 |",
+    ),
+    (
+        b"module m; parameter A = B + 1; parameter B = C + 1; parameter C = 1; reg [A:0] a; endmodule",
+        "m:1 A:32s B:32s C:32s a:4 |",
+    ),
+    (
+        b"module m; parameter [7:0] P = 255; parameter [P[3:2]:0] Q = 0; endmodule",
+        "m:1 P:8 Q:4 |",
+    ),
+    (
+        b"module m; reg a = 1; initial begin : b integer i = 2; i = 3; end reg c = 0; endmodule",
+        "m:1 a:1 :1 b:1 i:32s c:1 |VCVV",
+    ),
+    (
+        b"module m; task t; input [3:0] x; output y; reg z; begin : w reg v; end endtask endmodule",
+        "m:1 t:1 x:4 y:1 z:1 w:1 v:1 |",
+    ),
+    (
+        b"module m; function [7:0] f; input integer x; f = x; endfunction function g; input x; g = x; endfunction endmodule",
+        "m:1 f:1 f:8 x:32s g:1 g:1 x:1 |",
+    ),
+    (
+        b"module m; initial if (1) begin : b reg x; end else begin : c reg x; end endmodule",
+        "m:1 :1 b:1 x:1 c:1 x:1 |C",
+    ),
+    (
+        b"module m; initial case (1) 0: begin : b end default: fork : c join endcase endmodule",
+        "m:1 :1 b:1 c:1 |C",
+    ),
+    (
+        b"module m; generate reg a; endgenerate endmodule",
+        "m:1 a:1 |",
+    ),
+];
+
+#[test]
+fn designs(rt: HostRuntime) -> Result<(), Fail> {
+    check_all(&rt, rt.alloc(), &MADE)
+}
