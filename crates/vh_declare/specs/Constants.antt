@@ -15,7 +15,7 @@ use Rattle.vh_nodes.specs.declared.expr.Range.{Range}
 use Rattle.vh_nodes.specs.declared.object.Detail.{Detail}
 use Rattle.vh_nodes.specs.declared.object.Detail.TheVariants as detail
 use Rattle.vh_nodes.specs.declared.object.ObjectInfo.{ObjectInfo}
-use Rattle.vh_scope.specs.Names.{Names, declared_anew}
+use Rattle.vh_scope.specs.Names.{Names}
 use Rattle.vh_bind.specs.Constants.{constant}
 use Rattle.vh_bind.specs.Scopes.{Scope}
 use Rattle.vh_bind.specs.Selects.{Outcome, with_ok, with_some, number_in, most_bound}
@@ -24,7 +24,7 @@ use Rattle.vh_sites.specs.Sites as S
 use Rattle.vh_sites.specs.Sites.{Declared, SiteTree, Sites, VarType, typed, one_digit, integer_type, time_type, variable, words, named_event, code, named_block, result, argument}
 use Rattle.vh_declare.specs.declared.ranges.Measure.{Measure}
 use Rattle.vh_declare.specs.Least.{both, least, numbered}
-use Rattle.vh_declare.specs.Objects.{around_in, lone_digit, meaning_of}
+use Rattle.vh_declare.specs.Objects.{around_in, lone_digit, with_bounds}
 
 -- What a module sets for all that stands in it: its name, its time unit and its precision. (12.1 and 19.8)
 pub record Home : Type 0 where
@@ -148,7 +148,7 @@ valued_object e v o = record o { width = width_of v; signed = v.signed; detail =
 
 abbrev pub with_value : ℕ → SiteTree → Range × Vector → Known → Known
 with_value n s v k = record {
-  names = declared_anew s.scope s.name (meaning_of s.declared n v.0) k.names;
+  names = with_bounds n s v.0 k.names;
   objects = with_object n (valued_object (length k.exprs) v.1) k.objects;
   exprs = k.exprs ++ literal_node v.1 ∷ [];
 }
@@ -215,7 +215,7 @@ measured_object m o = record o {
 
 abbrev pub with_measure : ℕ → SiteTree → Measure → Known → Known
 with_measure n s m k = record k {
-  names = declared_anew s.scope s.name (meaning_of s.declared n m.range) k.names;
+  names = with_bounds n s m.range k.names;
   objects = with_object n (measured_object m) k.objects;
 }
 

@@ -1,6 +1,6 @@
 -- The objects of a module, and their names: the module is number 0, and each site has the number of its place. What
 -- depends on constants comes later: until then each is one digit wide. (IEEE 1364-2005, 12.7 and 26.6)
-use Rattle.std.specs.Prelude.{ℕ, ◌+◌, Bool, true, false, List, [], ◌∷◌, if◌then◌else◌, Option, Some, None, is_some, slice_get}
+use Rattle.std.specs.Prelude.{ℕ, ◌+◌, Bool, true, false, List, [], ◌∷◌, if◌then◌else◌, ◌==◌, Option, Some, None, is_some, slice_get}
 use Rattle.std.specs.Option.{option_and_then}
 use Rattle.vh_base.specs.declared.faults.DesignFault.TheVariants.{N2}
 use Rattle.vh_ast.specs.declared.stmt.BlockWord.{BlockWord}
@@ -14,7 +14,7 @@ use Rattle.vh_nodes.specs.declared.object.Kind.TheVariants as of
 use Rattle.vh_nodes.specs.declared.object.ObjectInfo.{ObjectInfo}
 use Rattle.vh_scope.specs.declared.names.Meaning.{Meaning}
 use Rattle.vh_scope.specs.declared.names.Meaning.TheVariants as means
-use Rattle.vh_scope.specs.Names.{Names, meaning_in, declared}
+use Rattle.vh_scope.specs.Names.{Names, meaning_in, declared, declared_anew}
 use Rattle.vh_bind.specs.Steps.{Fault}
 use Rattle.vh_sites.specs.declared.site.CodeWord.{CodeWord}
 use Rattle.vh_sites.specs.declared.site.CodeWord.TheVariants as word
@@ -119,6 +119,18 @@ meaning_of (code w s) n r = means.Object n r
 meaning_of (named_block w) n r = means.Object n r
 meaning_of (result t) n r = means.Result n r
 meaning_of (argument d t) n r = means.Object n r
+
+-- Once the bounds of a site's digits are known its name stands for them; a name that its scope has twice goes on standing
+-- for the first of the two.
+abbrev pub is_object : ℕ → Option Meaning → Bool
+is_object n (Some (means.Object id r)) = id == n
+is_object n (Some (means.Result id r)) = id == n
+is_object n (Some _) = false
+is_object n None = false
+
+abbrev pub with_bounds : ℕ → SiteTree → Range → Names → Names
+with_bounds n s r ns =
+    if is_object n (meaning_in ns s.scope s.name) then declared_anew s.scope s.name (meaning_of s.declared n r) ns else ns
 
 abbrev pub lone_digit : Range
 lone_digit = record { left = 0; right = 0 }

@@ -10,13 +10,13 @@ ghost use Rattle.vh_declare.specs.Views.{checked_seen, home_seen, known_seen};
 
 use crate::known::{Home, Known};
 use crate::least::{Fault, least};
-use crate::objects::{meaning_of, module_objects, named_sites, next_number};
+use crate::objects::{module_objects, named_sites, next_number, set_bounds};
 use crate::parameters::{Bounded, settle};
 use crate::ranges::Measure;
 use crate::standing::{memory_at, parameter_at, var_at};
 use std::alloc::Global;
 use vh_ast::{DataType, Expr, Module};
-use vh_base::{DesignFault, NoMemory, ObjId};
+use vh_base::{DesignFault, NoMemory};
 use vh_bind::ElabFault;
 use vh_nodes::{Detail, ObjectInfo};
 use vh_sites::{Declared, Site, VarType};
@@ -80,11 +80,7 @@ fn take_measure(
 {
     match measure {
         Ok(Some(measure)) => {
-            let meaning = meaning_of(site.declared, number, measure.range);
-            checked
-                .known
-                .names
-                .declare_anew(ObjId::new(site.scope), site.name, meaning);
+            set_bounds(number, site, measure.range, &mut checked.known.names);
             set_measure(&mut checked.known.objects, number, measure);
             let Some(words) = checked.words.checked_add(u64::from(measure.words)) else {
                 return Err(NoMemory);

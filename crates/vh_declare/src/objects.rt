@@ -164,8 +164,8 @@ fn is_named(declared: Declared) -> bool
     }
 }
 
-/// What a site's name stands for, by its number and the bounds of its digits.
-pub(crate) fn meaning_of(declared: Declared, number: u32, range: Range) -> Meaning
+// What a site's name stands for, by its number and the bounds of its digits.
+fn meaning_of(declared: Declared, number: u32, range: Range) -> Meaning
     ensures { result ≡ Objects.meaning_of (declared_seen declared.entry) number range }
 {
     let id = ObjId::new(number);
@@ -178,6 +178,28 @@ pub(crate) fn meaning_of(declared: Declared, number: u32, range: Range) -> Meani
         | Declared::Code(_, _)
         | Declared::Block(_)
         | Declared::Argument(_, _) => Meaning::Object { id, range },
+    }
+}
+
+// Whether a name stands for this object.
+fn is_object(number: u32, meaning: Option<Meaning>) -> bool
+    ensures { result ≡ Objects.is_object number meaning }
+{
+    match meaning {
+        Some(Meaning::Object { id, range: _ } | Meaning::Result { id, range: _ }) => {
+            id.number() == number
+        }
+        Some(Meaning::Genvar | Meaning::Blocks | Meaning::Gate) | None => false,
+    }
+}
+
+/// A site's name stands for these bounds, unless it stands for an earlier declaration.
+pub(crate) fn set_bounds(number: u32, site: &Site, range: Range, names: &mut Names)
+    ensures { names.new ≡ Objects.with_bounds number (site_seen site.now) range names.old }
+{
+    let scope = ObjId::new(site.scope);
+    if is_object(number, names.meaning(scope, site.name)) {
+        names.declare_anew(scope, site.name, meaning_of(site.declared, number, range));
     }
 }
 

@@ -8,12 +8,12 @@ ghost use Rattle.vh_declare.specs.Constants;
 ghost use Rattle.vh_declare.specs.Views.{home_seen, known_seen, range_seen, IsGiven};
 
 use crate::known::{Home, Known};
-use crate::objects::{meaning_of, next_number};
+use crate::objects::{next_number, set_bounds};
 use crate::ranges::{range_of, span};
 use crate::standing::parameter_at;
 use std::alloc::Global;
 use vh_ast::{DataType, Expr};
-use vh_base::{ExprId, NoMemory, ObjId};
+use vh_base::{ExprId, NoMemory};
 use vh_bind::{ElabFault, Scope, constant};
 use vh_logic::{MAX_WIDTH, Vec4, resize};
 use vh_nodes::{Detail, ExprKind, ExprNode, ObjectInfo, Range};
@@ -138,10 +138,7 @@ fn take_value(number: u32, site: &Site, value: Bounded, known: &mut Known) -> Re
         width: value.width(),
         signed: value.is_signed(),
     })?;
-    let meaning = meaning_of(site.declared, number, range);
-    known
-        .names
-        .declare_anew(ObjId::new(site.scope), site.name, meaning);
+    set_bounds(number, site, range, &mut known.names);
     set_value(&mut known.objects, number, e, value);
     Ok(())
 }

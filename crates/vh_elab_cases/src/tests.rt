@@ -211,7 +211,7 @@ fn faults(rt: HostRuntime) -> Result<(), Fail> {
 }
 
 // Of two faults the least: by pass, and in a pass by place.
-static TWO_FAULTS: [(&[u8], &str); 12] = [
+static TWO_FAULTS: [(&[u8], &str); 14] = [
     (
         b"module m; initial a = 1; reg [64:0] b; endmodule",
         "N3 1:30",
@@ -244,6 +244,14 @@ static TWO_FAULTS: [(&[u8], &str); 12] = [
     (
         b"module m; reg [P:0] a [P:0]; parameter Q = P; parameter P = q; endmodule",
         "N1 1:61",
+    ),
+    (
+        b"module m; reg P; reg [P:0] b; parameter P = 2; endmodule",
+        "N4 1:23",
+    ),
+    (
+        b"module m; parameter P = 1; reg [P:0] a; parameter P = 70; endmodule",
+        "N2 1:51",
     ),
 ];
 

@@ -4,7 +4,7 @@ use Rattle.vh_base.specs.declared.faults.AppFault.TheVariants as app
 use Rattle.vh_base.specs.declared.faults.DesignFault.{DesignFault}
 use Rattle.vh_base.specs.declared.faults.DesignFault.TheVariants as fault
 use Rattle.vh_base.specs.declared.place.Place.{Place}
-use Rattle.vh_base.specs.Checks.{with_ok, with_some}
+use Rattle.vh_base.specs.Checks.{with_ok}
 use Rattle.vh_design.specs.Shape.{Shape}
 use Rattle.vh_lex.specs.declared.conditional.Conditional.{Conditional}
 use Rattle.vh_lex.specs.declared.token.Token as lexed
@@ -13,8 +13,8 @@ use Rattle.vh_lex.specs.Lexed.{Lexed, reading, refused, exhausted, files_read}
 use Rattle.vh_syntax.specs.Tokens.{token_seen}
 use Rattle.vh_parse_expr.specs.Answers.{placed}
 use Rattle.vh_parse_items.specs.Answers.{source_answer}
-use Rattle.vh_first.specs.Meaning.{first_of}
-use Rattle.vh_first_design.specs.Designs.{first_design}
+use Rattle.vh_elab.specs.Elaborated.{Elaborated, made, later, elaborated}
+use Rattle.vh_elab.specs.Elaborated as elab
 use Rattle.vh_app.specs.Script.{ScriptData}
 use Rattle.vh_app.specs.Meaning.{script_of}
 use Rattle.vh_host.specs.declared.status.Status.{Status}
@@ -65,12 +65,17 @@ design_files n (file ∷ files) =
 abbrev pub DesignRefusal : Type 0
 DesignRefusal = DesignFault × Place
 
--- What tokens mean: a design; the first fault of the grammar, with the place behind the last byte where no token is
--- left; or S3 where they are a source that can't be run yet.
+-- The design of a source, its least fault, or S3 where it has what comes later.
+abbrev pub by_elaboration : Elaborated → Result Shape DesignRefusal
+by_elaboration (made d) = Ok d
+by_elaboration (elab.refused f) = Err f
+by_elaboration later = Err (fault.S3, place 1 1 1)
+
+-- What tokens mean: the first fault of the grammar, with the place behind the last byte where no token is left; or what
+-- comes of their source.
 abbrev pub tokens_answer : List lexed.Token → Place → Result Shape DesignRefusal
 tokens_answer tokens after =
-    with_ok (placed tokens after (source_answer (map token_seen tokens)))
-    (λ parsed. with_some (first_of parsed.0) (fault.S3, place 1 1 1) (λ first. Ok (first_design first)))
+    with_ok (placed tokens after (source_answer (map token_seen tokens))) (λ parsed. by_elaboration (elaborated parsed.0))
 
 -- The same of the tokens of whole files: the outermost conditional that is open behind the last file is L2.
 abbrev pub closed_answer : Option Conditional → List lexed.Token → Place → Result Shape DesignRefusal

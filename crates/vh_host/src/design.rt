@@ -10,7 +10,7 @@ use crate::words::is_design_word;
 use std::alloc::Global;
 use vh_base::{DesignFault, Place};
 use vh_design::Design;
-use vh_first::FirstFault;
+use vh_elab::{Elaboration, elaborate};
 use vh_lex::{Lexer, Token};
 use vh_parse_expr::ParseFault;
 use vh_parse_items::parse;
@@ -74,9 +74,10 @@ fn parsed(alloc: Global, tokens: &[Token], after: Place) -> Result<Design, Refus
         Err(ParseFault::Refused(fault, place)) => return Err(Refusal::Design(fault, place)),
         Err(ParseFault::NoMemory) => return Err(Refusal::NoMemory),
     };
-    match vh_first::design_of(alloc, &source) {
-        Ok(first) => Ok(vh_first_design::design_of(alloc, &first)?),
-        Err(FirstFault::NotBuilt) => {
+    match elaborate(alloc, &source)? {
+        Elaboration::Made(design) => Ok(design),
+        Elaboration::Refused(fault, place) => Err(Refusal::Design(fault, place)),
+        Elaboration::Later => {
             let place = Place {
                 file: 1,
                 line: 1,
@@ -84,6 +85,5 @@ fn parsed(alloc: Global, tokens: &[Token], after: Place) -> Result<Design, Refus
             };
             Err(Refusal::Design(DesignFault::S3, place))
         }
-        Err(FirstFault::NoMemory) => Err(Refusal::NoMemory),
     }
 }

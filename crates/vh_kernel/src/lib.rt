@@ -11,6 +11,7 @@
 #![tactic(auto)]
 
 mod activation;
+mod chooser;
 mod control;
 mod kernel;
 mod label;
@@ -19,6 +20,7 @@ mod line;
 mod occurrence;
 mod phase;
 
+pub use chooser::Chooser;
 pub use kernel::Kernel;
 pub use label::{Ending, Label};
 pub use laws::step_laws;
