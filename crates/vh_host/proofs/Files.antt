@@ -10,8 +10,9 @@ use Rattle.std.specs.Prelude.{String, string_bytes}
 use Rattle.std.specs.declared.alloc.Global.{Global}
 use Rattle.vh_base.specs.Outside.{IsAnswered}
 use Rattle.vh_host.specs.Acceptance.{File, limit_of, files_with, is_too_long, first_too_long, by_files, by_length, by_texts, by_reading, verdict}
-use Rattle.vh_host.specs.Words.{Reading, reading, texts, numbered}
+use Rattle.vh_words.specs.Words.{Reading, reading, texts, numbered}
 use Rattle.vh_host.specs.declared.file.TextFile.{TextFile}
+use Rattle.vh_choice.specs.declared.chooser.Chooser.{Chooser}
 use Rattle.vh_host.specs.Headline.{Holds, WereAnswered, Tells, IsTextBy}
 use Rattle.vh_host.specs.Reading.{words_of, contents_of, MeetsLong, MeetsNoneLong, file_seen, files_seen}
 
@@ -256,19 +257,19 @@ any-seen : (files : List TextFile) → list_any is_too_long (files_seen files) �
 any-seen [] = refl
 any-seen (file ∷ files) = ap (λ (b : Bool). is_too_long (file_seen file) || b) (any-seen files)
 
-text-long : (o : Option ℕ) (files : List File) (budget : ℕ) → is_some o ≡ true → IsTextBy (by_length o files) budget []
-text-long (Some n) files budget is = refl
-text-long None files budget is = absurd (cc)
+text-long : (order : Chooser) (o : Option ℕ) (files : List File) (budget : ℕ) → is_some o ≡ true → IsTextBy order budget (by_length o files) []
+text-long order (Some n) files budget is = refl
+text-long order None files budget is = absurd (cc)
 
 none-long : (o : Option ℕ) (files : List File) → is_some o ≡ false → by_texts files ≡ by_length o files
 none-long (Some n) files is = absurd (cc)
 none-long None files is = refl
 
 -- So the text is none where one is, and else the verdict is that of the texts.
-pub none_long : (files : List TextFile) (budget : ℕ) → list_any (λ file. is_too_long (file_seen file)) files ≡ true
-    → IsTextBy (by_files (files_seen files)) budget []
-none_long files budget is =
-    text-long (first_too_long 1 (files_seen files)) (files_seen files) budget (long-any 1 (files_seen files) ∙ any-seen files ∙ is)
+pub none_long : (order : Chooser) (files : List TextFile) (budget : ℕ) → list_any (λ file. is_too_long (file_seen file)) files ≡ true
+    → IsTextBy order budget (by_files (files_seen files)) []
+none_long order files budget is =
+    text-long order (first_too_long 1 (files_seen files)) (files_seen files) budget (long-any 1 (files_seen files) ∙ any-seen files ∙ is)
 
 pub same_short : (files : List TextFile) → list_any (λ file. is_too_long (file_seen file)) files ≡ false
     → by_texts (files_seen files) ≡ by_files (files_seen files)
@@ -283,9 +284,9 @@ none_too_long files is = none_of (first_too_long 1 (files_seen files)) (long-any
     none_of None is = refl
 
 -- The same by the words.
-pub same_words : (words : List (List ℕ)) (contents : List (List ℕ)) (names : List (List ℕ)) (files : List File)
-    → Some (record { files = names }) ≡ reading words → files ≡ files_with names contents → by_files files ≡ verdict words contents
-same_words words contents names files is are =
+pub same_words : (words : List (List ℕ)) (contents : List (List ℕ)) (r : Reading) (files : List File)
+    → Some r ≡ reading words → files ≡ files_with r.files contents → by_files files ≡ verdict words contents
+same_words words contents r files is are =
     ap by_files are ∙ ap (λ (r : Option Reading). by_reading r contents) is
 
 -- The word of this turn, among the words as plain lists.

@@ -5,7 +5,7 @@ use Rattle.vh_app.specs.Meaning.{script_of}
 use Rattle.vh_base.specs.declared.faults.AppFault.TheVariants as app
 use Rattle.vh_host.specs.declared.status.Status.{Status}
 use Rattle.vh_host.specs.declared.status.Status.TheVariants as status
-use Rattle.vh_host.specs.Words.{is_script_word}
+use Rattle.vh_words.specs.Words.{is_script_word}
 use Rattle.vh_host.specs.Acceptance.{File, scripts_of, script_then, place}
 
 -- The scripts that were read, and what follows them.

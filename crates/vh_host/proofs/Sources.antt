@@ -14,7 +14,7 @@ use Rattle.vh_lex.specs.Spelling.{Stop}
 use Rattle.vh_lex.specs.Lexed.{Lexed, reading, refused, exhausted, file_read, files_after, files_read, lexed_by, answer_of, closed_by, end_of, IfReading, IsBegun}
 use Rattle.vh_lex.specs.Lexed as lexed
 use Rattle.vh_host.specs.declared.file.TextFile.{TextFile}
-use Rattle.vh_host.specs.Words.{is_design_word, is_script_word}
+use Rattle.vh_words.specs.Words.{is_design_word, is_script_word}
 use Rattle.vh_host.specs.Acceptance.{File, limit_of, is_too_long, first_too_long, design_files, tokens_answer, closed_answer, lexed_answer}
 use Rattle.vh_host.specs.declared.judging.Refusal.{Refusal}
 use Rattle.vh_host.specs.Judging.{Lexes, refusal_of}

@@ -19,8 +19,8 @@ use Rattle.vh_app.specs.Script.{ScriptData}
 use Rattle.vh_app.specs.Meaning.{script_of}
 use Rattle.vh_host.specs.declared.status.Status.{Status}
 use Rattle.vh_host.specs.declared.status.Status.TheVariants as status
-use Rattle.vh_host.specs.Words as words
-use Rattle.vh_host.specs.Words.{Reading, is_design_word, is_script_word}
+use Rattle.vh_words.specs.Words as words
+use Rattle.vh_words.specs.Words.{Reading, is_design_word, is_script_word}
 
 pub data Verdict : Type 0 where
   accepts : Shape → List ScriptData → Verdict

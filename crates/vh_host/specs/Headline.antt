@@ -3,17 +3,13 @@ use Rattle.std.specs.Prelude.{◌≡◌, ◌≤◌, ℕ, ◌++◌, List, [], map
 use Rattle.std.specs.List.{AllZip}
 use Rattle.vh_base.specs.Outside.{IsAnswered, appended}
 use Rattle.vh_design.specs.Shape.{Shape}
-use Rattle.vh_kernel.specs.Run.{fifo}
+use Rattle.vh_choice.specs.declared.chooser.Chooser.{Chooser}
 use Rattle.vh_app.specs.Script.{ScriptData}
 use Rattle.vh_host.specs.declared.status.Status.{Status}
 use Rattle.vh_host.specs.declared.status.Status.TheVariants as status
-use Rattle.vh_host.specs.Words.{file_words}
+use Rattle.vh_words.specs.Words.{file_words, order_word, budget_word}
 use Rattle.vh_host.specs.Acceptance.{Verdict, accepts, refuses, verdict, limit_of}
 use Rattle.vh_host.specs.Transcript.{WroteFromOpening, IsTextFromOpening}
-
--- How many labels a run has at most.
-abbrev pub default_budget : ℕ
-default_budget = 100000000
 
 -- What a source of files tells of a name.
 abbrev pub Holds : Type 0
@@ -51,9 +47,9 @@ ComesBefore refusal status.WriteFault = ⊥
 
 -- What a call answers and writes, by the verdict: a refused input gets its refusal and nothing is
 -- written, unless the source failed or memory was refused before that was found; an accepted one gets a run.
-abbrev pub Answers : Verdict → Status → List ℕ → Type 0
-Answers (refuses refusal) s written = ((s ≡ refusal) ⊎ ComesBefore refusal s) × (written ≡ [])
-Answers (accepts design scripts) s written = WroteFromOpening fifo default_budget design scripts s written
+abbrev pub Answers : Chooser → ℕ → Verdict → Status → List ℕ → Type 0
+Answers order budget (refuses refusal) s written = ((s ≡ refusal) ⊎ ComesBefore refusal s) × (written ≡ [])
+Answers order budget (accepts design scripts) s written = WroteFromOpening order budget design scripts s written
 
 -- The contents are those that the source may have answered for the files, in word order.
 abbrev pub WereAnswered : Holds → List (List ℕ) → List (List ℕ) → Type 0
@@ -64,28 +60,28 @@ abbrev pub Tells : Holds → List (List ℕ) → List (List ℕ) → Type 0
 Tells holds files contents = map holds files ≡ map Some contents
 
 -- What is written once the files' contents are there: nothing, or a run's text.
-pub record AnswersWith (v : Verdict) (s : Status) (old new : Option (List ℕ)) : Type 0 where
+pub record AnswersWith (order : Chooser) (budget : ℕ) (v : Verdict) (s : Status) (old new : Option (List ℕ)) : Type 0 where
   pub written : List ℕ
   pub appends : new ≡ appended old written
-  pub answers : Answers v s written
+  pub answers : Answers order budget v s written
 
 -- The whole account of a call: on the contents that the source answered, whatever it tells, the status
--- and the written bytes are those of the verdict.
+-- and the written bytes are those of the verdict, under the order of choice and with the budget that the words ask for.
 pub record Accounts (words : List (List ℕ)) (holds : Holds) (s : Status) (old new : Option (List ℕ)) : Type 0 where
   pub contents : List (List ℕ)
   pub answered : WereAnswered holds (file_words words) contents
-  pub answers : AnswersWith (verdict words contents) s old new
+  pub answers : AnswersWith (order_word words) (budget_word words) (verdict words contents) s old new
 
 -- The headline. For accepted words, texts and scripts, where the source tells the files' contents and the
 -- sink tells its own, the bytes written are exactly the text of a run of the machine from the opening
--- of the design with its scripts under fifo, ending only at its end or at the budget, or a front of
--- that text after want of memory or a failed write.
+-- of the design with its scripts under the order of choice that the words ask for, ending only at its end
+-- or at their budget, or a front of that text after want of memory or a failed write.
 abbrev pub Transcribes : List (List ℕ) → Holds → Status → Option (List ℕ) → Option (List ℕ) → Type 0
 Transcribes words holds s old new =
     (contents : List (List ℕ)) (before : List ℕ) (design : Shape) (scripts : List ScriptData) →
     Tells holds (file_words words) contents → verdict words contents ≡ accepts design scripts → old ≡ Some before →
     (written : List ℕ) × (new ≡ Some (before ++ written))
-    × WroteFromOpening fifo default_budget design scripts s written
+    × WroteFromOpening (order_word words) (budget_word words) design scripts s written
 
 -- A refused input gets its refusal, and nothing is written, unless the source failed or memory was
 -- refused before that was found; where the source tells the files' contents.
@@ -100,6 +96,6 @@ abbrev pub Exactly : Status → Status → Type 0 → Type 0
 Exactly s given P = (s ≡ given → P) × (P → (s ≡ given) ⊎ (s ≡ status.NoMemory))
 
 -- The text is that of the run that a verdict allows, of so many labels at most; none for a refused input.
-abbrev pub IsTextBy : Verdict → ℕ → List ℕ → Type 0
-IsTextBy (refuses r) budget text = text ≡ []
-IsTextBy (accepts design scripts) budget text = IsTextFromOpening fifo budget design scripts text
+abbrev pub IsTextBy : Chooser → ℕ → Verdict → List ℕ → Type 0
+IsTextBy order budget (refuses r) text = text ≡ []
+IsTextBy order budget (accepts design scripts) text = IsTextFromOpening order budget design scripts text

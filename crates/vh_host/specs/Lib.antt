@@ -1,4 +1,3 @@
-pub mod Words
 pub mod Acceptance
 pub mod Report
 pub mod Transcript

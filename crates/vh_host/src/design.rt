@@ -6,7 +6,6 @@ ghost use Rattle.vh_host.specs.Judging.{Designs, Lexes, Begins};
 
 use crate::file::TextFile;
 use crate::judging::Refusal;
-use crate::words::is_design_word;
 use std::alloc::Global;
 use vh_base::{DesignFault, Place};
 use vh_design::Design;
@@ -14,6 +13,7 @@ use vh_elab::{Elaboration, elaborate};
 use vh_lex::{Lexer, Token};
 use vh_parse_expr::ParseFault;
 use vh_parse_items::parse;
+use vh_words::is_design_word;
 
 /// The design of the Verilog files among these, which are read as one source in word order; or
 /// their first fault.

@@ -1,6 +1,6 @@
 ghost use Rattle.std.specs.Prelude.{◌≡◌, ◌≢◌, ◌≤◌, ℕ, List, Some, None, length};
 ghost use Rattle.vh_base.specs.Outside.{Rose};
-ghost use Rattle.vh_host.specs.Words.{reading, file_word, texts};
+ghost use Rattle.vh_words.specs.Words.{reading, file_word, texts};
 ghost use Rattle.vh_host.specs.Acceptance.{by_texts, accepts, first_too_long};
 ghost use Rattle.vh_host.specs.Reading.{files_seen};
 ghost use Rattle.vh_host.specs.Headline.{Accounts, AnswersWith, Transcribes, Refuses, Exactly};
@@ -10,12 +10,13 @@ use crate::judging::{judge, status_of};
 use crate::reading::{Unread, read_files};
 use crate::status::Status;
 use crate::transcript::transcribe;
-use crate::words::files_to_run;
 use std::alloc::Global;
 use vh_app::Script;
 use vh_base::{Files, Sink};
+use vh_choice::Chooser;
 use vh_design::Design;
 use vh_kernel::Kernel;
+use vh_words::read_words;
 
 /// Runs the Verilog files that the words ask for, as one source, with the script beside them, and
 /// writes the transcript: reads the words, each file once in word order, the Verilog files and the
@@ -61,11 +62,13 @@ fn run_words<F: Files, K: Sink>(
     ensures source_calm { ((n : ℕ) → result ≢ Status.ReadFault n) → F.faults files.new ≡ F.faults files.old }
     ensures sink_calm { result ≢ Status.WriteFault → K.faults out.new ≡ K.faults out.old }
 {
-    let Some(names) = files_to_run(words) else {
-        return Status::Usage;
+    let asked = match read_words(alloc, words) {
+        Ok(Some(asked)) => asked,
+        Ok(None) => return Status::Usage,
+        Err(_) => return Status::NoMemory,
     };
-    match read_files(alloc, names, files) {
-        Ok(found) => run_files(alloc, found.as_slice(), out),
+    match read_files(alloc, asked.files.as_slice(), files) {
+        Ok(found) => run_files(alloc, found.as_slice(), asked.order, asked.budget, out),
         Err(Unread::Failed(n)) => Status::ReadFault(n),
         Err(Unread::TooLong(n)) => Status::TooLong(n),
         Err(Unread::NoMemory) => Status::NoMemory,
@@ -73,32 +76,45 @@ fn run_words<F: Files, K: Sink>(
 }
 
 // Runs the texts of files, none of which is too long.
-fn run_files<K: Sink>(alloc: Global, files: &[TextFile<'_>], out: &mut K) -> Status
+fn run_files<K: Sink>(
+    alloc: Global,
+    files: &[TextFile<'_>],
+    order: Chooser,
+    budget: u64,
+    out: &mut K,
+) -> Status
     requires few { length files.now ≤ 8 }
     requires short { first_too_long 1 (files_seen files.now) ≡ None }
-    ensures answers { AnswersWith (by_texts (files_seen files.now)) result (K.written out.old) (K.written out.new) }
+    ensures answers { AnswersWith order budget (by_texts (files_seen files.now)) result (K.written out.old) (K.written out.new) }
     ensures failed { result ≡ Status.WriteFault → Rose (K.faults out.old) (K.faults out.new) }
     ensures calm { result ≢ Status.WriteFault → K.faults out.new ≡ K.faults out.old }
     ensures read { (n : ℕ) → result ≢ Status.ReadFault n }
     ensures worded { result ≢ Status.Usage }
 {
     match judge(alloc, files) {
-        Ok((design, scripts)) => run_design(alloc, design, scripts, out),
+        Ok((design, scripts)) => run_design(alloc, design, scripts, order, budget, out),
         Err(refusal) => status_of(refusal),
     }
 }
 
 // Runs a design with its scripts.
-fn run_design<K: Sink>(alloc: Global, design: Design, scripts: Vec<Script>, out: &mut K) -> Status
+fn run_design<K: Sink>(
+    alloc: Global,
+    design: Design,
+    scripts: Vec<Script>,
+    order: Chooser,
+    budget: u64,
+    out: &mut K,
+) -> Status
     requires { length scripts.items ≤ 8 }
-    ensures answers { AnswersWith (accepts design scripts.items) result (K.written out.old) (K.written out.new) }
+    ensures answers { AnswersWith order budget (accepts design scripts.items) result (K.written out.old) (K.written out.new) }
     ensures failed { result ≡ Status.WriteFault → Rose (K.faults out.old) (K.faults out.new) }
     ensures calm { result ≢ Status.WriteFault → K.faults out.new ≡ K.faults out.old }
     ensures read { (n : ℕ) → result ≢ Status.ReadFault n }
     ensures worded { result ≢ Status.Usage }
 {
     match Kernel::new(alloc, design, scripts) {
-        Ok(mut kernel) => transcribe(alloc, &mut kernel, out),
+        Ok(mut kernel) => transcribe(alloc, &mut kernel, order, budget, out),
         Err(_) => Status::NoMemory,
     }
 }

@@ -7,13 +7,13 @@ ghost use Rattle.vh_host.specs.Judging.{RefusesTexts, RefusesScript, RefusesFile
 use crate::design::read_design;
 use crate::file::TextFile;
 use crate::status::Status;
-use crate::words::is_script_word;
 use std::alloc::{AllocError, AllocFailed, Global};
 use thiserror::Error;
 use vh_app::{Script, ScriptFault, read_app};
 use vh_base::{AppFault, DesignFault, NoMemory, Place, Short};
 use vh_design::Design;
 use vh_lex::LexFault;
+use vh_words::is_script_word;
 
 /// Why texts can't be run.
 #[derive(Clone, Copy, Debug, PartialEq, Eq, Error)]

@@ -22,7 +22,6 @@ mod status;
 #[cfg(test)]
 mod tests;
 mod transcript;
-mod words;
 mod write;
 
 pub use host::run;

@@ -2,8 +2,8 @@ ghost use Rattle.std.specs.Prelude.{◌≡◌, ◌<◌, ◌≤◌, ◌++◌, Lis
 ghost use Rattle.std.specs.List.{list_any};
 ghost use Rattle.vh_kernel.specs.Views.{state_of};
 ghost use Rattle.vh_kernel.specs.Step.{choices_of};
-ghost use Rattle.vh_kernel.specs.Run.{fifo, moves_of, text_of, line_of_move};
-ghost use Rattle.vh_host.specs.Words.{texts};
+ghost use Rattle.vh_kernel.specs.Run.{moves_of, text_of, line_of_move};
+ghost use Rattle.vh_words.specs.Words.{texts, order_word};
 ghost use Rattle.vh_host.specs.Acceptance.{verdict, by_files, by_texts, files_with, first_too_long, is_too_long};
 ghost use Rattle.vh_host.specs.Reading.{file_seen, files_seen};
 ghost use Rattle.vh_host.specs.Headline.{IsTextBy};
@@ -11,10 +11,11 @@ ghost use Rattle.vh_host.specs.Headline.{IsTextBy};
 use crate::file::TextFile;
 use crate::judging::{Refusal, judge};
 use crate::reading::limit_of;
-use crate::words::files_to_run;
 use std::alloc::Global;
 use vh_base::{Bytes, NoMemory};
+use vh_choice::Chooser;
 use vh_kernel::{Kernel, Label, line_of};
+use vh_words::read_words;
 
 /// The plain program beside the definitions: the text of the run that these words and these
 /// contents of their files, in word order, ask for, of so many labels at most, all of it in
@@ -25,13 +26,13 @@ pub fn plain_text(
     contents: &[Bytes],
     budget: u64,
 ) -> Result<Vec<u8>, NoMemory>
-    ensures { IfOk result (λ text. IsTextBy (verdict (texts words.now) contents.now) budget text.items) }
+    ensures { IfOk result (λ text. IsTextBy (order_word (texts words.now)) budget (verdict (texts words.now) contents.now) text.items) }
 {
-    let Some(names) = files_to_run(words) else {
+    let Some(asked) = read_words(alloc, words)? else {
         return Ok(Vec::new(alloc));
     };
-    let files = files_with(alloc, names, contents)?;
-    text_of_files(alloc, files.as_slice(), budget)
+    let files = files_with(alloc, asked.files.as_slice(), contents)?;
+    text_of_files(alloc, files.as_slice(), asked.order, budget)
 }
 
 // The files of these words with these contents.
@@ -66,14 +67,19 @@ fn is_too_long(file: &TextFile<'_>) -> bool
 }
 
 // The text of the run of files.
-fn text_of_files(alloc: Global, files: &[TextFile<'_>], budget: u64) -> Result<Vec<u8>, NoMemory>
+fn text_of_files(
+    alloc: Global,
+    files: &[TextFile<'_>],
+    order: Chooser,
+    budget: u64,
+) -> Result<Vec<u8>, NoMemory>
     requires { length files.now ≤ 8 }
-    ensures { IfOk result (λ text. IsTextBy (by_files (files_seen files.now)) budget text.items) }
+    ensures { IfOk result (λ text. IsTextBy order budget (by_files (files_seen files.now)) text.items) }
 {
     if any_too_long(files) {
         return Ok(Vec::new(alloc));
     }
-    text_of_texts(alloc, files, budget)
+    text_of_texts(alloc, files, order, budget)
 }
 
 // Is one of the files too long?
@@ -84,15 +90,20 @@ fn any_too_long(files: &[TextFile<'_>]) -> bool
 }
 
 // The text of the run of files, none of which is too long.
-fn text_of_texts(alloc: Global, files: &[TextFile<'_>], budget: u64) -> Result<Vec<u8>, NoMemory>
+fn text_of_texts(
+    alloc: Global,
+    files: &[TextFile<'_>],
+    order: Chooser,
+    budget: u64,
+) -> Result<Vec<u8>, NoMemory>
     requires few { length files.now ≤ 8 }
     requires short { first_too_long 1 (files_seen files.now) ≡ None }
-    ensures { IfOk result (λ text. IsTextBy (by_texts (files_seen files.now)) budget text.items) }
+    ensures { IfOk result (λ text. IsTextBy order budget (by_texts (files_seen files.now)) text.items) }
 {
     match judge(alloc, files) {
         Ok((design, scripts)) => {
             let mut kernel = Kernel::new(alloc, design, scripts)?;
-            text_from(alloc, &mut kernel, budget)
+            text_from(alloc, &mut kernel, order, budget)
         }
         Err(Refusal::NoMemory) => Err(NoMemory),
         Err(Refusal::Design(_, _) | Refusal::Script(_, _, _)) => Ok(Vec::new(alloc)),
@@ -100,13 +111,21 @@ fn text_of_texts(alloc: Global, files: &[TextFile<'_>], budget: u64) -> Result<V
 }
 
 // The text of so many labels at most, from the state that the kernel shows.
-fn text_from(alloc: Global, kernel: &mut Kernel, budget: u64) -> Result<Vec<u8>, NoMemory>
+fn text_from(
+    alloc: Global,
+    kernel: &mut Kernel,
+    order: Chooser,
+    budget: u64,
+) -> Result<Vec<u8>, NoMemory>
     requires { 0 < choices_of (state_of kernel.old) }
-    ensures { IfOk result (λ text. text.items ≡ text_of (moves_of fifo budget (state_of kernel.old))) }
+    ensures { IfOk result (λ text. text.items ≡ text_of (moves_of order budget (state_of kernel.old))) }
 {
     let mut text = Vec::new(alloc);
+    let mut next = order;
     for made in 0..budget {
-        let label = kernel.step(alloc, 0)?;
+        let count = kernel.choices();
+        let label = kernel.step(alloc, next.chosen(count))?;
+        next = next.after(count);
         push_line(alloc, &mut text, kernel, &label)?;
         if label.is_end() {
             return Ok(text);

@@ -1,51 +1,56 @@
 ghost use Rattle.std.specs.Prelude.{◌≡◌, ◌++◌, codes, string_bytes, IfOk, Some, [], unwrap_or, slice_get};
 ghost use Rattle.std.specs.Option.{option_map};
 ghost use Rattle.std.specs.Fmt.{decimal};
-ghost use Rattle.vh_host.specs.Words.{texts, file_word, numbered};
+ghost use Rattle.vh_words.specs.Words.{texts, numbered, files_of};
+ghost use Rattle.vh_words.specs.Views.{asked};
 ghost use Rattle.vh_host.specs.Report.{line_of_status, exit_of, name_of_file};
 
 use crate::status::Status;
-use crate::words::files_to_run;
 use std::alloc::{AllocError, Global};
 use vh_base::{NoMemory, Place};
+use vh_words::{Asked, read_words};
 
 /// The line that is told of a status, without a newline; it is empty for a run that came to
 /// its end. A file goes by its word among `words`, which don't hold the program's name.
 pub fn status_line(alloc: Global, words: &Vec<String>, status: &Status) -> Result<String, NoMemory>
     ensures { IfOk result (λ line. string_bytes line ≡ line_of_status (texts words.now.items) status.now) }
 {
-    Ok(line_of(alloc, words.as_slice(), status)?)
+    line_of(alloc, words.as_slice(), status)
 }
 
-fn line_of(alloc: Global, words: &[String], status: &Status) -> Result<String, AllocError>
+fn line_of(alloc: Global, words: &[String], status: &Status) -> Result<String, NoMemory>
     ensures { IfOk result (λ line. string_bytes line ≡ line_of_status (texts words.now) status.now) }
 {
     match status {
-        Status::Done(_) => Ok(String::new(alloc)),
-        Status::Usage => String::from_str(
-            alloc,
-            "usage: vhost run [--order fifo|lifo|seeded:N] [--budget N] FILES..",
-        ),
-        Status::ReadFault(n) => {
-            let name = file_name(words, *n);
-            format!(in alloc; "cannot read {name}")
-        }
-        Status::TooLong(n) => {
-            let name = file_name(words, *n);
-            format!(in alloc; "too long: {name}")
-        }
-        Status::DesignRefused(fault, place) => line_of_design(alloc, fault.name(), place),
+        Status::ReadFault(n) => line_with(alloc, "cannot read ", words, *n),
+        Status::TooLong(n) => line_with(alloc, "too long: ", words, *n),
         Status::AppRefused(n, fault, place) => {
-            line_of_app(alloc, file_name(words, *n), fault.name(), place)
+            let asked = read_words(alloc, words)?;
+            Ok(line_of_app(alloc, file_name(&asked, *n), fault.name(), place)?)
         }
+        Status::DesignRefused(fault, place) => Ok(line_of_design(alloc, fault.name(), place)?),
         Status::RunFault(fault) => {
             let name = fault.name();
-            format!(in alloc; "run fault: {name}")
+            Ok(format!(in alloc; "run fault: {name}")?)
         }
-        Status::BudgetSpent => String::from_str(alloc, "budget spent"),
-        Status::WriteFault => String::from_str(alloc, "cannot write"),
-        Status::NoMemory => String::from_str(alloc, "out of memory"),
+        Status::Done(_) => Ok(String::new(alloc)),
+        Status::Usage => Ok(String::from_str(
+            alloc,
+            "usage: vhost run [--order fifo|lifo|seeded:N] [--budget N] FILES..",
+        )?),
+        Status::BudgetSpent => Ok(String::from_str(alloc, "budget spent")?),
+        Status::WriteFault => Ok(String::from_str(alloc, "cannot write")?),
+        Status::NoMemory => Ok(String::from_str(alloc, "out of memory")?),
     }
+}
+
+// The name of a file, behind these words.
+fn line_with(alloc: Global, before: &str, words: &[String], n: u32) -> Result<String, NoMemory>
+    ensures { IfOk result (λ line. string_bytes line ≡ before.now ++ name_of_file (texts words.now) n) }
+{
+    let asked = read_words(alloc, words)?;
+    let name = file_name(&asked, n);
+    Ok(format!(in alloc; "{before}{name}")?)
 }
 
 // The line of a Verilog text that is refused.
@@ -70,11 +75,11 @@ fn line_of_app(alloc: Global, name: &str, fault: &str, place: &Place) -> Result<
 }
 
 // The word of the file of this number, or nothing where there is none.
-fn file_name(words: &[String], n: u32) -> &str
-    ensures { result.now ≡ name_of_file (texts words.now) n }
+fn file_name(words: &Option<Asked>, n: u32) -> &str
+    ensures { result.now ≡ unwrap_or (numbered (files_of (option_map asked words.now)) n) [] }
 {
-    match files_to_run(words) {
-        Some(files) => name_in(files, n),
+    match words {
+        Some(asked) => name_in(asked.files.as_slice(), n),
         None => "",
     }
 }

@@ -1,47 +1,73 @@
 ghost use Rattle.std.specs.Prelude.{◌≡◌, ◌≢◌, ◌<◌, ◌≤◌, ℕ, List, Some, None, take, OnOk, OnErr};
 ghost use Rattle.vh_base.specs.Outside.{Rose, appended, AppendsFront};
 ghost use Rattle.vh_kernel.specs.Views.{state_of};
+ghost use Rattle.vh_choice.specs.Choices.{chosen, chooser_after};
 ghost use Rattle.vh_kernel.specs.Step.{choices_of};
-ghost use Rattle.vh_kernel.specs.Run.{line_of_move, fifo};
+ghost use Rattle.vh_kernel.specs.Run.{line_of_move};
 ghost use Rattle.vh_laws.specs.Laws.{Lawful};
 ghost use Rattle.vh_host.specs.Turn.{Turned, status_after};
 ghost use Rattle.vh_host.specs.Transcript.{Wrote};
-ghost use Rattle.vh_host.specs.Headline.{default_budget};
 
 use crate::status::Status;
 use crate::write::write_whole;
 use std::alloc::Global;
 use vh_base::{Sink, SinkFault};
+use vh_choice::Chooser;
 use vh_kernel::{Ending, Kernel, Label, line_of};
 
-/// Runs a kernel under fifo, and writes the line of each label as it is made, until the run
-/// ends, 100,000,000 labels were made, or a fault of the sink or of memory cuts it short.
-pub fn transcribe<K: Sink>(alloc: Global, kernel: &mut Kernel, out: &mut K) -> Status
+/// Runs a kernel under an order of choice, and writes the line of each label as it is made, until
+/// the run ends, as many labels as the budget were made, or a fault of the sink or of memory cuts it
+/// short.
+pub fn transcribe<K: Sink>(
+    alloc: Global,
+    kernel: &mut Kernel,
+    order: Chooser,
+    budget: u64,
+    out: &mut K,
+) -> Status
     requires goes { 0 < choices_of (state_of kernel.old) }
-    requires lawful { Lawful fifo (state_of kernel.old) }
+    requires lawful { Lawful order (state_of kernel.old) }
     ensures wrote { (written : List ℕ) × (K.written out.new ≡ appended (K.written out.old) written)
-        × Wrote fifo default_budget (state_of kernel.old) result written }
+        × Wrote order budget (state_of kernel.old) result written }
     ensures failed { result ≡ Status.WriteFault → Rose (K.faults out.old) (K.faults out.new) }
     ensures calm { result ≢ Status.WriteFault → K.faults out.new ≡ K.faults out.old }
     ensures read { (n : ℕ) → result ≢ Status.ReadFault n }
     ensures worded { result ≢ Status.Usage }
 {
-    for made in 0..100_000_000u64 {
-        if let Some(status) = turn(alloc, kernel, out) {
+    let mut next = order;
+    for made in 0..budget {
+        let k = choose(kernel, &mut next);
+        if let Some(status) = turn(alloc, kernel, k, out) {
             return status;
         }
     }
     Status::BudgetSpent
 }
 
-// One step, with its line.
-fn turn<K: Sink>(alloc: Global, kernel: &mut Kernel, out: &mut K) -> Option<Status>
-    requires { 0 < choices_of (state_of kernel.old) }
-    ensures turned { Turned result (state_of kernel.old) (state_of kernel.new) (K.written out.old) (K.written out.new) }
+// The number of the choice that the order takes, which then is the order for the labels after it.
+fn choose(kernel: &Kernel, order: &mut Chooser) -> u32
+    requires { 0 < choices_of (state_of kernel.now) }
+    ensures choice { result ≡ chosen order.old (choices_of (state_of kernel.now)) }
+    ensures below { result < choices_of (state_of kernel.now) }
+    ensures next { order.new ≡ chooser_after order.old (choices_of (state_of kernel.now)) }
+{
+    if let Chooser::Fifo = *order {
+        return 0;
+    }
+    let count = kernel.choices();
+    let choice = order.chosen(count);
+    *order = order.after(count);
+    choice
+}
+
+// One step by the k-th choice, with its line.
+fn turn<K: Sink>(alloc: Global, kernel: &mut Kernel, k: u32, out: &mut K) -> Option<Status>
+    requires { k < choices_of (state_of kernel.old) }
+    ensures turned { Turned k result (state_of kernel.old) (state_of kernel.new) (K.written out.old) (K.written out.new) }
     ensures failed { result ≡ Some Status.WriteFault → Rose (K.faults out.old) (K.faults out.new) }
     ensures calm { result ≢ Some Status.WriteFault → K.faults out.new ≡ K.faults out.old }
 {
-    let label = match kernel.step(alloc, 0) {
+    let label = match kernel.step(alloc, k) {
         Ok(label) => label,
         Err(_) => return Some(Status::NoMemory),
     };

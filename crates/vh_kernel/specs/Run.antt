@@ -1,8 +1,8 @@
 -- Runs of the machine under a chosen order, and their text.
-use Rattle.std.specs.Prelude.{◌≡◌, ℕ, zero, suc, ◌+◌, ◌-◌, ◌*◌, ◌/◌, ◌%◌, ◌^◌, nat_lt, List, [], ◌∷◌, map, true, if◌then◌else◌, unwrap_or}
+use Rattle.std.specs.Prelude.{◌≡◌, ℕ, zero, suc, List, [], ◌∷◌, map, true, if◌then◌else◌, unwrap_or}
 use Rattle.std.specs.List.{flat_map}
-use Rattle.vh_kernel.specs.declared.chooser.Chooser.{Chooser}
-use Rattle.vh_kernel.specs.declared.chooser.Chooser.TheVariants as chooser
+use Rattle.vh_choice.specs.declared.chooser.Chooser.{Chooser}
+use Rattle.vh_choice.specs.Choices.{chosen, chooser_after}
 use Rattle.vh_kernel.specs.declared.label.Label.{Label}
 use Rattle.vh_kernel.specs.declared.label.Label.TheVariants as label
 use Rattle.vh_base.specs.declared.orders.Answer.{Answer}
@@ -12,26 +12,6 @@ use Rattle.vh_kernel.specs.State.{State}
 use Rattle.vh_orders.specs.Orders.{Given}
 use Rattle.vh_kernel.specs.Outcome.{Move}
 use Rattle.vh_kernel.specs.Step.{IsStep, next_given, step_of, choices_of, is_end}
-
--- A generator of numbers: its next state, and the number that it draws with it. (own)
-abbrev pub next_state : ℕ → ℕ
-next_state state = (state * 6364136223846793005 + 1442695040888963407) % 2 ^ 64
-
-abbrev pub drawn : ℕ → ℕ
-drawn state = next_state state / 2 ^ 33
-
--- The number of the choice among so many, from 0: the choices of a label stand in rising order, and fifo takes the first of
--- them, lifo the last, and a generator one that it draws. (own: IEEE 1364-2005, 11.4.2 leaves the choice open)
-abbrev pub chosen : Chooser → ℕ → ℕ
-chosen chooser.Fifo count = 0
-chosen chooser.Lifo count = count - 1
-chosen (chooser.Seeded state) count = if nat_lt 1 count then drawn state % count else 0
-
--- The order of choice for the labels after this one: where there is one choice, nothing is drawn.
-abbrev pub chooser_after : Chooser → ℕ → Chooser
-chooser_after chooser.Fifo count = chooser.Fifo
-chooser_after chooser.Lifo count = chooser.Lifo
-chooser_after (chooser.Seeded state) count = chooser.Seeded (if nat_lt 1 count then next_state state else state)
 
 -- A step that the order of choice takes; a new handle gets any number that was never given.
 abbrev pub IsMove : Chooser → State → Move → Type 0

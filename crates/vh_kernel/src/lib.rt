@@ -11,7 +11,6 @@
 #![tactic(auto)]
 
 mod activation;
-mod chooser;
 mod control;
 mod kernel;
 mod label;
@@ -20,7 +19,6 @@ mod line;
 mod occurrence;
 mod phase;
 
-pub use chooser::Chooser;
 pub use kernel::Kernel;
 pub use label::{Ending, Label};
 pub use laws::step_laws;

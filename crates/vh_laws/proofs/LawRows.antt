@@ -25,7 +25,8 @@ use Rattle.vh_handles.specs.Handles.{Handles, thing_at, opened}
 use Rattle.vh_orders.specs.Names.{whole}
 use Rattle.vh_kernel.specs.Occurrences.{Occurrence, set_of}
 use Rattle.vh_kernel.specs.Outcome.{Move}
-use Rattle.vh_kernel.specs.Run.{fifo, moves_of}
+use Rattle.vh_choice.specs.declared.chooser.Chooser.TheVariants.{Fifo}
+use Rattle.vh_kernel.specs.Run.{moves_of}
 use Rattle.vh_laws.proofs.Openings.{opening}
 use Rattle.vh_kernel.specs.State.{State}
 use Rattle.vh_laws.specs.Firing.{frames_of, IsTelling, TellsOnce, WasTold, FiresOnce, LeavesNone, DoneOnce, IsRemoval, RemovesForGood}
@@ -78,7 +79,7 @@ abbrev start : State
 start = opening still (removes_another ∷ [])
 
 abbrev moves : List Move
-moves = moves_of fifo 100 start
+moves = moves_of Fifo 100 start
 
 -- The labels up to one and those behind it, and the state after one.
 abbrev up_to : ℕ → List Move
@@ -190,7 +191,7 @@ abbrev change : Occurrence
 change = record { reason = reason.CbStartOfSimulation; object = None; value = None; index = None; only = None }
 
 abbrev told_state : State
-told_state = unwrap_or (option_map (λ m. m.1) (slice_get (moves_of fifo 12 start) 11)) start
+told_state = unwrap_or (option_map (λ m. m.1) (slice_get (moves_of Fifo 12 start) 11)) start
 
 tells_two : slice_get (frames_of told_state) 0 ≡ Some (record { number = 2; what = change; left = 2 ∷ 3 ∷ 4 ∷ [] })
 unfolding instructions_of codes_of scopes_below dotted

@@ -1,10 +1,14 @@
 -- Every path from a fresh state keeps the laws, and so does every run.
-use Rattle.std.proofs.Common.{◌≡◌, ℕ, ◌<◌, List, [], ◌∷◌, None, slice_get, refl, sym, ap, subst, inl, inr}
+use Rattle.std.proofs.Common.{◌≡◌, ℕ, ◌<◌, ◌%◌, List, [], ◌∷◌, Bool, true, false, if◌then◌else◌, nat_lt, None, slice_get, refl, sym, ap, subst, inl, inr, arith}
+use Rattle.std.proofs.Math.Nat.{mod-lt}
 use Rattle.vh_callbacks.proofs.LawsLemmas.{sound_opening}
 use Rattle.vh_orders.specs.declared.who.Body.{Body}
 use Rattle.vh_handles.specs.Handles.{Handles, thing_at}
 use Rattle.vh_kernel.specs.Outcome.{Move}
-use Rattle.vh_kernel.specs.Run.{Chooser, fifo, chosen, chooser_after, IsRun}
+use Rattle.vh_choice.specs.declared.chooser.Chooser.{Chooser}
+use Rattle.vh_choice.specs.declared.chooser.Chooser.TheVariants as chooser
+use Rattle.vh_choice.specs.Choices.{drawn, chosen, chooser_after}
+use Rattle.vh_kernel.specs.Run.{IsRun}
 use Rattle.vh_kernel.specs.State.{State}
 use Rattle.vh_kernel.specs.declared.control.Control.{Control}
 use Rattle.vh_kernel.specs.Settle.{is_void, without_front}
@@ -38,8 +42,14 @@ paths-keep-laws s moves fresh path =
     record { firing = firing-law s moves path (fresh-keeps s fresh); handles = handle-law s moves path (fresh-keeps s fresh) }
 
 -- The choice of an order is one of those that there are.
+drawn-low : (b : Bool) (n count : ℕ) → 0 < count → (if b then n % count else 0) < count
+drawn-low true n count some = mod-lt n some
+drawn-low false n count some = some
+
 chosen-low : (order : Chooser) (count : ℕ) → 0 < count → chosen order count < count
-chosen-low fifo count some = some
+chosen-low chooser.Fifo count some = some
+chosen-low chooser.Lifo count some = omega arith
+chosen-low (chooser.Seeded state) count some = drawn-low (nat_lt 1 count) (drawn state) count some
 
 run-path : (order : Chooser) (s : State) (moves : List Move) → 0 < choices_of s → IsRun order s moves → IsPath s moves
 run-path order s [] some run = tt

@@ -15,7 +15,8 @@ use Rattle.vh_app.specs.declared.command.Procedure.{Procedure}
 use Rattle.vh_app.specs.declared.command.Source.TheVariants as source
 use Rattle.vh_app.specs.Script.{ScriptData}
 use Rattle.vh_laws.proofs.Openings.{opening}
-use Rattle.vh_kernel.specs.Run.{fifo, moves_of, text_of}
+use Rattle.vh_choice.specs.declared.chooser.Chooser.TheVariants.{Fifo}
+use Rattle.vh_kernel.specs.Run.{moves_of, text_of}
 use Rattle.vh_assign.specs.Assigned.{with_pieces, made_in_turn}
 use Rattle.vh_assign.specs.Pieces.{digits_of as target_digits, pieces_of}
 use Rattle.vh_display.specs.Calls.{arguments_text}
@@ -37,35 +38,35 @@ design : List (List ℕ) → List (List FirstCode) → First
 design regs blocks = record { name = codes "top"; regs = regs; blocks = blocks }
 
 -- module top; reg a; initial begin a = 1; #3 $display("hi"); $finish; end endmodule
-says_hi : text_of (moves_of fifo 100 (opening (design (codes "a" ∷ [])
+says_hi : text_of (moves_of Fifo 100 (opening (design (codes "a" ∷ [])
     ((code.Assign 0 bit.One ∷ code.Wait 3 ∷ code.Show (codes "hi") ∷ code.Finish ∷ []) ∷ [])) []))
     ≡ codes "3 out \"hi\\n\"\n3 end finish\n"
 unfolding design digits with_pieces made_in_turn target_digits pieces_of arguments_text front value_below instructions_of codes_of number_of plane_digits map_digits zip_digits all_places scopes_below dotted all_woken all_entered reads_below groups_text block_below gone
 says_hi = refl
 
 -- module top; initial #2 $display("b"); initial #1 $display("a"); endmodule
-by_time : text_of (moves_of fifo 100 (opening (design []
+by_time : text_of (moves_of Fifo 100 (opening (design []
     ((code.Wait 2 ∷ code.Show (codes "b") ∷ []) ∷ (code.Wait 1 ∷ code.Show (codes "a") ∷ []) ∷ [])) []))
     ≡ codes "1 out \"a\\n\"\n2 out \"b\\n\"\n2 end none\n"
 unfolding design digits with_pieces made_in_turn target_digits pieces_of arguments_text front value_below instructions_of codes_of number_of plane_digits map_digits zip_digits all_places scopes_below dotted all_woken all_entered reads_below groups_text block_below gone
 by_time = refl
 
 -- module top; initial begin end endmodule
-nothing_to_do : text_of (moves_of fifo 100 (opening (design [] ([] ∷ [])) [])) ≡ codes "0 end none\n"
+nothing_to_do : text_of (moves_of Fifo 100 (opening (design [] ([] ∷ [])) [])) ≡ codes "0 end none\n"
 unfolding design digits with_pieces made_in_turn target_digits pieces_of arguments_text front value_below instructions_of codes_of number_of plane_digits map_digits zip_digits all_places scopes_below dotted all_woken all_entered reads_below groups_text block_below gone
 nothing_to_do = refl
 
 -- It has four labels: pick, the process's end, finish, end.
-four_labels : length (moves_of fifo 100 (opening (design [] ([] ∷ [])) [])) ≡ 4
+four_labels : length (moves_of Fifo 100 (opening (design [] ([] ∷ [])) [])) ≡ 4
 unfolding design digits with_pieces made_in_turn target_digits pieces_of arguments_text front value_below instructions_of codes_of number_of plane_digits map_digits zip_digits all_places scopes_below dotted all_woken all_entered reads_below groups_text block_below gone
 four_labels = refl
 
 -- module top; initial begin #1; #1; $finish; end endmodule
-ten_labels : length (moves_of fifo 100 (opening (design [] ((code.Wait 1 ∷ code.Wait 1 ∷ code.Finish ∷ []) ∷ [])) [])) ≡ 10
+ten_labels : length (moves_of Fifo 100 (opening (design [] ((code.Wait 1 ∷ code.Wait 1 ∷ code.Finish ∷ []) ∷ [])) [])) ≡ 10
 unfolding design digits with_pieces made_in_turn target_digits pieces_of arguments_text front value_below instructions_of codes_of number_of plane_digits map_digits zip_digits all_places scopes_below dotted all_woken all_entered reads_below groups_text block_below gone
 ten_labels = refl
 
-finishes_at_two : text_of (moves_of fifo 100 (opening (design [] ((code.Wait 1 ∷ code.Wait 1 ∷ code.Finish ∷ []) ∷ [])) []))
+finishes_at_two : text_of (moves_of Fifo 100 (opening (design [] ((code.Wait 1 ∷ code.Wait 1 ∷ code.Finish ∷ []) ∷ [])) []))
     ≡ codes "2 end finish\n"
 unfolding design digits with_pieces made_in_turn target_digits pieces_of arguments_text front value_below instructions_of codes_of number_of plane_digits map_digits zip_digits all_places scopes_below dotted all_woken all_entered reads_below groups_text block_below gone
 finishes_at_two = refl
@@ -91,7 +92,7 @@ says_bye = script [] (order (form.Register reason.CbEndOfSimulation source.Null 
     (procedure (codes "bye") (order (form.Print (codes "bye")) ∷ []) ∷ [])
 
 -- module top; initial begin end endmodule
-bye : text_of (moves_of fifo 100 (opening (design [] ([] ∷ [])) (says_bye ∷ [])))
+bye : text_of (moves_of Fifo 100 (opening (design [] ([] ∷ [])) (says_bye ∷ [])))
     ≡ codes "0 startup a\n"
     ++ codes "0 do s1 register cbEndOfSimulation null 0 proc a.bye 7 => h0\n"
     ++ codes "0 occ 1 cbEndOfSimulation -\n"
@@ -131,7 +132,7 @@ removes_itself = script (codes "r" ∷ codes "one" ∷ codes "two" ∷ [])
     ∷ []
     )
 
-goes_on_without : text_of (moves_of fifo 100 (opening changes_twice (removes_itself ∷ [])))
+goes_on_without : text_of (moves_of Fifo 100 (opening changes_twice (removes_itself ∷ [])))
     ≡ head
     ++ codes "0 do c1 by_name \"top.r\" null => h1\n"
     ++ codes "0 do c1 register cbValueChange h1 0 proc a.p1 1 => h2\n"
@@ -180,7 +181,7 @@ removes_another = script (codes "r" ∷ codes "one" ∷ codes "two" ∷ codes "t
     ∷ []
     )
 
-fires_what_is_left : text_of (moves_of fifo 100 (opening changes_twice (removes_another ∷ [])))
+fires_what_is_left : text_of (moves_of Fifo 100 (opening changes_twice (removes_another ∷ [])))
     ≡ head
     ++ codes "0 do c1 by_name \"top.r\" null => h1\n"
     ++ codes "0 do c1 register cbValueChange h1 0 proc a.p1 1 => h2\n"

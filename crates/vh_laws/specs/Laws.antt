@@ -5,7 +5,8 @@ use Rattle.vh_app.specs.Script.{ScriptData}
 use Rattle.vh_callbacks.specs.Callbacks.{IsSound}
 use Rattle.vh_handles.specs.Handles.{no_handles}
 use Rattle.vh_kernel.specs.Outcome.{Move}
-use Rattle.vh_kernel.specs.Run.{Chooser, IsRun}
+use Rattle.vh_choice.specs.declared.chooser.Chooser.{Chooser}
+use Rattle.vh_kernel.specs.Run.{IsRun}
 use Rattle.vh_kernel.specs.Settle.{Opens}
 use Rattle.vh_kernel.specs.State.{State}
 use Rattle.vh_kernel.specs.Step.{is_over}

@@ -1,4 +1,3 @@
-use Rattle.vh_kernel.specs.Run.{fifo}
 use Rattle.vh_laws.proofs.LawsLemmas.{runs-keep-laws, opens-fresh}
 use Rattle.vh_host.specs.Acceptance.{accepts}
 use Rattle.vh_host.proofs.Verdicts.{no_memory}
@@ -6,7 +5,7 @@ use Rattle.vh_host.proofs.host.run_design.Goals as goal
 
 pub transcribe-requires-clause-lawful : goal.transcribe-requires-clause-lawful
 transcribe-requires-clause-lawful g c =
-    runs-keep-laws _ (opens-fresh c.args.design c.args.scripts.items _ c.in-Ok.ensures.opens) fifo
+    runs-keep-laws _ (opens-fresh c.args.design c.args.scripts.items _ c.in-Ok.ensures.opens) c.args.order
 
 pub returns-in-Ok-clause-answers : goal.returns-in-Ok-clause-answers
 returns-in-Ok-clause-answers g c =
@@ -14,4 +13,4 @@ returns-in-Ok-clause-answers g c =
     record { written = w.0; appends = w.1; answers = record { opening = _; opens = c.in-Ok.ensures.opens; wrote = w.2 } }
 
 pub returns-in-Err-clause-answers : goal.returns-in-Err-clause-answers
-returns-in-Err-clause-answers g c = no_memory (accepts c.args.design c.args.scripts.items) (g.K.Sink.written c.args.out.now)
+returns-in-Err-clause-answers g c = no_memory c.args.order c.args.budget (accepts c.args.design c.args.scripts.items) (g.K.Sink.written c.args.out.now)

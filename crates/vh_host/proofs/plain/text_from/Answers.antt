@@ -6,13 +6,13 @@ use Rattle.vh_host.proofs.plain.text_from.Goals as goal
 pub returns-then-is_end : goal.returns-then-is_end
 returns-then-is_end c =
     c.in_ok-push_line.ensures
-    ∙ text_last c.args.budget c.loop-made.made (state_of c.loop-made.kernel) (state_of c.step.new.self) c.in_ok-label.label _ _
+    ∙ text_last c.loop-made.next c.args.budget c.loop-made.made (state_of c.loop-made.kernel) (state_of c.step.new.self) c.in_ok-label.label _ _
     c.loop-made-test.true c.in_ok-label.ensures.in_order (sym c.if-is_end.ensures) c.loop-made.invariant.0
 
 pub loop-made-preserved : goal.loop-made-preserved
 loop-made-preserved c = (
   rw c.in_ok-push_line.ensures
-      (text_next c.args.budget c.loop-made.made (state_of c.loop-made.kernel) (state_of c.step.new.self) c.in_ok-label.label _ _
+      (text_next c.loop-made.next c.args.budget c.loop-made.made (state_of c.loop-made.kernel) (state_of c.step.new.self) c.in_ok-label.label _ _
       c.loop-made-test.true c.in_ok-label.ensures.in_order (sym c.is_end.ensures ∙ c.if-is_end.false) c.loop-made.invariant.0),
   c.in_ok-label.ensures.goes (sym c.is_end.ensures ∙ c.if-is_end.false),
 )

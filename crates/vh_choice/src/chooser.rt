@@ -1,5 +1,5 @@
 ghost use Rattle.std.specs.Prelude.{◌≡◌, ◌<◌};
-ghost use Rattle.vh_kernel.specs.Run.{next_state, drawn, chosen, chooser_after};
+ghost use Rattle.vh_choice.specs.Choices.{next_state, chosen, chooser_after};
 
 /// An order of choice: which of a label's choices is taken (IEEE 1364-2005, 11.4.2 leaves it open).
 #[derive(Clone, Copy, Debug, PartialEq, Eq)]
@@ -16,7 +16,7 @@ impl Chooser {
     /// The number of the choice among so many, from 0.
     pub fn chosen(self, count: u32) -> u32
         requires { 0 < count }
-        ensures { result ≡ chosen self.entry count }
+        ensures { result ≡ chosen self count }
     {
         match self {
             Chooser::Fifo => 0,
@@ -27,7 +27,7 @@ impl Chooser {
 
     /// The order of choice for the labels after one with so many choices.
     pub fn after(self, count: u32) -> Chooser
-        ensures { result ≡ chooser_after self.entry count }
+        ensures { result ≡ chooser_after self count }
     {
         match self {
             Chooser::Fifo => Chooser::Fifo,

@@ -1,6 +1,6 @@
 use Rattle.std.proofs.Common.{sym, ◌∙◌, arith}
-use Rattle.vh_host.proofs.FileWords.{no_file, some_design}
-use Rattle.vh_host.proofs.words.can_be_run.Goals as goal
+use Rattle.vh_words.proofs.FileWordsLemmas.{no_file, some_design}
+use Rattle.vh_words.proofs.file_words.can_be_run.Goals as goal
 
 pub returns-then-not-all_files : goal.returns-then-not-all_files
 returns-then-not-all_files c = no_file c.args.files.now (omega arith) (sym c.all_files.ensures ∙ c.if-not-all_files.true)

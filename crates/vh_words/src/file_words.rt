@@ -1,27 +1,12 @@
-ghost use Rattle.std.specs.Prelude.{◌≡◌, ◌≤◌, Some, None, length, map, string_bytes, IfSome};
-ghost use Rattle.std.specs.Option.{option_map};
+ghost use Rattle.std.specs.Prelude.{◌≡◌, string_bytes};
 ghost use Rattle.std.specs.List.{list_all, count_by};
-ghost use Rattle.vh_host.specs.Words.{Reading, reading, can_be_run, is_option, is_design_word, is_script_word, is_file_word, texts};
+ghost use Rattle.vh_words.specs.Words.{can_be_run, is_design_word, is_script_word, is_file_word, texts};
 
 // How many file words there are at most.
 const FILE_LIMIT: usize = 8;
 
-/// The file words that are asked to be run, where the words have a reading.
-pub fn files_to_run(words: &[String]) -> Option<&[String]>
-    ensures reading { option_map (λ files. record { files = texts files.now }) result ≡ reading (texts words.now) }
-    ensures few { IfSome result (λ files. length files.now ≤ 8) }
-{
-    let [mode, files @ ..] = words else {
-        return None;
-    };
-    if mode.as_str() == "run" && can_be_run(files) {
-        return Some(files);
-    }
-    None
-}
-
-// Can the file words be run?
-fn can_be_run(files: &[String]) -> bool
+/// Can the file words be run?
+pub fn can_be_run(files: &[String]) -> bool
     ensures { result ≡ can_be_run (texts files.now) }
 {
     if files.len() > FILE_LIMIT {
@@ -71,19 +56,12 @@ fn is_file_word(word: &str) -> bool
 pub fn is_design_word(word: &str) -> bool
     ensures { result ≡ is_design_word word.now }
 {
-    word.as_bytes().ends_with(b".v") && !is_option(word)
+    word.as_bytes().ends_with(b".v")
 }
 
 /// Does the word name an application's script?
 pub fn is_script_word(word: &str) -> bool
     ensures { result ≡ is_script_word word.now }
 {
-    word.as_bytes().ends_with(b".app") && !is_option(word)
-}
-
-// Is the word written as an option is?
-fn is_option(word: &str) -> bool
-    ensures { result ≡ is_option word.now }
-{
-    word.as_bytes().starts_with(b"-")
+    word.as_bytes().ends_with(b".app")
 }

@@ -1,0 +1,2 @@
+-- Orders of choice.
+pub mod Choices

@@ -1,0 +1,3 @@
+-- Lemmas of the words.
+pub mod FileWordsLemmas
+pub mod NumbersLemmas
