@@ -33,7 +33,7 @@ def one_line(words):
 def examples():
     """Each example of the page: its files, the words of its call, and the test of what it writes."""
     for marked, plain, told in TEXT.findall(PAGE):
-        yield {"a.v": marked or plain}, ["a.v"], lambda out, err, told=told: out == "" and err == told + "\n"
+        yield {"a.v": marked or plain}, ["a.v"], lambda out, err, told=told: ends_so(out, told) and err == told + "\n"
     for text, name, told in SCRIPT.findall(PAGE):
         files = {"a.v": "module top; endmodule", name: text}
         yield files, ["a.v", name], lambda out, err, told=told: out == "" and err == told + "\n"
@@ -44,6 +44,11 @@ def examples():
         script = f"app a; startup {{ {one_line(startup) * 256} }} proc p {{ {one_line(order) * 256} }} proc q {{ }}"
         files = {"a.v": "module top; endmodule", "a.app": script}
         yield files, ["a.v", "a.app"], lambda out, err, line=line: refused(out, line)
+
+
+def ends_so(out, told):
+    """Is nothing written of a text that is refused, and the fault last of a run that it ended?"""
+    return out.endswith(f" end {told.split()[-1]}\n") if told.startswith("run fault") else out == ""
 
 
 def refused(out, line):

@@ -127,6 +127,84 @@ fn a_design_runs_to_its_end(rt: HostRuntime) -> Result<(), Fail> {
     Ok(())
 }
 
+// Words, a design, and what comes of it: the status and the text.
+static ORDERS: [(&[&str], &str, Status, &str); 9] = [
+    (
+        &["run", "--budget", "10", "top.v"],
+        "module top; always #1; endmodule",
+        Status::BudgetSpent,
+        "",
+    ),
+    (
+        &["run", "top.v", "--budget=10"],
+        TWO_DELAYS,
+        Status::Done(Cause::Finish),
+        "2 end finish\n",
+    ),
+    (
+        &["--budget", "9", "run", "top.v"],
+        TWO_DELAYS,
+        Status::BudgetSpent,
+        "",
+    ),
+    (
+        &["run", "--order", "fifo", "top.v"],
+        TWO_INITIALS,
+        Status::Done(Cause::Nothing),
+        "0 out \"a\\n\"\n0 out \"b\\n\"\n0 end none\n",
+    ),
+    (
+        &["run", "--order", "lifo", "top.v"],
+        TWO_INITIALS,
+        Status::Done(Cause::Nothing),
+        "0 out \"b\\n\"\n0 out \"a\\n\"\n0 end none\n",
+    ),
+    // The state becomes 1442695040888963407, and the choice is 167951807 modulo 2.
+    (
+        &["run", "--order=seeded:0", "top.v"],
+        TWO_INITIALS,
+        Status::Done(Cause::Nothing),
+        "0 out \"b\\n\"\n0 out \"a\\n\"\n0 end none\n",
+    ),
+    // The state becomes 7806831264735756412, and the choice is 908834774 modulo 2.
+    (
+        &["run", "--order=seeded:1", "top.v"],
+        TWO_INITIALS,
+        Status::Done(Cause::Nothing),
+        "0 out \"a\\n\"\n0 out \"b\\n\"\n0 end none\n",
+    ),
+    (
+        &["run", "--order", "lifo", "top.v"],
+        LAST_UPDATE,
+        Status::Done(Cause::Nothing),
+        "1 out \"1\\n\"\n1 end none\n",
+    ),
+    (
+        &["run", "--order", "seeded:7", "--", "top.v"],
+        LAST_UPDATE,
+        Status::Done(Cause::Nothing),
+        "1 out \"1\\n\"\n1 end none\n",
+    ),
+];
+
+const TWO_DELAYS: &str = "module top; initial begin #1; #1; $finish; end endmodule";
+
+const TWO_INITIALS: &str =
+    "module top; initial $display(\"a\"); initial $display(\"b\"); endmodule";
+
+const LAST_UPDATE: &str =
+    "module top; reg a; initial begin a <= 0; a <= 1; #1 $display(\"%b\", a); end endmodule";
+
+#[test]
+fn words_name_the_order_and_the_budget(rt: HostRuntime) -> Result<(), Fail> {
+    for (list, design, status, text) in &ORDERS {
+        let (told, written) = ran(&rt, rt.alloc(), list, design.as_bytes(), &[], 1024, &[])?;
+        assert_eq!(rt; told, *status, "{design}");
+        assert_eq!(rt; written.as_slice(), text.as_bytes(), "{design}");
+    }
+    Ok(())
+}
+
 #[test]
 fn words_and_files_are_refused_by_name(rt: HostRuntime) -> Result<(), Fail> {
     let usage = "usage: vhost run [--order fifo|lifo|seeded:N] [--budget N] FILES..";
@@ -138,7 +216,7 @@ fn words_and_files_are_refused_by_name(rt: HostRuntime) -> Result<(), Fail> {
             column: 1,
         },
     );
-    let always = "module top; always #1; endmodule";
+    let wire = "module top; wire w; endmodule";
     let none: [&str; 0] = [];
     let rows: [(&[&str], &str, Status, &str, u8); 9] = [
         (&none, FIRST, Status::Usage, usage, 1),
@@ -157,7 +235,7 @@ fn words_and_files_are_refused_by_name(rt: HostRuntime) -> Result<(), Fail> {
         ),
         (
             &["run", "top.v"],
-            always,
+            wire,
             refused,
             "design refused: S3 at 1:1:1",
             2,
@@ -290,13 +368,32 @@ fn a_script_may_stand_on_either_side(rt: HostRuntime) -> Result<(), Fail> {
     Ok(())
 }
 
-// The one design of these tests that is no text of the first subset, and the one script.
-const NO_DESIGN: &str = "module top; always #1; endmodule";
+// The one design of these tests that has a fault, and the one script.
+const NO_DESIGN: &str = "module top; reg a; reg a; endmodule";
 
 const NO_SCRIPT: &str = "app watch; startup { print \"on\" }";
 
-// A design that is refused, at its place.
+// It is refused at its place, behind a script in the second file.
 const DESIGN_REFUSED: Status = Status::DesignRefused(
+    DesignFault::N2,
+    Place {
+        file: 1,
+        line: 1,
+        column: 24,
+    },
+);
+
+const LATER_REFUSED: Status = Status::DesignRefused(
+    DesignFault::N2,
+    Place {
+        file: 2,
+        line: 1,
+        column: 24,
+    },
+);
+
+// Two modules can't be run yet.
+const NOT_BUILT: Status = Status::DesignRefused(
     DesignFault::S3,
     Place {
         file: 1,
@@ -360,7 +457,7 @@ static REFUSALS: [(&[&str], &str, &str, &[u64], Status, &str, u8); 21] = [
         FIRST,
         SCRIPT,
         &[],
-        DESIGN_REFUSED,
+        NOT_BUILT,
         "design refused: S3 at 1:1:1",
         2,
     ),
@@ -369,7 +466,7 @@ static REFUSALS: [(&[&str], &str, &str, &[u64], Status, &str, u8); 21] = [
         FIRST,
         NO_SCRIPT,
         &[],
-        DESIGN_REFUSED,
+        NOT_BUILT,
         "design refused: S3 at 1:1:1",
         2,
     ),
@@ -460,8 +557,8 @@ static REFUSALS: [(&[&str], &str, &str, &[u64], Status, &str, u8); 21] = [
         NO_DESIGN,
         NO_SCRIPT,
         &[],
-        DESIGN_REFUSED,
-        "design refused: S3 at 1:1:1",
+        LATER_REFUSED,
+        "design refused: N2 at 2:1:24",
         2,
     ),
     (
@@ -470,7 +567,7 @@ static REFUSALS: [(&[&str], &str, &str, &[u64], Status, &str, u8); 21] = [
         SCRIPT,
         &[],
         DESIGN_REFUSED,
-        "design refused: S3 at 1:1:1",
+        "design refused: N2 at 1:1:24",
         2,
     ),
     // Reads that fail come first.

@@ -1,4 +1,0 @@
-pub mod Declared
-pub mod Designs
-pub mod SubsetLemmas
-pub mod TreesLemmas
