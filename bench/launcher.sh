@@ -99,7 +99,8 @@ unset BROKEN
 
 # words that have no reading
 fresh_repository
-for words in '' 'run' 'walk a.v' 'run a.app' 'run a.txt' 'run 1.v 2.v 3.v 4.v 5.v 6.v 7.v 8.v 9.v' 'run a.v b.app c.app' 'run -a.v' 'run a.v -b.app'; do
+for words in '' 'run' 'walk a.v' 'run a.app' 'run a.txt' 'run 1.v 2.v 3.v 4.v 5.v 6.v 7.v 8.v 9.v' 'run a.v b.app c.app' 'run -a.v' 'run a.v -b.app' \
+    'run --order fifo --order=lifo a.v' 'run a.v --order' 'run --budget 0 a.v' 'run -- --order fifo a.v' 'run --order=random a.v' 'run - a.v'; do
     run "$full" ./vhost $words
     holds [ "$status" = 1 ]
     holds grep -q "^usage: vhost run" "$work/err"
@@ -114,9 +115,9 @@ holds grep -q "^design refused: S3 at 1:1:1$" "$work/out"
 holds [ "$(grep -c '^## ' "$work/out")" = 1 ]
 run "$bare" ./vhost explain e13
 holds [ "$(head -n 1 "$work/out")" = "## E13" ]
-run "$bare" ./vhost explain N3
+run "$bare" ./vhost explain N8
 holds [ "$(wc -l <"$work/out" | tr -d ' ')" = 1 ]
-holds grep -q '`N3`' "$work/out"
+holds grep -q '`N8`' "$work/out"
 for code in L1 L2 L3 L4 L5 L6 S1 S2 S3 N1 N2 N3 N4 N5 N6 N7 N8 N9 N10 N11 A1 A2 A3 A4 A5 F1 F2 F3 F4 \
     E1 E2 E3 E4 E5 E6 E7 E8 E9 E10 E11 E12 E13 E14 E15 E16; do
     run "$bare" ./vhost explain "$code"
@@ -133,6 +134,13 @@ for words in explain 'explain S3 A2'; do
     holds grep -q "^usage: vhost explain CODE" "$work/err"
 done
 holds [ "$(builds)" = 0 ]
+
+# options may stand anywhere before `--`, behind which each word is a file
+for words in '--order lifo run a.v' 'run --order=seeded:3 a.v --budget 5' 'run -- a.v'; do
+    fresh_repository
+    run "$full" ./vhost $words
+    holds [ "$(builds)" = 1 ]
+done
 
 # eight files
 run "$full" ./vhost run 1.v 2.v 3.v 4.v 5.v 6.v 7.v a.app
