@@ -21,7 +21,8 @@ use vh_bind::ElabFault;
 use vh_nodes::{Detail, ObjectInfo};
 use vh_sites::{Declared, Site, VarType};
 
-/// The first pass over the sites: what is known, the least fault so far, whether something was passed
+/// The first pass over the sites: what is known, the least fault so far, whether something was
+/// passed
 /// over, since it needs a parameter that has no value, and how many words the memories have.
 #[derive(Drop)]
 pub struct Checked {
@@ -76,7 +77,8 @@ fn take_measure(
     measure: Result<Option<Measure>, ElabFault>,
     checked: &mut Checked,
 ) -> Result<(), NoMemory>
-    ensures { Views.MeasuresBy number (site_seen site.now) (checked_seen checked.old) measure result (checked_seen checked.new) }
+    ensures { Views.MeasuresBy number (site_seen site.now)
+        (checked_seen checked.old) measure result (checked_seen checked.new) }
 {
     match measure {
         Ok(Some(measure)) => {
@@ -125,7 +127,8 @@ fn measure_var(
     checked: &mut Checked,
 ) -> Result<(), NoMemory>
     ensures { OnOk result (checked_seen checked.new
-        ≡ Constants.measured_var (home_seen home.entry) number (site_seen site.now) (var_type_seen var_type.entry) (checked_seen checked.old)) }
+        ≡ Constants.measured_var (home_seen home.entry) number (site_seen site.now)
+        (var_type_seen var_type.entry) (checked_seen checked.old)) }
 {
     let measure = var_at(alloc, home, &checked.known, site.scope, var_type);
     take_measure(number, site, measure, checked)
@@ -142,7 +145,8 @@ fn measure_memory(
     checked: &mut Checked,
 ) -> Result<(), NoMemory>
     ensures { OnOk result (checked_seen checked.new
-        ≡ Constants.measured_memory (home_seen home.entry) number (site_seen site.now) (type_tree data_type.now) (range_tree addresses.now) (checked_seen checked.old)) }
+        ≡ Constants.measured_memory (home_seen home.entry) number (site_seen site.now)
+        (type_tree data_type.now) (range_tree addresses.now) (checked_seen checked.old)) }
 {
     let measure = memory_at(
         alloc,
@@ -165,7 +169,8 @@ fn measure_parameter(
     checked: &mut Checked,
 ) -> Result<(), NoMemory>
     ensures { OnOk result (checked_seen checked.new
-        ≡ Constants.measured_parameter (home_seen home.entry) (site_seen site.now) (data_type_seen data_type.entry) (expr_tree e.now) (checked_seen checked.old)) }
+        ≡ Constants.measured_parameter (home_seen home.entry) (site_seen site.now)
+        (data_type_seen data_type.entry) (expr_tree e.now) (checked_seen checked.old)) }
 {
     let value = parameter_at(alloc, home, &checked.known, site.scope, data_type, e);
     take_parameter(value, checked)
@@ -180,7 +185,8 @@ fn measure_site(
     checked: &mut Checked,
 ) -> Result<(), NoMemory>
     ensures { OnOk result (checked_seen checked.new
-        ≡ Constants.measured_site (home_seen home.entry) number (site_seen site.now) (checked_seen checked.old)) }
+        ≡ Constants.measured_site (home_seen home.entry) number (site_seen site.now)
+        (checked_seen checked.old)) }
 {
     let fault = too_many(site, number >= MOST_OBJECTS);
     checked.fault = least(checked.fault, fault);
@@ -210,7 +216,8 @@ fn measure_sites(
     checked: &mut Checked,
 ) -> Result<(), NoMemory>
     ensures { OnOk result (checked_seen checked.new
-        ≡ numbered (Constants.measured_site (home_seen home.entry)) 1 (sites_seen sites.now) (checked_seen checked.old)) }
+        ≡ numbered (Constants.measured_site (home_seen home.entry)) 1 (sites_seen sites.now)
+        (checked_seen checked.old)) }
 {
     let mut number = 1;
     for site in sites {

@@ -45,7 +45,8 @@ fn ranged_value(
     range: Range,
 ) -> Result<Option<Bounded>, ElabFault>
     requires { Constants.span range ≤ MAX_WIDTH }
-    ensures { Gives (Constants.ranged_value (scope_seen scope.now) signed (expr_tree e.now) range) result }
+    ensures { Gives (Constants.ranged_value (scope_seen scope.now) signed
+        (expr_tree e.now) range) result }
 {
     let width = span(range) as u32;
     match constant(alloc, scope, e, width)? {
@@ -62,7 +63,8 @@ fn typed_value(
     range: Option<&vh_ast::Range>,
     e: &Expr,
 ) -> Result<Option<Bounded>, ElabFault>
-    ensures { Gives (Constants.typed_value (scope_seen scope.now) signed (range_seen range.entry) (expr_tree e.now)) result }
+    ensures { Gives (Constants.typed_value (scope_seen scope.now) signed (range_seen range.entry)
+        (expr_tree e.now)) result }
 {
     let Some(range) = range else {
         let value = constant(alloc, scope, e, 0)?;
@@ -77,7 +79,8 @@ fn typed_value(
     }
 }
 
-/// The value of a parameter with the bounds of its digits; none where it needs one that has no value
+/// The value of a parameter with the bounds of its digits; none where it needs one that has no
+/// value
 /// (IEEE 1364-2005, 4.10.1).
 pub(crate) fn parameter_value(
     alloc: Global,
@@ -85,7 +88,8 @@ pub(crate) fn parameter_value(
     data_type: Option<&DataType>,
     e: &Expr,
 ) -> Result<Option<Bounded>, ElabFault>
-    ensures { Gives (Constants.parameter_value (scope_seen scope.now) (data_type_seen data_type.entry) (expr_tree e.now)) result }
+    ensures { Gives (Constants.parameter_value (scope_seen scope.now)
+        (data_type_seen data_type.entry) (expr_tree e.now)) result }
 {
     match data_type {
         None => typed_value(alloc, scope, false, None, e),
@@ -164,7 +168,9 @@ fn value_at(
     known: &Known,
 ) -> Result<Option<Bounded>, NoMemory>
     ensures { IfOk result (λ v. v ≡ Constants.given
-        (Constants.parameter_value (Constants.scope_at (home_seen home.entry) (known_seen known.now) site.now.scope) (data_type_seen data_type.entry) (expr_tree e.now))) }
+        (Constants.parameter_value (Constants.scope_at (home_seen home.entry)
+        (known_seen known.now) site.now.scope) (data_type_seen data_type.entry)
+        (expr_tree e.now))) }
 {
     let value = parameter_at(alloc, home, known, site.scope, data_type, e);
     value_or_none(value)
@@ -179,7 +185,8 @@ fn settle_site(
     known: &mut Known,
 ) -> Result<bool, NoMemory>
     ensures settled { OnOk result (known_seen known.new
-        ≡ Constants.settled_site (home_seen home.entry) number (site_seen site.now) (known_seen known.old)) }
+        ≡ Constants.settled_site (home_seen home.entry) number (site_seen site.now)
+        (known_seen known.old)) }
     ensures same { result ≡ Ok false → known_seen known.new ≡ known_seen known.old }
 {
     let Declared::Constant(data_type, e) = site.declared else {
@@ -225,7 +232,8 @@ pub(crate) fn settle(
     known: &mut Known,
 ) -> Result<(), NoMemory>
     ensures { OnOk result (known_seen known.new
-        ≡ Constants.rounds (sites_seen sites.now) (home_seen home.entry) (sites_seen sites.now) (known_seen known.old)) }
+        ≡ Constants.rounds (sites_seen sites.now) (home_seen home.entry) (sites_seen sites.now)
+        (known_seen known.old)) }
 {
     for _round in sites {
         if !settle_round(alloc, home, sites, known)? {

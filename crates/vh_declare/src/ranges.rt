@@ -93,7 +93,8 @@ pub(crate) fn range_of(
     most: u32,
     range: &vh_ast::Range,
 ) -> Result<Option<Range>, ElabFault>
-    ensures value { Gives (Constants.range_of (scope_seen scope.now) most (range_tree range.now)) result }
+    ensures value { Gives (Constants.range_of (scope_seen scope.now) most
+        (range_tree range.now)) result }
     ensures most { IfOk result (λ o. IfSome o (λ r. Constants.span r ≤ most)) }
 {
     let (left, right) = bounds(alloc, scope, range)?;
@@ -112,7 +113,8 @@ pub(crate) fn type_range(
     scope: &Scope,
     data_type: &DataType,
 ) -> Result<Option<Range>, ElabFault>
-    ensures value { Gives (Constants.type_range (scope_seen scope.now) (type_tree data_type.now).range) result }
+    ensures value { Gives (Constants.type_range (scope_seen scope.now)
+        (type_tree data_type.now).range) result }
     ensures most { IfOk result (λ o. IfSome o (λ r. Constants.span r ≤ MAX_WIDTH)) }
 {
     match &data_type.range {
@@ -121,7 +123,8 @@ pub(crate) fn type_range(
     }
 }
 
-/// What is known of an object once its ranges are: the bounds of its digits, its width and its sign,
+/// What is known of an object once its ranges are: the bounds of its digits, its width and its
+/// sign,
 /// and how many words a memory has, from which address on.
 #[derive(Clone, Copy)]
 pub(crate) struct Measure {
@@ -167,7 +170,8 @@ fn typed_measure(
     scope: &Scope,
     data_type: &DataType,
 ) -> Result<Option<Measure>, ElabFault>
-    ensures { Gives (Constants.typed_measure (scope_seen scope.now) (type_tree data_type.now)) result }
+    ensures { Gives (Constants.typed_measure (scope_seen scope.now)
+        (type_tree data_type.now)) result }
 {
     match type_range(alloc, scope, data_type)? {
         None => Ok(None),
@@ -181,7 +185,8 @@ pub(crate) fn var_measure(
     scope: &Scope,
     var_type: VarType,
 ) -> Result<Option<Measure>, ElabFault>
-    ensures { Gives (Constants.var_measure (scope_seen scope.now) (var_type_seen var_type.entry)) result }
+    ensures { Gives (Constants.var_measure (scope_seen scope.now)
+        (var_type_seen var_type.entry)) result }
 {
     match var_type {
         VarType::Typed(data_type) => typed_measure(alloc, scope, data_type),
@@ -198,7 +203,8 @@ pub(crate) fn memory_measure(
     data_type: &DataType,
     addresses: &vh_ast::Range,
 ) -> Result<Option<Measure>, ElabFault>
-    ensures { Gives (Constants.memory_measure (scope_seen scope.now) (type_tree data_type.now) (range_tree addresses.now)) result }
+    ensures { Gives (Constants.memory_measure (scope_seen scope.now) (type_tree data_type.now)
+        (range_tree addresses.now)) result }
 {
     let digits = type_range(alloc, scope, data_type)?;
     let addresses = range_of(alloc, scope, MOST_WORDS, addresses)?;

@@ -25,7 +25,8 @@ pub(crate) fn var_at(
     var_type: VarType,
 ) -> Result<Option<Measure>, ElabFault>
     ensures { Gives (Constants.var_measure
-        (Constants.scope_at (home_seen home.entry) (known_seen known.now) scope) (var_type_seen var_type.entry)) result }
+        (Constants.scope_at (home_seen home.entry) (known_seen known.now) scope)
+        (var_type_seen var_type.entry)) result }
 {
     let around = around(alloc, &known.objects, ObjId::new(scope))?;
     let scope = Scope {
@@ -55,7 +56,8 @@ pub(crate) fn memory_at(
     addresses: &vh_ast::Range,
 ) -> Result<Option<Measure>, ElabFault>
     ensures { Gives (Constants.memory_measure
-        (Constants.scope_at (home_seen home.entry) (known_seen known.now) scope) (type_tree data_type.now) (range_tree addresses.now)) result }
+        (Constants.scope_at (home_seen home.entry) (known_seen known.now) scope)
+        (type_tree data_type.now) (range_tree addresses.now)) result }
 {
     let around = around(alloc, &known.objects, ObjId::new(scope))?;
     let scope = Scope {
@@ -85,7 +87,8 @@ pub(crate) fn parameter_at(
     e: &Expr,
 ) -> Result<Option<Bounded>, ElabFault>
     ensures { Gives (Constants.parameter_value
-        (Constants.scope_at (home_seen home.entry) (known_seen known.now) scope) (data_type_seen data_type.entry) (expr_tree e.now)) result }
+        (Constants.scope_at (home_seen home.entry) (known_seen known.now) scope)
+        (data_type_seen data_type.entry) (expr_tree e.now)) result }
 {
     let around = around(alloc, &known.objects, ObjId::new(scope))?;
     let scope = Scope {

@@ -39,14 +39,17 @@ pub(crate) fn code_value(
     e: &Expr,
     coding: &mut Coding,
 ) -> Result<(), LowerFault>
-    requires sound { IsSound mode.Value (surroundings_seen around.now).scope (coding_seen coding.old).added.exprs }
+    requires sound { IsSound mode.Value (surroundings_seen around.now).scope
+        (coding_seen coding.old).added.exprs }
     requires unit { is_unit (surroundings_seen around.now).scope.precision
         (surroundings_seen around.now).scope.unit ≡ true }
     ensures coded { CodesTo
-        (Coded.value_coded (surroundings_seen around.now) number (expr_tree e.now) (coding_seen coding.old))
+        (Coded.value_coded (surroundings_seen around.now) number (expr_tree e.now)
+        (coding_seen coding.old))
         result (coding_seen coding.new) }
     ensures sound { OnOk result
-        (IsSound mode.Value (surroundings_seen around.now).scope (coding_seen coding.new).added.exprs) }
+        (IsSound mode.Value (surroundings_seen around.now).scope
+        (coding_seen coding.new).added.exprs) }
 {
     let object = ObjId::new(number);
     let code = initial_code(alloc, around, &mut coding.added, object, e)?;
@@ -62,14 +65,17 @@ pub(crate) fn code_construct(
     stmt: &Stmt,
     coding: &mut Coding,
 ) -> Result<(), LowerFault>
-    requires sound { IsSound mode.Value (surroundings_seen around.now).scope (coding_seen coding.old).added.exprs }
+    requires sound { IsSound mode.Value (surroundings_seen around.now).scope
+        (coding_seen coding.old).added.exprs }
     requires unit { is_unit (surroundings_seen around.now).scope.precision
         (surroundings_seen around.now).scope.unit ≡ true }
     ensures coded { CodesTo
-        (Coded.construct_coded (surroundings_seen around.now) kind (stmt_tree stmt.now) (coding_seen coding.old))
+        (Coded.construct_coded (surroundings_seen around.now) kind (stmt_tree stmt.now)
+        (coding_seen coding.old))
         result (coding_seen coding.new) }
     ensures sound { OnOk result
-        (IsSound mode.Value (surroundings_seen around.now).scope (coding_seen coding.new).added.exprs) }
+        (IsSound mode.Value (surroundings_seen around.now).scope
+        (coding_seen coding.new).added.exprs) }
 {
     let code = lower(alloc, around, &mut coding.added, kind, stmt)?;
     add_code(&mut coding.codes, code)?;
@@ -83,14 +89,17 @@ pub(crate) fn code_body(
     stmt: &Stmt,
     coding: &mut Coding,
 ) -> Result<(), LowerFault>
-    requires sound { IsSound mode.Value (surroundings_seen around.now).scope (coding_seen coding.old).added.exprs }
+    requires sound { IsSound mode.Value (surroundings_seen around.now).scope
+        (coding_seen coding.old).added.exprs }
     requires unit { is_unit (surroundings_seen around.now).scope.precision
         (surroundings_seen around.now).scope.unit ≡ true }
     ensures coded { CodesTo
-        (Coded.body_coded (surroundings_seen around.now) (stmt_tree stmt.now) (coding_seen coding.old))
+        (Coded.body_coded (surroundings_seen around.now) (stmt_tree stmt.now)
+        (coding_seen coding.old))
         result (coding_seen coding.new) }
     ensures sound { OnOk result
-        (IsSound mode.Value (surroundings_seen around.now).scope (coding_seen coding.new).added.exprs) }
+        (IsSound mode.Value (surroundings_seen around.now).scope
+        (coding_seen coding.new).added.exprs) }
 {
     let code = lower(alloc, around, &mut coding.added, CodeKind::Body, stmt)?;
     add_code(&mut coding.bodies, code)?;

@@ -141,7 +141,8 @@ fn finished(
     coding: Coding,
 ) -> Result<Elaboration, NoMemory>
     ensures { Elaborates
-        (Elaborated.finished objects.items precision (sites_seen sites.now) values.items (coding_seen coding)) result }
+        (Elaborated.finished objects.items precision (sites_seen sites.now) values.items
+        (coding_seen coding)) result }
 {
     if any_with_nets(&coding.added.stmts) {
         return Ok(Elaboration::Later);
@@ -202,9 +203,11 @@ fn statements_alone(
 ) -> Result<Elaboration, NoMemory>
     requires home { home_seen home ≡ FirstPass.home_of (module_tree module.now) }
     requires unit { is_unit home.precision home.unit ≡ true }
-    requires sound { let known = (FirstPass.checked (module_tree module.now) (sites_seen sites.now)).known in
+    requires sound { let known = (FirstPass.checked (module_tree module.now)
+        (sites_seen sites.now)).known in
         AreSound known.objects home.precision known.exprs }
-    ensures { let known = (FirstPass.checked (module_tree module.now) (sites_seen sites.now)).known in
+    ensures { let known = (FirstPass.checked (module_tree module.now)
+        (sites_seen sites.now)).known in
         let ready = Elaborated.ready_of (home_seen home.entry) known (routines_seen routines.now) in
         Elaborates (Elaborated.or_lesser fault (Coded.statements_coded ready (sites_seen sites.now) (Elaborated.no_codes known.exprs))) result }
 {
@@ -233,10 +236,12 @@ fn second_pass(
     routines: &Routines,
 ) -> Result<Elaboration, NoMemory>
     requires home { home_seen home ≡ FirstPass.home_of (module_tree module.now) }
-    requires known { known_seen known ≡ (FirstPass.checked (module_tree module.now) (sites_seen sites.now)).known }
+    requires known { known_seen known
+        ≡ (FirstPass.checked (module_tree module.now) (sites_seen sites.now)).known }
     requires unit { is_unit home.precision home.unit ≡ true }
     requires sound { AreSound (known_seen known).objects home.precision (known_seen known).exprs }
-    ensures { let ready = Elaborated.ready_of (home_seen home.entry) (known_seen known) (routines_seen routines.now) in
+    ensures { let ready = Elaborated.ready_of (home_seen home.entry) (known_seen known)
+        (routines_seen routines.now) in
         Elaborates (Elaborated.second_pass ready (known_seen known).exprs (sites_seen sites.now)) result }
 {
     let Known {
@@ -281,7 +286,8 @@ fn are_sound(exprs: &[ExprNode], objects: &[ObjectInfo], precision: u8) -> bool
 // Whether the second pass can take a module.
 fn is_taken(home: Home, known: &Known, routines: &Routines) -> bool
     ensures value { result ≡ Elaborated.is_taken
-        (Elaborated.ready_of (home_seen home.entry) (known_seen known.now) (routines_seen routines.now))
+        (Elaborated.ready_of (home_seen home.entry) (known_seen known.now)
+        (routines_seen routines.now))
         (known_seen known.now).exprs }
     ensures unit { result ≡ true → is_unit home.entry.precision home.entry.unit ≡ true }
     ensures sound { result ≡ true
@@ -302,8 +308,10 @@ fn passed_first(
     known: Known,
 ) -> Result<Elaboration, NoMemory>
     requires home { home_seen home ≡ FirstPass.home_of (module_tree module.now) }
-    requires known { known_seen known ≡ (FirstPass.checked (module_tree module.now) (sites_seen sites.now)).known }
-    ensures { Elaborates (Elaborated.passed_first (home_seen home.entry) (known_seen known) (sites_seen sites.now)) result }
+    requires known { known_seen known
+        ≡ (FirstPass.checked (module_tree module.now) (sites_seen sites.now)).known }
+    ensures { Elaborates (Elaborated.passed_first (home_seen home.entry) (known_seen known)
+        (sites_seen sites.now)) result }
 {
     let routines = routines_of(alloc, sites)?;
     if !is_taken(home, &known, &routines) {
@@ -314,7 +322,8 @@ fn passed_first(
 
 // A module, by what it declares.
 fn sites_elaborated(alloc: Global, module: &Module, sites: &[Site]) -> Result<Elaboration, NoMemory>
-    ensures { Elaborates (Elaborated.sites_elaborated (module_tree module.now) (sites_seen sites.now)) result }
+    ensures { Elaborates (Elaborated.sites_elaborated (module_tree module.now)
+        (sites_seen sites.now)) result }
 {
     let home = Home {
         name: module.id.name.as_slice(),
@@ -338,7 +347,8 @@ fn sites_elaborated(alloc: Global, module: &Module, sites: &[Site]) -> Result<El
 
 // A module.
 fn module_elaborated(alloc: Global, module: &Module) -> Result<Elaboration, NoMemory>
-    ensures { Elaborates (Elaborated.module_elaborated (module_tree module.now) (Sites.module_sites (module_tree module.now))) result }
+    ensures { Elaborates (Elaborated.module_elaborated (module_tree module.now)
+        (Sites.module_sites (module_tree module.now))) result }
 {
     match module_sites(alloc, module)? {
         None => Ok(Elaboration::Later),

@@ -1,7 +1,8 @@
 //! The design of a source, or its least fault (IEEE 1364-2005, clause 12).
 //!
 //! The contract that the layer above uses: [`elaborate`] answers the design that `elaborated` of
-//! `specs/Elaborated.antt` gives a source, or its least fault with its place, or that the source has
+//! `specs/Elaborated.antt` gives a source, or its least fault with its place, or that the source
+//! has
 //! what comes later.
 //!
 //! It stands on `vh_sites` and `vh_declare` for what a module declares and its constants, and on

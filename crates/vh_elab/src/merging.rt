@@ -47,7 +47,8 @@ pub(crate) fn merged(
     values: Vec<Code>,
     constructs: Vec<Code>,
 ) -> Result<Vec<Code>, NoMemory>
-    ensures { IfOk result (λ v. v.items ≡ Coded.merged (sites_seen sites.now) values.items constructs.items) }
+    ensures { IfOk result (λ v. v.items
+        ≡ Coded.merged (sites_seen sites.now) values.items constructs.items) }
 {
     let mut codes = Vec::new(alloc);
     let mut values = values.into_iter();

@@ -145,7 +145,8 @@ fn routine_site(
 ) -> Result<(), NoMemory>
     requires { number ≤ length sites.now }
     ensures { OnOk result (routines_seen all.new
-        ≡ Coded.routine_declared (sites_seen sites.now) number (declared_seen declared.entry) (routines_seen all.old)) }
+        ≡ Coded.routine_declared (sites_seen sites.now) number (declared_seen declared.entry)
+        (routines_seen all.old)) }
 {
     let Declared::Code(word, _) = declared else {
         return Ok(());

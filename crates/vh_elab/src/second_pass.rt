@@ -38,13 +38,16 @@ fn value_at(
     value: &Expr,
     coding: &mut Coding,
 ) -> Result<(), LowerFault>
-    requires sound { AreSound (ready_seen ready).objects (ready_seen ready).home.precision (coding_seen coding.old).added.exprs }
+    requires sound { AreSound (ready_seen ready).objects (ready_seen ready).home.precision
+        (coding_seen coding.old).added.exprs }
     requires unit { is_unit (ready_seen ready).home.precision (ready_seen ready).home.unit ≡ true }
     ensures coded { CodesTo
-        (Coded.value_coded (Coded.surroundings_at (ready_seen ready.entry) scope) number (expr_tree value.now) (coding_seen coding.old))
+        (Coded.value_coded (Coded.surroundings_at (ready_seen ready.entry) scope) number
+        (expr_tree value.now) (coding_seen coding.old))
         result (coding_seen coding.new) }
     ensures sound { OnOk result
-        (AreSound (ready_seen ready.entry).objects (ready_seen ready.entry).home.precision (coding_seen coding.new).added.exprs) }
+        (AreSound (ready_seen ready.entry).objects (ready_seen ready.entry).home.precision
+        (coding_seen coding.new).added.exprs) }
 {
     let around = around(alloc, ready.objects, ObjId::new(scope))?;
     let scope = Scope {
@@ -76,13 +79,16 @@ fn construct_at(
     stmt: &Stmt,
     coding: &mut Coding,
 ) -> Result<(), LowerFault>
-    requires sound { AreSound (ready_seen ready).objects (ready_seen ready).home.precision (coding_seen coding.old).added.exprs }
+    requires sound { AreSound (ready_seen ready).objects (ready_seen ready).home.precision
+        (coding_seen coding.old).added.exprs }
     requires unit { is_unit (ready_seen ready).home.precision (ready_seen ready).home.unit ≡ true }
     ensures coded { CodesTo
-        (Coded.construct_coded (Coded.surroundings_at (ready_seen ready.entry) scope) kind (stmt_tree stmt.now) (coding_seen coding.old))
+        (Coded.construct_coded (Coded.surroundings_at (ready_seen ready.entry) scope) kind
+        (stmt_tree stmt.now) (coding_seen coding.old))
         result (coding_seen coding.new) }
     ensures sound { OnOk result
-        (AreSound (ready_seen ready.entry).objects (ready_seen ready.entry).home.precision (coding_seen coding.new).added.exprs) }
+        (AreSound (ready_seen ready.entry).objects (ready_seen ready.entry).home.precision
+        (coding_seen coding.new).added.exprs) }
 {
     let around = around(alloc, ready.objects, ObjId::new(scope))?;
     let scope = Scope {
@@ -113,13 +119,16 @@ fn body_at(
     stmt: &Stmt,
     coding: &mut Coding,
 ) -> Result<(), LowerFault>
-    requires sound { AreSound (ready_seen ready).objects (ready_seen ready).home.precision (coding_seen coding.old).added.exprs }
+    requires sound { AreSound (ready_seen ready).objects (ready_seen ready).home.precision
+        (coding_seen coding.old).added.exprs }
     requires unit { is_unit (ready_seen ready).home.precision (ready_seen ready).home.unit ≡ true }
     ensures coded { CodesTo
-        (Coded.body_coded (Coded.surroundings_at (ready_seen ready.entry) scope) (stmt_tree stmt.now) (coding_seen coding.old))
+        (Coded.body_coded (Coded.surroundings_at (ready_seen ready.entry) scope)
+        (stmt_tree stmt.now) (coding_seen coding.old))
         result (coding_seen coding.new) }
     ensures sound { OnOk result
-        (AreSound (ready_seen ready.entry).objects (ready_seen ready.entry).home.precision (coding_seen coding.new).added.exprs) }
+        (AreSound (ready_seen ready.entry).objects (ready_seen ready.entry).home.precision
+        (coding_seen coding.new).added.exprs) }
 {
     let around = around(alloc, ready.objects, ObjId::new(scope))?;
     let scope = Scope {
@@ -153,13 +162,16 @@ fn statement_at(
     stmt: &Stmt,
     coding: &mut Coding,
 ) -> Result<(), LowerFault>
-    requires sound { AreSound (ready_seen ready).objects (ready_seen ready).home.precision (coding_seen coding.old).added.exprs }
+    requires sound { AreSound (ready_seen ready).objects (ready_seen ready).home.precision
+        (coding_seen coding.old).added.exprs }
     requires unit { is_unit (ready_seen ready).home.precision (ready_seen ready).home.unit ≡ true }
     ensures coded { CodesTo
-        (Coded.statement_coded (ready_seen ready.entry) number scope word (stmt_tree stmt.now) (coding_seen coding.old))
+        (Coded.statement_coded (ready_seen ready.entry) number scope word (stmt_tree stmt.now)
+        (coding_seen coding.old))
         result (coding_seen coding.new) }
     ensures sound { OnOk result
-        (AreSound (ready_seen ready.entry).objects (ready_seen ready.entry).home.precision (coding_seen coding.new).added.exprs) }
+        (AreSound (ready_seen ready.entry).objects (ready_seen ready.entry).home.precision
+        (coding_seen coding.new).added.exprs) }
 {
     match word {
         CodeWord::Initial => construct_at(alloc, ready, scope, CodeKind::Initial, stmt, coding),
@@ -176,13 +188,17 @@ fn value_of(
     site: &Site,
     coding: &mut Coding,
 ) -> Result<(), LowerFault>
-    requires sound { AreSound (ready_seen ready).objects (ready_seen ready).home.precision (coding_seen coding.old).added.exprs }
+    requires sound { AreSound (ready_seen ready).objects (ready_seen ready).home.precision
+        (coding_seen coding.old).added.exprs }
     requires unit { is_unit (ready_seen ready).home.precision (ready_seen ready).home.unit ≡ true }
     ensures coded { CodesTo
-        (Coded.value_declared (Coded.surroundings_at (ready_seen ready.entry) site.now.scope) number (declared_seen site.now.declared) (coding_seen coding.old))
+        (Coded.value_declared (Coded.surroundings_at
+        (ready_seen ready.entry) site.now.scope) number (declared_seen site.now.declared)
+        (coding_seen coding.old))
         result (coding_seen coding.new) }
     ensures sound { OnOk result
-        (AreSound (ready_seen ready.entry).objects (ready_seen ready.entry).home.precision (coding_seen coding.new).added.exprs) }
+        (AreSound (ready_seen ready.entry).objects (ready_seen ready.entry).home.precision
+        (coding_seen coding.new).added.exprs) }
 {
     match site.declared {
         Declared::Variable(_, Some(value)) => {
@@ -207,13 +223,16 @@ fn statement_of(
     site: &Site,
     coding: &mut Coding,
 ) -> Result<(), LowerFault>
-    requires sound { AreSound (ready_seen ready).objects (ready_seen ready).home.precision (coding_seen coding.old).added.exprs }
+    requires sound { AreSound (ready_seen ready).objects (ready_seen ready).home.precision
+        (coding_seen coding.old).added.exprs }
     requires unit { is_unit (ready_seen ready).home.precision (ready_seen ready).home.unit ≡ true }
     ensures coded { CodesTo
-        (Coded.statement_declared (ready_seen ready.entry) number site.now.scope (declared_seen site.now.declared) (coding_seen coding.old))
+        (Coded.statement_declared (ready_seen ready.entry) number site.now.scope
+        (declared_seen site.now.declared) (coding_seen coding.old))
         result (coding_seen coding.new) }
     ensures sound { OnOk result
-        (AreSound (ready_seen ready.entry).objects (ready_seen ready.entry).home.precision (coding_seen coding.new).added.exprs) }
+        (AreSound (ready_seen ready.entry).objects (ready_seen ready.entry).home.precision
+        (coding_seen coding.new).added.exprs) }
 {
     match site.declared {
         Declared::Code(word, stmt) => {
@@ -236,13 +255,16 @@ pub(crate) fn code_values(
     sites: &[Site],
     coding: &mut Coding,
 ) -> Result<(), LowerFault>
-    requires sound { AreSound (ready_seen ready).objects (ready_seen ready).home.precision (coding_seen coding.old).added.exprs }
+    requires sound { AreSound (ready_seen ready).objects (ready_seen ready).home.precision
+        (coding_seen coding.old).added.exprs }
     requires unit { is_unit (ready_seen ready).home.precision (ready_seen ready).home.unit ≡ true }
     ensures coded { CodesTo
-        (Coded.values_coded (ready_seen ready.entry) (sites_seen sites.now) (coding_seen coding.old))
+        (Coded.values_coded (ready_seen ready.entry) (sites_seen sites.now)
+        (coding_seen coding.old))
         result (coding_seen coding.new) }
     ensures sound { OnOk result
-        (AreSound (ready_seen ready.entry).objects (ready_seen ready.entry).home.precision (coding_seen coding.new).added.exprs) }
+        (AreSound (ready_seen ready.entry).objects (ready_seen ready.entry).home.precision
+        (coding_seen coding.new).added.exprs) }
 {
     let mut number = 1;
     for site in sites {
@@ -259,13 +281,16 @@ pub(crate) fn code_statements(
     sites: &[Site],
     coding: &mut Coding,
 ) -> Result<(), LowerFault>
-    requires sound { AreSound (ready_seen ready).objects (ready_seen ready).home.precision (coding_seen coding.old).added.exprs }
+    requires sound { AreSound (ready_seen ready).objects (ready_seen ready).home.precision
+        (coding_seen coding.old).added.exprs }
     requires unit { is_unit (ready_seen ready).home.precision (ready_seen ready).home.unit ≡ true }
     ensures coded { CodesTo
-        (Coded.statements_coded (ready_seen ready.entry) (sites_seen sites.now) (coding_seen coding.old))
+        (Coded.statements_coded (ready_seen ready.entry) (sites_seen sites.now)
+        (coding_seen coding.old))
         result (coding_seen coding.new) }
     ensures sound { OnOk result
-        (AreSound (ready_seen ready.entry).objects (ready_seen ready.entry).home.precision (coding_seen coding.new).added.exprs) }
+        (AreSound (ready_seen ready.entry).objects (ready_seen ready.entry).home.precision
+        (coding_seen coding.new).added.exprs) }
 {
     let mut number = 1;
     for site in sites {

@@ -30,18 +30,24 @@ pub fn run<F: Files, K: Sink>(
     out: &mut K,
 ) -> Status
     // For accepted words, texts and scripts, the bytes written are exactly the text of a run.
-    ensures headline { Transcribes (texts words.now.items) (F.holds files.old) result (K.written out.old) (K.written out.new) }
+    ensures headline { Transcribes (texts words.now.items) (F.holds files.old) result
+        (K.written out.old) (K.written out.new) }
     // A refused input gets its refusal, and nothing is written.
-    ensures refused { Refuses (texts words.now.items) (F.holds files.old) result (K.written out.old) (K.written out.new) }
+    ensures refused { Refuses (texts words.now.items) (F.holds files.old) result
+        (K.written out.old) (K.written out.new) }
     // The same whatever the source tells, on the contents that it answered.
-    ensures accounts { Accounts (texts words.now.items) (F.holds files.old) result (K.written out.old) (K.written out.new) }
+    ensures accounts { Accounts (texts words.now.items) (F.holds files.old) result
+        (K.written out.old) (K.written out.new) }
 
     ensures usage { Exactly result Status.Usage (reading (texts words.now.items) ≡ None) }
-    ensures read_fault { (n : ℕ) → result ≡ Status.ReadFault n → Rose (F.faults files.old) (F.faults files.new) }
-    ensures blamed { (n : ℕ) → result ≡ Status.ReadFault n → file_word (texts words.now.items) n ≡ Some (F.blamed files.new) }
+    ensures read_fault { (n : ℕ) → result
+        ≡ Status.ReadFault n → Rose (F.faults files.old) (F.faults files.new) }
+    ensures blamed { (n : ℕ) → result ≡ Status.ReadFault n → file_word (texts words.now.items) n
+        ≡ Some (F.blamed files.new) }
     ensures write_fault { result ≡ Status.WriteFault → Rose (K.faults out.old) (K.faults out.new) }
 
-    ensures source_calm { ((n : ℕ) → result ≢ Status.ReadFault n) → F.faults files.new ≡ F.faults files.old }
+    ensures source_calm { ((n : ℕ) → result ≢ Status.ReadFault n) → F.faults files.new
+        ≡ F.faults files.old }
     ensures sink_calm { result ≢ Status.WriteFault → K.faults out.new ≡ K.faults out.old }
 {
     run_words(alloc, words.as_slice(), files, out)
@@ -54,12 +60,16 @@ fn run_words<F: Files, K: Sink>(
     files: &mut F,
     out: &mut K,
 ) -> Status
-    ensures accounts { Accounts (texts words.now) (F.holds files.old) result (K.written out.old) (K.written out.new) }
+    ensures accounts { Accounts (texts words.now) (F.holds files.old) result (K.written out.old)
+        (K.written out.new) }
     ensures usage { Exactly result Status.Usage (reading (texts words.now) ≡ None) }
-    ensures read_fault { (n : ℕ) → result ≡ Status.ReadFault n → Rose (F.faults files.old) (F.faults files.new) }
-    ensures blamed { (n : ℕ) → result ≡ Status.ReadFault n → file_word (texts words.now) n ≡ Some (F.blamed files.new) }
+    ensures read_fault { (n : ℕ) → result
+        ≡ Status.ReadFault n → Rose (F.faults files.old) (F.faults files.new) }
+    ensures blamed { (n : ℕ) → result ≡ Status.ReadFault n → file_word (texts words.now) n
+        ≡ Some (F.blamed files.new) }
     ensures write_fault { result ≡ Status.WriteFault → Rose (K.faults out.old) (K.faults out.new) }
-    ensures source_calm { ((n : ℕ) → result ≢ Status.ReadFault n) → F.faults files.new ≡ F.faults files.old }
+    ensures source_calm { ((n : ℕ) → result ≢ Status.ReadFault n) → F.faults files.new
+        ≡ F.faults files.old }
     ensures sink_calm { result ≢ Status.WriteFault → K.faults out.new ≡ K.faults out.old }
 {
     let asked = match read_words(alloc, words) {
@@ -85,7 +95,8 @@ fn run_files<K: Sink>(
 ) -> Status
     requires few { length files.now ≤ 8 }
     requires short { first_too_long 1 (files_seen files.now) ≡ None }
-    ensures answers { AnswersWith order budget (by_texts (files_seen files.now)) result (K.written out.old) (K.written out.new) }
+    ensures answers { AnswersWith order budget (by_texts (files_seen files.now)) result
+        (K.written out.old) (K.written out.new) }
     ensures failed { result ≡ Status.WriteFault → Rose (K.faults out.old) (K.faults out.new) }
     ensures calm { result ≢ Status.WriteFault → K.faults out.new ≡ K.faults out.old }
     ensures read { (n : ℕ) → result ≢ Status.ReadFault n }
@@ -107,7 +118,8 @@ fn run_design<K: Sink>(
     out: &mut K,
 ) -> Status
     requires { length scripts.items ≤ 8 }
-    ensures answers { AnswersWith order budget (accepts design scripts.items) result (K.written out.old) (K.written out.new) }
+    ensures answers { AnswersWith order budget (accepts design scripts.items) result
+        (K.written out.old) (K.written out.new) }
     ensures failed { result ≡ Status.WriteFault → Rose (K.faults out.old) (K.faults out.new) }
     ensures calm { result ≢ Status.WriteFault → K.faults out.new ≡ K.faults out.old }
     ensures read { (n : ℕ) → result ≢ Status.ReadFault n }

@@ -87,9 +87,11 @@ pub fn status_of(refusal: Refusal) -> Status
 pub fn judge(alloc: Global, files: &[TextFile<'_>]) -> Result<(Design, Vec<Script>), Refusal>
     requires few { length files.now ≤ 8 }
     requires short { first_too_long 1 (files_seen files.now) ≡ None }
-    ensures accepted { IfOk result (λ parts. by_texts (files_seen files.now) ≡ accepts parts.0 parts.1.items) }
+    ensures accepted { IfOk result (λ parts. by_texts (files_seen files.now)
+        ≡ accepts parts.0 parts.1.items) }
     ensures few { IfOk result (λ parts. length parts.1.items ≤ 8) }
-    ensures refused { IfErr result (λ refusal. RefusesTexts refusal (by_texts (files_seen files.now))) }
+    ensures refused { IfErr result
+        (λ refusal. RefusesTexts refusal (by_texts (files_seen files.now))) }
 {
     match read_design(alloc, files) {
         Ok(design) => {
@@ -105,7 +107,8 @@ fn scripts_of(alloc: Global, files: &[TextFile<'_>]) -> Result<Vec<Script>, Refu
     requires { length files.now ≤ 8 }
     ensures read { IfOk result (λ scripts. scripts_of 1 (files_seen files.now) ≡ Ok scripts.items) }
     ensures few { IfOk result (λ scripts. length scripts.items ≤ 8) }
-    ensures refused { IfErr result (λ refusal. RefusesScript refusal (scripts_of 1 (files_seen files.now))) }
+    ensures refused { IfErr result
+        (λ refusal. RefusesScript refusal (scripts_of 1 (files_seen files.now))) }
 {
     let mut scripts = Vec::new(alloc);
     let mut number: u32 = 0;
@@ -122,7 +125,8 @@ fn scripts_of(alloc: Global, files: &[TextFile<'_>]) -> Result<Vec<Script>, Refu
 // The script of the file of this number.
 fn script_of(alloc: Global, number: u32, file: &TextFile<'_>) -> Result<Script, Refusal>
     ensures read { IfOk result (λ script. script_of file.now.bytes.items ≡ Some script) }
-    ensures refused { IfErr result (λ refusal. RefusesFile refusal number (script_of file.now.bytes.items)) }
+    ensures refused { IfErr result
+        (λ refusal. RefusesFile refusal number (script_of file.now.bytes.items)) }
 {
     let earlier: Vec<Short> = Vec::new(alloc);
     match read_app(alloc, file.bytes.as_slice(), &earlier) {

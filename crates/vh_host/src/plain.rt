@@ -26,7 +26,9 @@ pub fn plain_text(
     contents: &[Bytes],
     budget: u64,
 ) -> Result<Vec<u8>, NoMemory>
-    ensures { IfOk result (λ text. IsTextBy (order_word (texts words.now)) budget (verdict (texts words.now) contents.now) text.items) }
+    ensures { IfOk result
+        (λ text. IsTextBy (order_word (texts words.now)) budget (verdict
+        (texts words.now) contents.now) text.items) }
 {
     let Some(asked) = read_words(alloc, words)? else {
         return Ok(Vec::new(alloc));
@@ -41,7 +43,8 @@ fn files_with<'a>(
     words: &'a [String],
     contents: &[Bytes],
 ) -> Result<Vec<TextFile<'a>>, NoMemory>
-    ensures files { IfOk result (λ files. files_seen files.items ≡ files_with (texts words.now) contents.now) }
+    ensures files { IfOk result (λ files. files_seen files.items
+        ≡ files_with (texts words.now) contents.now) }
     ensures few { IfOk result (λ files. length files.items ≤ length words.now) }
 {
     let mut files = Vec::new(alloc);
@@ -74,7 +77,8 @@ fn text_of_files(
     budget: u64,
 ) -> Result<Vec<u8>, NoMemory>
     requires { length files.now ≤ 8 }
-    ensures { IfOk result (λ text. IsTextBy order budget (by_files (files_seen files.now)) text.items) }
+    ensures { IfOk result
+        (λ text. IsTextBy order budget (by_files (files_seen files.now)) text.items) }
 {
     if any_too_long(files) {
         return Ok(Vec::new(alloc));
@@ -98,7 +102,8 @@ fn text_of_texts(
 ) -> Result<Vec<u8>, NoMemory>
     requires few { length files.now ≤ 8 }
     requires short { first_too_long 1 (files_seen files.now) ≡ None }
-    ensures { IfOk result (λ text. IsTextBy order budget (by_texts (files_seen files.now)) text.items) }
+    ensures { IfOk result
+        (λ text. IsTextBy order budget (by_texts (files_seen files.now)) text.items) }
 {
     match judge(alloc, files) {
         Ok((design, scripts)) => {
@@ -118,7 +123,8 @@ fn text_from(
     budget: u64,
 ) -> Result<Vec<u8>, NoMemory>
     requires { 0 < choices_of (state_of kernel.old) }
-    ensures { IfOk result (λ text. text.items ≡ text_of (moves_of order budget (state_of kernel.old))) }
+    ensures { IfOk result (λ text. text.items
+        ≡ text_of (moves_of order budget (state_of kernel.old))) }
 {
     let mut text = Vec::new(alloc);
     let mut next = order;
@@ -141,7 +147,8 @@ fn push_line(
     kernel: &Kernel,
     label: &Label,
 ) -> Result<(), NoMemory>
-    ensures { OnOk result (text.new.items ≡ text.old.items ++ line_of_move (label.now, state_of kernel.now)) }
+    ensures { OnOk result (text.new.items
+        ≡ text.old.items ++ line_of_move (label.now, state_of kernel.now)) }
 {
     if let Some(line) = line_of(alloc, kernel, label)? {
         text.extend_from_slice(line.as_bytes())?;

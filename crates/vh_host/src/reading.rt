@@ -44,13 +44,19 @@ pub fn read_files<'a, F: Files>(
     files: &mut F,
 ) -> Result<Vec<TextFile<'a>>, Unread>
     requires { length words.now ≤ 8 }
-    ensures read { IfOk result (λ found. AreRead (F.holds files.old) (texts words.now) (files_seen found.items)) }
+    ensures read { IfOk result
+        (λ found. AreRead (F.holds files.old) (texts words.now) (files_seen found.items)) }
     ensures short { IfOk result (λ found. first_too_long 1 (files_seen found.items) ≡ None) }
-    ensures long { (n : ℕ) → result ≡ Err (Unread.TooLong n) → MeetsLong (F.holds files.old) (texts words.now) n }
-    ensures failed { (n : ℕ) → result ≡ Err (Unread.Failed n) → Rose (F.faults files.old) (F.faults files.new) }
-    ensures in_order { (n : ℕ) → result ≡ Err (Unread.Failed n) → MeetsNoneLong (F.holds files.old) (texts words.now) n }
-    ensures blamed { (n : ℕ) → result ≡ Err (Unread.Failed n) → numbered (texts words.now) n ≡ Some (F.blamed files.new) }
-    ensures calm { ((n : ℕ) → result ≢ Err (Unread.Failed n)) → F.faults files.new ≡ F.faults files.old }
+    ensures long { (n : ℕ) → result
+        ≡ Err (Unread.TooLong n) → MeetsLong (F.holds files.old) (texts words.now) n }
+    ensures failed { (n : ℕ) → result
+        ≡ Err (Unread.Failed n) → Rose (F.faults files.old) (F.faults files.new) }
+    ensures in_order { (n : ℕ) → result
+        ≡ Err (Unread.Failed n) → MeetsNoneLong (F.holds files.old) (texts words.now) n }
+    ensures blamed { (n : ℕ) → result ≡ Err (Unread.Failed n) → numbered (texts words.now) n
+        ≡ Some (F.blamed files.new) }
+    ensures calm { ((n : ℕ) → result ≢ Err (Unread.Failed n)) → F.faults files.new
+        ≡ F.faults files.old }
 {
     let mut found = Vec::new(alloc);
     let mut number: u32 = 0;
@@ -73,14 +79,17 @@ fn read_file<'a, F: Files>(
     files: &mut F,
 ) -> Result<TextFile<'a>, Unread>
     ensures word { IfOk result (λ file. file.word.now ≡ word.now) }
-    ensures read { IfOk result (λ file. IsAnswered (F.holds files.old word.now) (limit_of word.now) file.bytes.items) }
+    ensures read { IfOk result
+        (λ file. IsAnswered (F.holds files.old word.now) (limit_of word.now) file.bytes.items) }
     ensures short { IfOk result (λ file. is_too_long (file_seen file) ≡ false) }
     ensures long { (n : ℕ) → result ≡ Err (Unread.TooLong n) → (n ≡ number)
         × ((bytes : List ℕ) × IsAnswered (F.holds files.old word.now) (limit_of word.now) bytes
         × (is_too_long (record { word = word.now; bytes = bytes }) ≡ true)) }
-    ensures failed { (n : ℕ) → result ≡ Err (Unread.Failed n) → (n ≡ number) × Rose (F.faults files.old) (F.faults files.new) }
+    ensures failed { (n : ℕ) → result ≡ Err (Unread.Failed n) → (n
+        ≡ number) × Rose (F.faults files.old) (F.faults files.new) }
     ensures blamed { (n : ℕ) → result ≡ Err (Unread.Failed n) → F.blamed files.new ≡ word.now }
-    ensures calm { ((n : ℕ) → result ≢ Err (Unread.Failed n)) → F.faults files.new ≡ F.faults files.old }
+    ensures calm { ((n : ℕ) → result ≢ Err (Unread.Failed n)) → F.faults files.new
+        ≡ F.faults files.old }
     ensures same { (other : List ℕ) → F.holds files.new other ≡ F.holds files.old other }
 {
     let limit = limit_of(word);

@@ -13,13 +13,15 @@ use vh_words::{Asked, read_words};
 /// The line that is told of a status, without a newline; it is empty for a run that came to
 /// its end. A file goes by its word among `words`, which don't hold the program's name.
 pub fn status_line(alloc: Global, words: &Vec<String>, status: &Status) -> Result<String, NoMemory>
-    ensures { IfOk result (λ line. string_bytes line ≡ line_of_status (texts words.now.items) status.now) }
+    ensures { IfOk result (λ line. string_bytes line
+        ≡ line_of_status (texts words.now.items) status.now) }
 {
     line_of(alloc, words.as_slice(), status)
 }
 
 fn line_of(alloc: Global, words: &[String], status: &Status) -> Result<String, NoMemory>
-    ensures { IfOk result (λ line. string_bytes line ≡ line_of_status (texts words.now) status.now) }
+    ensures { IfOk result (λ line. string_bytes line
+        ≡ line_of_status (texts words.now) status.now) }
 {
     match status {
         Status::ReadFault(n) => line_with(alloc, "cannot read ", words, *n),
@@ -46,7 +48,8 @@ fn line_of(alloc: Global, words: &[String], status: &Status) -> Result<String, N
 
 // The name of a file, behind these words.
 fn line_with(alloc: Global, before: &str, words: &[String], n: u32) -> Result<String, NoMemory>
-    ensures { IfOk result (λ line. string_bytes line ≡ before.now ++ name_of_file (texts words.now) n) }
+    ensures { IfOk result (λ line. string_bytes line
+        ≡ before.now ++ name_of_file (texts words.now) n) }
 {
     let asked = read_words(alloc, words)?;
     let name = file_name(&asked, n);
@@ -55,7 +58,8 @@ fn line_with(alloc: Global, before: &str, words: &[String], n: u32) -> Result<St
 
 // The line of a Verilog text that is refused.
 fn line_of_design(alloc: Global, fault: &str, place: &Place) -> Result<String, AllocError>
-    ensures { IfOk result (λ text. string_bytes text ≡ codes "design refused: " ++ fault.now ++ codes " at "
+    ensures { IfOk result (λ text. string_bytes text
+        ≡ codes "design refused: " ++ fault.now ++ codes " at "
         ++ decimal place.now.file ++ codes ":" ++ decimal place.now.line ++ codes ":" ++ decimal place.now.column) }
 {
     let file = place.file;
@@ -66,7 +70,8 @@ fn line_of_design(alloc: Global, fault: &str, place: &Place) -> Result<String, A
 
 // The line of a script that is refused.
 fn line_of_app(alloc: Global, name: &str, fault: &str, place: &Place) -> Result<String, AllocError>
-    ensures { IfOk result (λ text. string_bytes text ≡ codes "application refused: " ++ name.now ++ codes ": " ++ fault.now
+    ensures { IfOk result (λ text. string_bytes text
+        ≡ codes "application refused: " ++ name.now ++ codes ": " ++ fault.now
         ++ codes " at " ++ decimal place.now.line ++ codes ":" ++ decimal place.now.column) }
 {
     let line = place.line;

@@ -16,7 +16,8 @@ use vh_choice::Chooser;
 use vh_kernel::{Ending, Kernel, Label, line_of};
 
 /// Runs a kernel under an order of choice, and writes the line of each label as it is made, until
-/// the run ends, as many labels as the budget were made, or a fault of the sink or of memory cuts it
+/// the run ends, as many labels as the budget were made, or a fault of the sink or of memory cuts
+/// it
 /// short.
 pub fn transcribe<K: Sink>(
     alloc: Global,
@@ -63,7 +64,8 @@ fn choose(kernel: &Kernel, order: &mut Chooser) -> u32
 // One step by the k-th choice, with its line.
 fn turn<K: Sink>(alloc: Global, kernel: &mut Kernel, k: u32, out: &mut K) -> Option<Status>
     requires { k < choices_of (state_of kernel.old) }
-    ensures turned { Turned k result (state_of kernel.old) (state_of kernel.new) (K.written out.old) (K.written out.new) }
+    ensures turned { Turned k result (state_of kernel.old) (state_of kernel.new)
+        (K.written out.old) (K.written out.new) }
     ensures failed { result ≡ Some Status.WriteFault → Rose (K.faults out.old) (K.faults out.new) }
     ensures calm { result ≢ Some Status.WriteFault → K.faults out.new ≡ K.faults out.old }
 {
@@ -85,8 +87,10 @@ fn tell<K: Sink>(
     label: &Label,
     out: &mut K,
 ) -> Result<(), SinkFault>
-    ensures ok { OnOk result (K.written out.new ≡ appended (K.written out.old) (line_of_move (label.now, state_of kernel.now))) }
-    ensures err { OnErr result (AppendsFront (K.written out.old) (K.written out.new) (line_of_move (label.now, state_of kernel.now))) }
+    ensures ok { OnOk result (K.written out.new
+        ≡ appended (K.written out.old) (line_of_move (label.now, state_of kernel.now))) }
+    ensures err { OnErr result (AppendsFront (K.written out.old) (K.written out.new)
+        (line_of_move (label.now, state_of kernel.now))) }
     ensures failed { result ≡ Err SinkFault.Failed → Rose (K.faults out.old) (K.faults out.new) }
     ensures calm { result ≢ Err SinkFault.Failed → K.faults out.new ≡ K.faults out.old }
 {

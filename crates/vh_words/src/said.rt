@@ -92,7 +92,8 @@ impl Said {
 
     // A word by position: the mode, or a file.
     fn with_position(self, alloc: Global, word: &str) -> Result<Option<Said>, NoMemory>
-        ensures { IfOk result (λ said. option_map saying said ≡ Words.with_position word.now (saying self)) }
+        ensures { IfOk result (λ said. option_map saying said
+            ≡ Words.with_position word.now (saying self)) }
     {
         if self.mode.is_none() {
             return Ok(self.with_mode(mode_named(word)));
@@ -135,7 +136,8 @@ impl Said {
     }
 
     fn with_any(self, alloc: Global, word: &str) -> Result<Option<Said>, NoMemory>
-        ensures { IfOk result (λ said. option_map saying said ≡ Words.with_any word.now (saying self)) }
+        ensures { IfOk result (λ said. option_map saying said
+            ≡ Words.with_any word.now (saying self)) }
     {
         if is_option(word) {
             return Ok(self.with_option(word));
@@ -145,7 +147,8 @@ impl Said {
 
     // One word more; none where there is no reading with it.
     fn with_word(self, alloc: Global, word: &str) -> Result<Option<Said>, NoMemory>
-        ensures { IfOk result (λ said. option_map saying said ≡ Words.with_word word.now (saying self)) }
+        ensures { IfOk result (λ said. option_map saying said
+            ≡ Words.with_word word.now (saying self)) }
     {
         match self.expects {
             Expects::Anything => self.with_any(alloc, word),
@@ -165,7 +168,8 @@ fn is_option(word: &str) -> bool
 
 /// What all words say; none where they have no reading.
 pub fn all_said(alloc: Global, words: &[String]) -> Result<Option<Said>, NoMemory>
-    ensures { IfOk result (λ s. option_map saying s ≡ Words.said (texts words.now) Words.nothing_said) }
+    ensures { IfOk result (λ s. option_map saying s
+        ≡ Words.said (texts words.now) Words.nothing_said) }
 {
     let mut said = Said::nothing(alloc);
     for word in words {
