@@ -58,8 +58,8 @@ fn kind_of(declared: Declared) -> Kind
     }
 }
 
-// Whether it is a task or a function.
-fn is_routine(word: CodeWord) -> bool
+/// Whether it is a task or a function.
+pub fn is_routine(word: CodeWord) -> bool
     ensures { result ≡ Objects.is_routine word }
 {
     match word {

@@ -25,7 +25,7 @@ use Rattle.vh_sites.specs.declared.site.CodeWord.TheVariants as word
 use Rattle.vh_sites.specs.Sites as S
 use Rattle.vh_sites.specs.Sites.{Declared, SiteTree, Sites, VarType, variable, words, named_event, code, named_block, result, argument}
 use Rattle.vh_declare.specs.Least.{numbered}
-use Rattle.vh_declare.specs.Objects.{around_in}
+use Rattle.vh_declare.specs.Objects.{around_in, is_routine}
 use Rattle.vh_declare.specs.Constants.{Home}
 
 -- The arguments of the task or function with this number stand directly behind it, in its scope, and the result of a
@@ -79,19 +79,13 @@ with_routine w n arguments rs = record {
   gives_back = rs.gives_back || gives_more w arguments;
 }
 
-abbrev pub is_routine_word : CodeWord → Bool
-is_routine_word word.Initial = false
-is_routine_word word.Always = false
-is_routine_word word.Task = true
-is_routine_word word.Function = true
-
 abbrev pub routine_declared : Sites → ℕ → Declared → Routines → Routines
 routine_declared so n (variable t value) rs = rs
 routine_declared so n (words t r) rs = rs
 routine_declared so n named_event rs = rs
 routine_declared so n (S.constant t e) rs = rs
 routine_declared so n (code w s) rs =
-    if is_routine_word w then with_routine w n (arguments_from n (n + 1) (drop n so)) rs else rs
+    if is_routine w then with_routine w n (arguments_from n (n + 1) (drop n so)) rs else rs
 routine_declared so n (named_block w) rs = rs
 routine_declared so n (result t) rs = rs
 routine_declared so n (argument d t) rs = rs

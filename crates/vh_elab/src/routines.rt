@@ -9,7 +9,7 @@ use vh_ast::TaskDirection;
 use vh_base::{NoMemory, ObjId, Sequence};
 use vh_bind::Routine;
 use vh_bind_stmt::{Argument, Arguments};
-use vh_declare::next_number;
+use vh_declare::{is_routine, next_number};
 use vh_sites::{CodeWord, Declared, Site};
 
 /// What is known of all tasks and functions, by the numbers of their bodies.
@@ -117,15 +117,6 @@ fn add_routine(
     Ok(())
 }
 
-fn is_routine_word(word: CodeWord) -> bool
-    ensures { result ≡ Coded.is_routine_word word }
-{
-    match word {
-        CodeWord::Task | CodeWord::Function => true,
-        CodeWord::Initial | CodeWord::Always => false,
-    }
-}
-
 // The sites behind one.
 fn behind<'a, 'b>(sites: &'a [Site<'b>], number: u32) -> &'a [Site<'b>]
     requires { number ≤ length sites.now }
@@ -151,7 +142,7 @@ fn routine_site(
     let Declared::Code(word, _) = declared else {
         return Ok(());
     };
-    if !is_routine_word(word) {
+    if !is_routine(word) {
         return Ok(());
     }
     let first = next_number(number)?;
