@@ -1,4 +1,4 @@
-ghost use Rattle.std.specs.Prelude.{◌≡◌, ◌+◌, ◌-◌, ◌++◌, ◌∷◌, [], length, IfOk, OnOk};
+ghost use Rattle.std.specs.Prelude.{◌≡◌, ◌==◌, ◌+◌, ◌-◌, ◌++◌, ◌∷◌, [], length, Some, IfOk, OnOk};
 ghost use Rattle.vh_ast.specs.Views.{module_tree};
 ghost use Rattle.vh_sites.specs.Views.{declared_seen, site_seen, sites_seen, var_type_seen};
 ghost use Rattle.vh_declare.specs.Objects;
@@ -181,15 +181,30 @@ fn meaning_of(declared: Declared, number: u32, range: Range) -> Meaning
     }
 }
 
+// Whether a name that is declared stands for this object.
+fn is_meant(number: u32, meaning: Meaning) -> bool
+    ensures { result ≡ Objects.is_object number (Some meaning) }
+{
+    match meaning {
+        Meaning::Object { id, .. } => is_number(number, id),
+        Meaning::Result { id, .. } => is_number(number, id),
+        Meaning::Genvar | Meaning::Blocks | Meaning::Gate => false,
+    }
+}
+
+fn is_number(number: u32, id: ObjId) -> bool
+    ensures { result ≡ (id == number) }
+{
+    id.number() == number
+}
+
 // Whether a name stands for this object.
 fn is_object(number: u32, meaning: Option<Meaning>) -> bool
     ensures { result ≡ Objects.is_object number meaning }
 {
     match meaning {
-        Some(Meaning::Object { id, range: _ } | Meaning::Result { id, range: _ }) => {
-            id.number() == number
-        }
-        Some(Meaning::Genvar | Meaning::Blocks | Meaning::Gate) | None => false,
+        Some(meaning) => is_meant(number, meaning),
+        None => false,
     }
 }
 
