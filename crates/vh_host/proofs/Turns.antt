@@ -35,12 +35,10 @@ from_same o p s t m same e =
 pub goes_more : (o p : Chooser) (s t u : State) (l : Label) (moves : List Move)
     → Goes o s moves p t → IsMove p t (l, u) → is_end l ≡ false
     → Goes o s (moves ++ (l, u) ∷ []) (chooser_after p (choices_of t)) u
-goes_more o p s t u l [] g m open_yet = (
-  from_same o p s t (l, u) g m,
-  open_yet,
-  ap (λ (z : Chooser). chooser_after z (choices_of s)) g.0 ∙ ap (λ (z : State). chooser_after p (choices_of z)) g.1,
-  refl,
-)
+goes_more o p s t u l [] g m open_yet =
+    let next : chooser_after o (choices_of s) ≡ chooser_after p (choices_of t) =
+    ap (λ (z : Chooser). chooser_after z (choices_of s)) g.0 ∙ ap (λ (z : State). chooser_after p (choices_of z)) g.1 in
+    (from_same o p s t (l, u) g m, open_yet, (next, refl))
 goes_more o p s t u l (n ∷ moves) g m open_yet =
     (g.0, g.1, goes_more (chooser_after o (choices_of s)) p n.1 t u l moves g.2 m open_yet)
 
@@ -188,8 +186,8 @@ so_far_ends o p s t u n budget status.NoMemory old mid new lawful f below turn =
 so_far_ends o p s t u n budget status.Usage old mid new lawful f below turn = absurd turn
 so_far_ends o p s t u n budget (status.ReadFault k) old mid new lawful f below turn = absurd turn
 so_far_ends o p s t u n budget (status.TooLong k) old mid new lawful f below turn = absurd turn
-so_far_ends o p s t u n budget (status.DesignRefused x p) old mid new lawful f below turn = absurd turn
-so_far_ends o p s t u n budget (status.AppRefused k x p) old mid new lawful f below turn = absurd turn
+so_far_ends o p s t u n budget (status.DesignRefused x q) old mid new lawful f below turn = absurd turn
+so_far_ends o p s t u n budget (status.AppRefused k x q) old mid new lawful f below turn = absurd turn
 so_far_ends o p s t u n budget status.BudgetSpent old mid new lawful f below turn = absurd turn
 
 -- With as many labels as the budget, the budget is spent.

@@ -80,8 +80,9 @@ failed_scripts order budget design (Err refusal) n w later = failed_refusal orde
 -- So are the texts.
 failed_design : (order : Chooser) (budget : ℕ) (design : Result Shape DesignRefusal) (files : List File) (n : ℕ) (w : Option (List ℕ))
     → AnswersWith order budget (by_design design files) (status.ReadFault n) w w
-failed_design (Err refusal) files n w = failed_refusal _ n w tt
-failed_design (Ok design) files n w = failed_scripts order budget design (scripts_of 1 files) n w (scripts_later n 1 files)
+failed_design order budget (Err refusal) files n w = failed_refusal order budget _ n w tt
+failed_design order budget (Ok design) files n w =
+    failed_scripts order budget design (scripts_of 1 files) n w (scripts_later n 1 files)
 
 -- A read that failed, where no file before is too long.
 pub read_failed : (order : Chooser) (budget : ℕ) (o : Option ℕ) (files : List File) (n : ℕ) (w : Option (List ℕ))

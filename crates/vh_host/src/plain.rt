@@ -11,6 +11,7 @@ ghost use Rattle.vh_host.specs.Headline.{IsTextBy};
 use crate::file::TextFile;
 use crate::judging::{Refusal, judge};
 use crate::reading::limit_of;
+use crate::transcript::choose;
 use std::alloc::Global;
 use vh_base::{Bytes, NoMemory};
 use vh_choice::Chooser;
@@ -129,9 +130,8 @@ fn text_from(
     let mut text = Vec::new(alloc);
     let mut next = order;
     for made in 0..budget {
-        let count = kernel.choices();
-        let label = kernel.step(alloc, next.chosen(count))?;
-        next = next.after(count);
+        let k = choose(kernel, &mut next);
+        let label = kernel.step(alloc, k)?;
         push_line(alloc, &mut text, kernel, &label)?;
         if label.is_end() {
             return Ok(text);

@@ -45,8 +45,8 @@ pub fn transcribe<K: Sink>(
     Status::BudgetSpent
 }
 
-// The number of the choice that the order takes, which then is the order for the labels after it.
-fn choose(kernel: &Kernel, order: &mut Chooser) -> u32
+/// The number of the choice that the order takes, which then is the order for the labels after it.
+pub(crate) fn choose(kernel: &Kernel, order: &mut Chooser) -> u32
     requires { 0 < choices_of (state_of kernel.now) }
     ensures choice { result ≡ chosen order.old (choices_of (state_of kernel.now)) }
     ensures below { result < choices_of (state_of kernel.now) }
