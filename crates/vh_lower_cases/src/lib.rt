@@ -1,0 +1,5 @@
+//! Statements of a module, with their labels or their faults and places, worked out by hand.
+#![tactic(auto)]
+
+#[cfg(test)]
+mod tests;
