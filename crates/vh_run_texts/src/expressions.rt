@@ -829,6 +829,9 @@ fn memories(rt: HostRuntime) -> Result<(), Fail> {
 
 // Formats of the display tasks, with their widths.
 const FORMATS_FIRST: &str = r#"initial begin
+"%b %b %0d %h", 4'b10xz & 4'b1100, 4'b0001 + 4'b000x, -8'sd7 / 8'sd2, 12'bxxxx00zx1111 => 1000 xxxx -3 xXf
+
+initial begin
 "a", , "b", 40213, => a b      40213 
 
 reg [6:0] r2; reg [12:0] r3; integer i4;
