@@ -1,5 +1,5 @@
 -- Digits that are put into others, and values that are the same.
-use Rattle.std.proofs.Common.{◌≡◌, ◌≢◌, ◌∙◌, ◌<◌, ◌≤◌, ◌+◌, ◌-◌, ◌++◌, ◌&&◌, ◌==◌, ℕ, zero, suc, Bool, true, false, cond, List, [], ◌∷◌, length, take, drop, min, Some, refl, sym, ap, arith}
+use Rattle.std.proofs.Common.{◌≡◌, ◌≢◌, ◌∙◌, ◌<◌, ◌≤◌, ◌+◌, ◌-◌, ◌++◌, ◌&&◌, ◌==◌, ℕ, zero, suc, Bool, true, false, cond, List, [], ◌∷◌, length, take, drop, min, Option, Some, None, refl, sym, ap, subst, arith}
 use Rattle.std.proofs.Math.Seq.{take-length, take-append_seam}
 use Rattle.std.proofs.lemmas.Bool.{eqb-true, eq-eqb}
 use Rattle.std.proofs.lemmas.List.{append-nil, take_all}
@@ -12,12 +12,16 @@ use Rattle.vh_logic.specs.Digit.{is_one}
 use Rattle.vh_logic.specs.Parts.{part_of, replaced}
 use Rattle.vh_logic.specs.Vector.{Vector, width_of}
 use Rattle.vh_nodes.specs.Fits.{same_sign}
+use Rattle.vh_code.specs.declared.change.Layer.{Layer}
 use Rattle.vh_code.specs.declared.change.Layer.TheVariants as layer
 use Rattle.vh_code.specs.declared.change.Made.{Made}
 use Rattle.vh_code.specs.declared.change.Change.{Change}
-use Rattle.vh_store.specs.Contents.{Contents, shown}
+use Rattle.vh_store.specs.declared.store.DriverPlace.{DriverPlace}
+use Rattle.vh_design.specs.Shape.{Shape}
+use Rattle.vh_store.specs.Contents.{Contents, shown, whole, put_at, is_forced, released, IsDriven, IsChange}
 use Rattle.vh_store.proofs.ContentsLemmas.{same_values, equal_to_itself}
-use Rattle.vh_assign.specs.Assigned.{with_digits, with_piece, is_same_value, change_of, made_of, made_by}
+use Rattle.vh_assign.specs.Assigned.{with_digits, with_piece, is_same_value, change_of, made_of, made_by, made_at, made_by_put}
+use Rattle.vh_assign.specs.Layers.{change_between, listed_change, layer_made, shown_made, release_made, with_follow, follow_made}
 use Rattle.vh_assign.specs.declared.piece.Piece.{Piece}
 
 abbrev of_parts : List Digit → Bool → Vector
@@ -148,3 +152,82 @@ one-noted p s t ms ns c is change other noted =
     ∙ ap (λ (es : List Made). ms ++ es)
     (ap (λ (e : Change). made p.object e ∷ []) change ∙ sym (one-made p.object (shown s p.object) (shown t p.object) other)
     ∙ ap (λ (u : Contents). made_of p.object (shown s p.object) (shown u p.object)) is)
+
+-- What was noted behind a driver that took a value.
+pub none-driven : (o : Option DriverPlace) (s t u : Contents) (ms : List Made) → t ≡ u → IsDriven o s t None → ms ≡ ms ++ made_at o s u
+none-driven None s t u ms is none = sym (append-nil ms)
+none-driven (Some p) s t u ms is same =
+    sym (ap (λ (es : List Made). ms ++ es)
+    (ap (λ (w : Contents). made_of (whole p.object) (shown s (whole p.object)) (shown w (whole p.object))) (sym is)
+    ∙ none-made (whole p.object) (shown s (whole p.object)) (shown t (whole p.object)) same)
+    ∙ append-nil ms)
+
+pub one-driven : (o : Option DriverPlace) (s t u : Contents) (ms ns : List Made) (c : Change) → t ≡ u → IsDriven o s t (Some c)
+    → ns ≡ ms ++ made c.object c ∷ [] → ns ≡ ms ++ made_at o s u
+one-driven None s t u ms ns c is none noted = absurd (cc)
+one-driven (Some p) s t u ms ns c is told noted =
+    noted
+    ∙ ap (λ (es : List Made). ms ++ es)
+    (ap (λ (e : Change). made e.object e ∷ []) told.0
+    ∙ sym (one-made (whole p.object) (shown s (whole p.object)) (shown t (whole p.object)) told.1)
+    ∙ ap (λ (w : Contents). made_of (whole p.object) (shown s (whole p.object)) (shown w (whole p.object))) is)
+
+-- What is told of an object by its change.
+pub change-is : (o : Object) (old new : Vector) (c : Option Change) → IsChange o old new c → c ≡ change_between o old new
+change-is o old new None same =
+    sym (ap (λ (b : Bool). cond b None (Some (change_of o old new))) (subst (λ (v : Vector). is_same_value old v ≡ true) same (same-as-itself old)))
+change-is o old new (Some c) told = by (is_same_value old new) refl
+  where
+    by : (b : Bool) → is_same_value old new ≡ b → Some c ≡ change_between o old new
+    by true is = absurd (told.1 (same-as-no-other old new is))
+    by false is = ap Some told.0 ∙ sym (ap (λ (b : Bool). cond b None (Some (change_of o old new))) is)
+
+pub listed-is : (o : ℕ) (old new : Vector) (c : Option Change) → IsChange (whole o) old new c → listed_change o c ≡ made_of (whole o) old new
+listed-is o old new None same = sym (none-made (whole o) old new same)
+listed-is o old new (Some c) told =
+    ap (λ (e : Change). made (whole o) e ∷ []) told.0 ∙ sym (one-made (whole o) old new told.1)
+
+-- What was told behind a force or a release, and behind an assign.
+pub layer-told : (l : Layer) (o : ℕ) (s t u : Contents) (c : Option Change) (ms ns : List Made) → t ≡ u
+    → IsChange (whole o) (shown s (whole o)) (shown t (whole o)) c → ns ≡ ms ++ record { object = whole o; change = c; layer = l } ∷ []
+    → ns ≡ ms ++ layer_made l o s u
+layer-told l o s t u c ms ns is change told =
+    told ∙ ap (λ (d : Option Change). ms ++ record { object = whole o; change = d; layer = l } ∷ []) (change-is (whole o) (shown s (whole o)) (shown t (whole o)) c change)
+    ∙ ap (λ (w : Contents). ms ++ layer_made l o s w) is
+
+pub change-told : (o : ℕ) (s t u : Contents) (c : Option Change) (ms ns : List Made) → t ≡ u
+    → IsChange (whole o) (shown s (whole o)) (shown t (whole o)) c → ns ≡ ms ++ listed_change o c → ns ≡ ms ++ shown_made o s u
+change-told o s t u c ms ns is change told =
+    told ∙ ap (λ (es : List Made). ms ++ es) (listed-is o (shown s (whole o)) (shown t (whole o)) c change)
+    ∙ ap (λ (w : Contents). ms ++ shown_made o s w) is
+
+pub release-told : (o : ℕ) (s t u : Contents) (c : Option Change) (ms ns : List Made) → is_forced s o ≡ true → t ≡ u
+    → IsChange (whole o) (shown s (whole o)) (shown t (whole o)) c → ns ≡ ms ++ record { object = whole o; change = c; layer = layer.Release } ∷ []
+    → u ≡ released o s → ns ≡ ms ++ release_made o s
+release-told o s t u c ms ns held is change told after =
+    layer-told layer.Release o s t (released o s) c ms ns (is ∙ after) change told
+    ∙ sym (ap (λ (x : Bool). ms ++ cond x (layer_made layer.Release o s (released o s)) []) held)
+
+-- Nothing is told behind a follow that does nothing.
+pub nothing-followed : (force : Bool) (d : Shape) (o : ℕ) (s : Contents) (ms : List Made) → with_follow force d o s ≡ s
+    → ms ≡ ms ++ follow_made force d o s
+nothing-followed force d o s ms same =
+    sym (ap (λ (es : List Made). ms ++ es)
+    (ap (λ (t : Contents). shown_made o s t) same ∙ none-made (whole o) (shown s (whole o)) (shown s (whole o)) refl)
+    ∙ append-nil ms)
+
+-- What was noted behind a put.
+pub no-put-noted : (o : Object) (v : Vector) (s t : Contents) (ms : List Made) → t ≡ put_at o v s → shown s o ≡ shown t o → ms ≡ ms ++ made_by_put o v s
+no-put-noted o v s t ms is same =
+    sym (ap (λ (es : List Made). ms ++ es)
+    (ap (λ (u : Contents). made_of o (shown s o) (shown u o)) (sym is) ∙ none-made o (shown s o) (shown t o) same)
+    ∙ append-nil ms)
+
+pub put-noted : (o : Object) (v : Vector) (s t : Contents) (ms ns : List Made) (c : Change) → t ≡ put_at o v s
+    → c ≡ change_of o (shown s o) (shown t o) → shown s o ≢ shown t o → ns ≡ ms ++ record { object = c.object; change = Some c; layer = layer.Plain } ∷ []
+    → ns ≡ ms ++ made_by_put o v s
+put-noted o v s t ms ns c is change other noted =
+    noted
+    ∙ ap (λ (es : List Made). ms ++ es)
+    (ap (λ (e : Change). record { object = e.object; change = Some e; layer = layer.Plain } ∷ []) change ∙ sym (one-made o (shown s o) (shown t o) other)
+    ∙ ap (λ (u : Contents). made_of o (shown s o) (shown u o)) is)

@@ -1,4 +1,4 @@
 -- How many digits targets have
-mod PiecesLemmas
+pub mod PiecesLemmas
 -- Digits that are put into others, and values that are the same
 mod AssignedLemmas

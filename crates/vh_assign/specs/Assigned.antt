@@ -1,5 +1,5 @@
 -- What assignments make of the values of objects, and which changes they make. (IEEE 1364-2005, 9.2)
-use Rattle.std.specs.Prelude.{ℕ, ◌+◌, List, [], ◌∷◌, ◌++◌, take, drop, Bool, if◌then◌else◌, ◌&&◌, ◌==◌, Some}
+use Rattle.std.specs.Prelude.{ℕ, ◌+◌, List, [], ◌∷◌, ◌++◌, take, drop, Bool, if◌then◌else◌, ◌&&◌, ◌==◌, Option, Some, None, slice_get}
 use Rattle.vh_base.specs.declared.orders.Object.{Object}
 use Rattle.vh_logic.specs.Compare.{case_equality}
 use Rattle.vh_logic.specs.Digit.{is_one}
@@ -8,7 +8,8 @@ use Rattle.vh_nodes.specs.Fits.{same_sign}
 use Rattle.vh_code.specs.declared.change.Change.{Change}
 use Rattle.vh_code.specs.declared.change.Layer.TheVariants as layer
 use Rattle.vh_code.specs.declared.change.Made.{Made}
-use Rattle.vh_store.specs.Contents.{Contents, shown, written}
+use Rattle.vh_store.specs.declared.store.DriverPlace.{DriverPlace}
+use Rattle.vh_store.specs.Contents.{Contents, shown, written, whole, put_at, with_driven}
 use Rattle.vh_assign.specs.declared.piece.Piece.{Piece}
 
 -- A value with others of its digits from a place on; those above its highest digit fall away. (5.2.1)
@@ -45,3 +46,15 @@ made_by p s = made_of p.object (shown s p.object) (shown (with_piece p s) p.obje
 unfoldable pub made_in_turn : List Piece → Contents → List Made
 made_in_turn [] s = []
 made_in_turn (p ∷ ps) s = made_by p s ++ made_in_turn ps (with_piece p s)
+
+-- What a driver changes that takes a value. (6.1)
+abbrev pub made_at : Option DriverPlace → Contents → Contents → List Made
+made_at None old new = []
+made_at (Some p) old new = made_of (whole p.object) (shown old (whole p.object)) (shown new (whole p.object))
+
+abbrev pub made_by_driver : ℕ → Vector → Contents → List Made
+made_by_driver x v s = made_at (slice_get s.drivers x) s (with_driven x v s)
+
+-- What a put without a force changes. (27.32)
+abbrev pub made_by_put : Object → Vector → Contents → List Made
+made_by_put o v s = made_of o (shown s o) (shown (put_at o v s) o)

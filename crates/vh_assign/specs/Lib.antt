@@ -4,3 +4,5 @@ pub mod Values
 pub mod Pieces
 -- What assignments make of the values of objects, and what they change
 pub mod Assigned
+-- What force, release and procedural assigns do
+pub mod Layers

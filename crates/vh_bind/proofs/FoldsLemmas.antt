@@ -14,7 +14,7 @@ use Rattle.vh_ast.specs.Views.{expr_tree, link_tree, name_tree, index_by, step_b
 use Rattle.vh_bind.specs.declared.scope.Mode.{Mode}
 use Rattle.vh_bind.specs.Steps.{Fault, Nodes, and_then}
 use Rattle.vh_bind.specs.Scopes.{Scope}
-use Rattle.vh_bind.specs.Constants.{bound, entry, entries_bound, links_bound, with_number, sole_bound, name_value}
+use Rattle.vh_bind.specs.Constants.{bound, entry, entries_bound, links_bound, with_number, sole_bound, name_value, call_fault}
 use Rattle.vh_bind.proofs.NodesLemmas.{all_before-later, all_before-push}
 
 pub entries-step : (m : Mode) (s : Scope) (parts : List Expr) (i : ℕ) (d : Expr) (nums nums' : Option (List ℕ)) (ns ns' : Nodes) (a : Option ℕ)
@@ -73,6 +73,23 @@ indexed s id (Some e) more h = refl
 
 pub name_value-indexed : (s : Scope) (n : Name Expr) → is_some n.first.index ≡ true → name_value s (name_tree n) ≡ Err (N4, n.first.id.place)
 name_value-indexed s n h = indexed s n.first.id n.first.index n.more h
+
+call-indexed : (s : Scope) (id : Id) (i : Option Expr) (more : List (NameStep Expr)) → is_some i ≡ true
+    → call_fault s (name id (index_by expr_tree i) (steps (map (step_by expr_tree) more))) ≡ N4
+call-indexed s id None more h = absurd (cc)
+call-indexed s id (Some e) more h = refl
+
+pub call_fault-indexed : (s : Scope) (n : Name Expr) → is_some n.first.index ≡ true → call_fault s (name_tree n) ≡ N4
+call_fault-indexed s n h = call-indexed s n.first.id n.first.index n.more h
+
+call-longer : (s : Scope) (id : Id) (i : Option Expr) (more : List (NameStep Expr)) → (more ≡ [] → ⊥)
+    → call_fault s (name id (index_by expr_tree i) (steps (map (step_by expr_tree) more))) ≡ N4
+call-longer s id None [] h = absurd (h refl)
+call-longer s id None (m ∷ more) h = refl
+call-longer s id (Some e) more h = refl
+
+pub call_fault-longer : (s : Scope) (n : Name Expr) → (n.more ≡ [] → ⊥) → call_fault s (name_tree n) ≡ N4
+call_fault-longer s n h = call-longer s n.first.id n.first.index n.more h
 
 longer : (s : Scope) (id : Id) (i : Option Expr) (more : List (NameStep Expr)) → (more ≡ [] → ⊥)
     → name_value s (name id (index_by expr_tree i) (steps (map (step_by expr_tree) more))) ≡ Err (N4, id.place)

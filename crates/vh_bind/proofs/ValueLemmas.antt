@@ -88,4 +88,4 @@ none_answered (r ∷ rs) h =
 pub opening_nothing : (ns : Nodes) (s : Contents) → AreSound [] 0 ns → IsOpening (bare ns) s → s ≡ nothing
 opening_nothing ns s sound opening =
     let results : s.results ≡ [] = none_answered s.results (λ e. opening.results e ∙ no_results ns sound.fit e) in
-    λ i. record { records = opening.records i; results = results i; time = opening.time i }
+    λ i. record { records = opening.records i; drivers = opening.drivers i; results = results i; time = opening.time i }

@@ -1,6 +1,7 @@
 -- Expressions: the nodes that they are bound to, where they may read objects and where a constant is needed; and
 -- the values of constants. (IEEE 1364-2005, 4.10 and clause 5)
 use Rattle.std.specs.Prelude.{ℕ, suc, max, ◌==◌, ◌^◌, ◌-◌, List, [], ◌∷◌, ◌++◌, Bool, true, false, not, if◌then◌else◌, bytes_eq, codes, Option, Some, None, Ok, Err}
+use Rattle.vh_base.specs.declared.faults.DesignFault.{DesignFault}
 use Rattle.vh_base.specs.declared.faults.DesignFault.TheVariants.{N1, N3, N4, N7, N10}
 use Rattle.vh_base.specs.declared.place.Place.{Place}
 use Rattle.vh_logic.specs.declared.vector.TheConstants.{MAX_WIDTH}
@@ -51,7 +52,7 @@ bare ns = record {
 }
 
 abbrev pub nothing : Contents
-nothing = record { records = []; results = []; time = 0 }
+nothing = record { records = []; drivers = []; results = []; time = 0 }
 
 -- The value of an expression of some nodes, in its own width or a greater one. (5.4.1)
 abbrev pub value_at : ℕ → Nodes → ℕ → Vector
@@ -141,6 +142,12 @@ abbrev pub name_value : Scope → NameTree → Outcome (Option Bounded)
 name_value s (name id no_index no_step) = bounded id.place (scopes.named s id.name)
 name_value s (name id no_index (one_step i x more)) = Err (N4, id.place)
 name_value s (name id (index e) more) = Err (N4, id.place)
+
+-- What is wrong with a call; that of a path is no constant, whatever it leads to. (4.10 and 10.4.3)
+abbrev pub call_fault : Scope → NameTree → DesignFault
+call_fault s (name id no_index no_step) = scopes.alone_called s id.name
+call_fault s (name id no_index (one_step i x more)) = N4
+call_fault s (name id (index e) more) = N4
 
 -- What is written of such a value.
 abbrev pub literal : Mode → Scope → Place → Option Vector → Step (Option ℕ)
@@ -254,7 +261,7 @@ abbrev mutual
       (λ o r. vector_bound s place o r sel)
       (λ o r. memory_bound s place o r sel))
   form_bound m s place (call n es) =
-      by_mode m (refused N4 place)
+      by_mode m (refused (call_fault s n) place)
       (looking (λ ns. function_called s place (count_of es) (name_meant (here s ns) true n)) >>= (λ f.
       needing f (λ g. arguments_bound s (Some []) es >>= call_pushed s place g)))
   form_bound m s place (system id es) = system_row m s id es (mark_of id.name) (sole_bound m s es)

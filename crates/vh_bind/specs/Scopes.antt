@@ -1,5 +1,6 @@
 -- Where expressions stand, and what a name stands for where a constant is needed. (IEEE 1364-2005, 4.10 and 12.4)
 use Rattle.std.specs.Prelude.{ℕ, List, [], ◌∷◌, if◌then◌else◌, ◌&&◌, ◌==◌, bytes_eq, Option, Some, None, slice_get}
+use Rattle.vh_base.specs.declared.faults.DesignFault.{DesignFault}
 use Rattle.vh_base.specs.declared.faults.DesignFault.TheVariants.{N1, N4}
 use Rattle.vh_logic.specs.Vector.{Vector}
 use Rattle.vh_nodes.specs.declared.expr.ExprNode.{ExprNode}
@@ -110,3 +111,28 @@ found_named s name (Some d) = declared_named s name d.scope d.meaning
 -- What a name stands for: that of its innermost declaration. (12.7)
 abbrev pub named : Scope → List ℕ → Named
 named s name = found_named s name (found s.names s.around name)
+
+-- What is wrong with the call of such a thing where a constant is needed: a function is no constant, and nothing else
+-- is called. (4.10 and 10.4.3)
+abbrev pub kind_called : Kind → DesignFault
+kind_called of.Function = N4
+kind_called _ = N1
+
+abbrev pub there_called : Option ObjectInfo → DesignFault
+there_called None = N1
+there_called (Some i) = kind_called i.kind
+
+abbrev pub meaning_called : List ObjectInfo → Meaning → DesignFault
+meaning_called objects (means.Object id range) = there_called (slice_get objects id)
+meaning_called objects (means.Result id range) = N4
+meaning_called objects means.Genvar = N1
+meaning_called objects means.Blocks = N1
+meaning_called objects means.Gate = N1
+
+abbrev pub found_called : List ObjectInfo → Option Declaration → DesignFault
+found_called objects None = N1
+found_called objects (Some d) = meaning_called objects d.meaning
+
+-- And with that of a name alone.
+abbrev pub alone_called : Scope → List ℕ → DesignFault
+alone_called s name = found_called s.objects (found s.names s.around name)

@@ -6,12 +6,12 @@ ghost use Rattle.vh_ast.specs.Expressions.{exprs};
 ghost use Rattle.vh_ast.specs.Views.{expr_tree, link_tree, name_tree, sel_tree};
 ghost use Rattle.vh_bind.specs.Steps.{Steps, Gives};
 ghost use Rattle.vh_bind.specs.Nodes.{IsSound};
-ghost use Rattle.vh_bind.specs.Constants.{bound, entry, entries_bound, links_bound, name_value, sel_value, mark_of, system_row, sole_bound, constant};
+ghost use Rattle.vh_bind.specs.Constants.{bound, call_fault, entry, entries_bound, links_bound, name_value, sel_value, mark_of, system_row, sole_bound, constant};
 ghost use Rattle.vh_bind.specs.declared.scope.Mode.TheVariants as mode;
 ghost use Rattle.vh_bind.specs.Views.{scope_seen, numbers_of};
 
 use crate::fault::ElabFault;
-use crate::named::{Named, look_up};
+use crate::named::{Named, alone_called, look_up};
 use crate::nodes::{push, push_text};
 use crate::parts::{
     chain_operators, is_unsized, mark_of, push_choice, push_concat, push_links, push_literal,
@@ -82,7 +82,7 @@ fn bind(
                 let value = sel_value(alloc, scope, place, value, sel)?;
                 push_literal(scope, Mode::Constant, nodes, place, value)
             }
-            Primary::Call(_, _) => Err(ElabFault::Refused(DesignFault::N4, place)),
+            Primary::Call(name, _) => Err(ElabFault::Refused(call_fault(scope, name), place)),
             Primary::System(id, arguments) => { bind_system(alloc, scope, nodes, id, arguments) }
             Primary::Paren(inner) => bind(alloc, scope, nodes, inner.get()),
             Primary::Concat(parts) => {
@@ -123,6 +123,16 @@ fn bind(
             push_choice(scope, Mode::Constant, nodes, place, condition, yes, no)
         }
     }
+}
+
+// What is wrong with a call.
+fn call_fault(scope: &Scope, name: &Name<Expr>) -> DesignFault
+    ensures { result ≡ call_fault (scope_seen scope.now) (name_tree name.now) }
+{
+    if name.first.index.is_some() || !name.more.is_empty() {
+        return DesignFault::N4;
+    }
+    alone_called(scope, name.first.id.name.as_slice())
 }
 
 // The value that a name stands for: a path is no constant.

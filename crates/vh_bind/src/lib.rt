@@ -20,8 +20,6 @@ mod paths;
 mod readable;
 mod scope;
 mod selects;
-#[cfg(test)]
-mod tests;
 mod value;
 
 pub use binding::{constant, sel_value};

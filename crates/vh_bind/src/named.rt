@@ -1,6 +1,6 @@
 ghost use Rattle.std.specs.Prelude.{◌≡◌, slice_get};
 ghost use Rattle.vh_store.specs.Opening.{constant_in, literal_at, literal_in};
-ghost use Rattle.vh_bind.specs.Scopes.{genvar_value, genvar_named, parameter_named, object_named, there_named, declared_named, named};
+ghost use Rattle.vh_bind.specs.Scopes.{genvar_value, genvar_named, parameter_named, object_named, there_named, declared_named, named, kind_called, there_called, meaning_called, alone_called};
 ghost use Rattle.vh_bind.specs.Views.{scope_seen};
 
 use crate::scope::{Genvar, Scope};
@@ -131,5 +131,43 @@ pub(crate) fn look_up(scope: &Scope, name: &[u8]) -> Named
     match found(scope.names, scope.around, name) {
         None => Named::Wrong(DesignFault::N1),
         Some(declaration) => { declared_named(scope, name, declaration.scope, declaration.meaning) }
+    }
+}
+
+fn kind_called(kind: Kind) -> DesignFault
+    ensures { result ≡ kind_called kind }
+{
+    match kind {
+        Kind::Function => DesignFault::N4,
+        _ => DesignFault::N1,
+    }
+}
+
+fn there_called(scope: &Scope, id: ObjId) -> DesignFault
+    ensures { result ≡ there_called (slice_get (scope_seen scope.now).objects id) }
+{
+    match scope.objects.get(id.number() as usize) {
+        None => DesignFault::N1,
+        Some(object) => kind_called(object.kind),
+    }
+}
+
+fn meaning_called(scope: &Scope, meaning: Meaning) -> DesignFault
+    ensures { result ≡ meaning_called (scope_seen scope.now).objects meaning }
+{
+    match meaning {
+        Meaning::Object { id, .. } => there_called(scope, id),
+        Meaning::Result { .. } => DesignFault::N4,
+        Meaning::Genvar | Meaning::Blocks | Meaning::Gate => DesignFault::N1,
+    }
+}
+
+// What is wrong with a call of a name alone where a constant is needed.
+pub(crate) fn alone_called(scope: &Scope, name: &[u8]) -> DesignFault
+    ensures { result ≡ alone_called (scope_seen scope.now) name.now }
+{
+    match found(scope.names, scope.around, name) {
+        None => DesignFault::N1,
+        Some(declaration) => meaning_called(scope, declaration.meaning),
     }
 }

@@ -1,2 +1,6 @@
+-- Both of two
+pub mod BothLemmas
+-- Names beside values
+pub mod GivenLemmas
 -- A round that changes nothing
 pub mod RoundsLemmas

@@ -1,12 +1,17 @@
--- What is known of a module's objects: the values of parameters, ranges, and the faults that the first pass finds in them.
--- (IEEE 1364-2005, 4.3, 4.9 and 4.10)
-use Rattle.std.specs.Prelude.{ℕ, ◌+◌, ◌-◌, Bool, true, false, ◌||◌, List, [], ◌∷◌, ◌++◌, length, if◌then◌else◌, nat_lt, nat_le, Option, Some, None, Ok, Err, slice_get, slice_set}
+-- What is known of the objects of the instances: the values of parameters, ranges, and the faults that the first pass finds in an
+-- instance. (IEEE 1364-2005, 4.3, 4.9 and 4.10)
+use Rattle.std.specs.Prelude.{ℕ, ◌+◌, ◌-◌, Bool, true, false, ◌||◌, ◌&&◌, List, [], ◌∷◌, ◌++◌, length, if◌then◌else◌, ◌==◌, nat_lt, nat_le, Option, Some, None, Ok, Err, slice_get, slice_set, nat_eq}
+use Rattle.std.specs.List.{flat_map}
+use Rattle.std.specs.Map.{lookup}
+use Rattle.indexmap.specs.IndexMap.{insert_entry}
 use Rattle.std.specs.Option.{option_map}
 use Rattle.vh_base.specs.declared.faults.DesignFault.TheVariants.{N3, N11}
 use Rattle.vh_base.specs.declared.place.Place.{Place}
 use Rattle.vh_logic.specs.declared.vector.TheConstants.{MAX_WIDTH}
 use Rattle.vh_logic.specs.Vector.{Vector, width_of}
 use Rattle.vh_logic.specs.Parts.{resized}
+use Rattle.vh_ast.specs.declared.item.ParameterWord.{ParameterWord}
+use Rattle.vh_ast.specs.declared.item.ParameterWord.TheVariants as parameter_word
 use Rattle.vh_ast.specs.Expressions.{ExprTree}
 use Rattle.vh_ast.specs.Declarations.{RangeTree, TypeTree}
 use Rattle.vh_nodes.specs.declared.expr.ExprNode.{ExprNode}
@@ -16,36 +21,78 @@ use Rattle.vh_nodes.specs.declared.object.Detail.{Detail}
 use Rattle.vh_nodes.specs.declared.object.Detail.TheVariants as detail
 use Rattle.vh_nodes.specs.declared.object.ObjectInfo.{ObjectInfo}
 use Rattle.vh_scope.specs.Names.{Names}
+use Rattle.vh_bind.specs.declared.scope.Genvar.{Genvar}
 use Rattle.vh_bind.specs.Constants.{constant}
 use Rattle.vh_bind.specs.Scopes.{Scope}
 use Rattle.vh_bind.specs.Selects.{Outcome, with_ok, with_some, number_in, most_bound}
-use Rattle.vh_bind.specs.Steps.{Fault, Nodes}
+use Rattle.vh_bind.specs.Steps.{Nodes}
+use Rattle.vh_index.specs.First.{first_named}
+use Rattle.vh_least.specs.Least.{Fault, both, least}
 use Rattle.vh_sites.specs.Sites as S
-use Rattle.vh_sites.specs.Sites.{Declared, SiteTree, Sites, VarType, typed, one_digit, integer_type, time_type, variable, words, named_event, code, named_block, result, argument}
+use Rattle.vh_sites.specs.Sites.{Declared, SiteTree, VarType, typed, joined, one_digit, integer_type, time_type, variable, words, named_event, code, named_block, result, argument, net, wire, port, drives, gate, genvar, gen_block, loop_name, child}
 use Rattle.vh_declare.specs.declared.ranges.Measure.{Measure}
-use Rattle.vh_declare.specs.Least.{both, least, numbered}
-use Rattle.vh_declare.specs.Objects.{around_in, lone_digit, with_bounds}
+use Rattle.vh_declare.specs.Objects.{around_in, each, lone_digit, with_bounds}
 
--- What a module sets for all that stands in it: its name, its time unit and its precision. (12.1 and 19.8)
+-- The values that are given to an instance's parameters, by their names. (12.2.2)
+abbrev pub Given : Type 0
+Given = List (List ℕ × Vector)
+
+-- Names beside values, in pairs.
+abbrev pub paired : List (List ℕ) → List Vector → Given
+paired [] vs = []
+paired (n ∷ ns) [] = []
+paired (n ∷ ns) (v ∷ vs) = (n, v) ∷ paired ns vs
+
+abbrev pub given_for : Given → List ℕ → Option Vector
+given_for g name = option_map (λ e. e.1) (first_named (λ e. e.0) g name)
+
+-- What holds for all that stands in an instance: the number of its object, the name of the top, its time unit and its precision, and
+-- the values that its parameters are given. (12.1 and 19.8)
 pub record Home : Type 0 where
-  pub name : List ℕ
+  pub number : ℕ
+  pub top_name : List ℕ
   pub unit : ℕ
   pub precision : ℕ
+  pub given : Given
 
--- The names and objects so far, and the values of parameters, which are expressions.
+-- The genvars of generate blocks, by the blocks' objects. (12.4.1)
+abbrev pub Genvars : Type 0
+Genvars = List (ℕ × Genvar)
+
+-- A block has one, or none.
+abbrev pub with_genvar : ℕ → Genvar → Genvars → Genvars
+with_genvar block g gs = insert_entry nat_eq gs block g
+
+abbrev pub genvar_of : Genvars → ℕ → Option Genvar
+genvar_of gs s = lookup (nat_eq s) gs
+
+-- The names and objects so far, the genvars of generate blocks, the number of bodies, and the values of parameters, which are expressions.
 pub record Known : Type 0 where
   pub names : Names
   pub objects : List ObjectInfo
+  pub bodies : ℕ
   pub exprs : Nodes
+  pub genvars : Genvars
 
--- Where a constant stands: in a scope of the module.
+-- The genvars that have a value in these scopes, from the inside out: each in the blocks of its loop. (12.4.1)
+abbrev pub written : Option Genvar → List Genvar
+written None = []
+written (Some g) = g ∷ []
+
+abbrev pub genvars_in : Genvars → List ℕ → List Genvar
+genvars_in gs around = flat_map (λ s. written (genvar_of gs s)) around
+
+abbrev pub nothing_known : Known
+nothing_known = record { names = []; objects = []; bodies = 0; exprs = []; genvars = [] }
+
+-- Where a constant stands: in a scope of the instance.
 abbrev pub scope_in : Home → Known → List ℕ → Scope
 scope_in h k around = record {
   names = k.names;
   around = around;
   top = 0;
-  top_name = h.name;
-  genvars = [];
+  top_name = h.top_name;
+  genvars = genvars_in k.genvars around;
   objects = k.objects;
   exprs = k.exprs;
   routines = [];
@@ -95,8 +142,19 @@ words_measure signed addresses r =
 abbrev pub typed_measure : Scope → TypeTree → Outcome (Option Measure)
 typed_measure sc t = with_ok (type_range sc t.range) (λ r. Ok (option_map (vector_measure t.signed) r))
 
-abbrev pub var_measure : Scope → VarType → Outcome (Option Measure)
+-- Of two ranges that of the declaration counts, and of two signs the one that is written. (12.3.3)
+abbrev pub own_or : Option RangeTree → Option Range × Option Range → Option Range
+own_or None rs = rs.1
+own_or (Some r) rs = rs.0
+
+abbrev pub joined_measure : Scope → TypeTree → TypeTree → Outcome (Option Measure)
+joined_measure sc t p =
+    with_ok (both (type_range sc t.range) (type_range sc p.range)) (λ rs.
+    Ok (option_map (vector_measure (t.signed || p.signed)) (own_or t.range rs)))
+
+unfoldable pub var_measure : Scope → VarType → Outcome (Option Measure)
 var_measure sc (typed t) = typed_measure sc t
+var_measure sc (joined t p) = joined_measure sc t p
 var_measure sc one_digit = Ok (Some (vector_measure false lone_digit))
 var_measure sc integer_type = Ok (Some (vector_measure true (record { left = 31; right = 0 })))
 var_measure sc time_type = Ok (Some (vector_measure false (record { left = 63; right = 0 })))
@@ -104,7 +162,7 @@ var_measure sc time_type = Ok (Some (vector_measure false (record { left = 63; r
 abbrev pub most_words : ℕ
 most_words = 65536
 
-abbrev pub memory_measure : Scope → TypeTree → RangeTree → Outcome (Option Measure)
+unfoldable pub memory_measure : Scope → TypeTree → RangeTree → Outcome (Option Measure)
 memory_measure sc t r =
     with_ok (type_range sc t.range) (λ d. with_ok (range_of sc most_words r) (λ a.
     with_some d (λ digits. with_some a (λ addresses. Ok (Some (words_measure t.signed addresses digits))))))
@@ -131,6 +189,29 @@ abbrev pub parameter_value : Scope → Option TypeTree → ExprTree → Outcome 
 parameter_value sc None e = typed_value sc false None e
 parameter_value sc (Some t) e = typed_value sc t.signed t.range e
 
+-- One that is given a value: its own isn't looked at. A `localparam` is none, and none is that doesn't stand in the module's own
+-- scope. (12.2.2)
+abbrev pub given_to : Home → SiteTree → ParameterWord → Option Vector
+given_to h s parameter_word.Localparam = None
+given_to h s parameter_word.Parameter =
+    if s.scope == h.number then given_for h.given s.name else None
+
+abbrev pub given_range : Bool → Vector → Option RangeTree → Scope → Outcome (Option (Range × Vector))
+given_range signed v None sc = Ok (Some (own_value signed v))
+given_range signed v (Some r) sc =
+    with_ok (range_of sc MAX_WIDTH r) (λ x. Ok (option_map (λ y. (y, resized v (span y) signed)) x))
+
+abbrev pub given_value : Scope → Option TypeTree → Vector → Outcome (Option (Range × Vector))
+given_value sc None v = given_range false v None sc
+given_value sc (Some t) v = given_range t.signed v t.range sc
+
+abbrev pub own_or_given : Scope → Option TypeTree → ExprTree → Option Vector → Outcome (Option (Range × Vector))
+own_or_given sc t e None = parameter_value sc t e
+own_or_given sc t e (Some v) = given_value sc t v
+
+abbrev pub value_at : Home → Known → SiteTree → ParameterWord → Option TypeTree → ExprTree → Outcome (Option (Range × Vector))
+value_at h k s w t e = own_or_given (scope_at h k s.scope) t e (given_to h s w)
+
 -- Parameters need each other: each takes its value as soon as all that it needs have theirs, in as many rounds as there
 -- are sites. (4.10; the order is own)
 abbrev pub edited : ℕ → (ObjectInfo → ObjectInfo) → List ObjectInfo → Option ObjectInfo → List ObjectInfo
@@ -146,10 +227,10 @@ literal_node v = record { kind = kind.Literal v; width = width_of v; signed = v.
 abbrev pub valued_object : ℕ → Vector → ObjectInfo → ObjectInfo
 valued_object e v o = record o { width = width_of v; signed = v.signed; detail = detail.Value e }
 
-abbrev pub with_value : ℕ → SiteTree → Range × Vector → Known → Known
-with_value n s v k = record {
-  names = with_bounds n s v.0 k.names;
-  objects = with_object n (valued_object (length k.exprs) v.1) k.objects;
+abbrev pub with_value : SiteTree → Range × Vector → Known → Known
+with_value s v k = record k {
+  names = with_bounds s v.0 k.names;
+  objects = with_object s.number (valued_object (length k.exprs) v.1) k.objects;
   exprs = k.exprs ++ literal_node v.1 ∷ [];
 }
 
@@ -164,32 +245,41 @@ valued_in (Some o) = has_value o.detail
 abbrev pub is_valued : ℕ → Known → Bool
 is_valued n k = valued_in (slice_get k.objects n)
 
-abbrev pub settled_by : ℕ → SiteTree → Known → Option (Range × Vector) → Known
-settled_by n s k (Some v) = with_value n s v k
-settled_by n s k None = k
+abbrev pub settled_by : SiteTree → Known → Option (Range × Vector) → Known
+settled_by s k (Some v) = with_value s v k
+settled_by s k None = k
 
-abbrev pub given : Outcome (Option (Range × Vector)) → Option (Range × Vector)
-given (Ok v) = v
-given (Err fault) = None
+abbrev pub found_value : Outcome (Option (Range × Vector)) → Option (Range × Vector)
+found_value (Ok v) = v
+found_value (Err fault) = None
 
-abbrev pub settled : Home → ℕ → SiteTree → Declared → Known → Known
-settled h n s (variable t value) k = k
-settled h n s (words t r) k = k
-settled h n s named_event k = k
-settled h n s (S.constant t e) k =
-    if is_valued n k then k else settled_by n s k (given (parameter_value (scope_at h k s.scope) t e))
-settled h n s (code w st) k = k
-settled h n s (named_block w) k = k
-settled h n s (result t) k = k
-settled h n s (argument d t) k = k
+abbrev pub settled : Home → SiteTree → Declared → Known → Known
+settled h s (variable t value) k = k
+settled h s (words t r) k = k
+settled h s named_event k = k
+settled h s (S.constant w t e) k =
+    if is_valued s.number k then k else settled_by s k (found_value (value_at h k s w t e))
+settled h s (code w st) k = k
+settled h s (named_block w) k = k
+settled h s (result t) k = k
+settled h s (argument d t) k = k
+settled h s (net n t) k = k
+settled h s wire k = k
+settled h s (port d i t) k = k
+settled h s (drives d x e) k = k
+settled h s (gate g d x) k = k
+settled h s genvar k = k
+settled h s (gen_block b g) k = k
+settled h s (loop_name t) k = k
+settled h s (child m ps i) k = k
 
-abbrev pub settled_site : Home → ℕ → SiteTree → Known → Known
-settled_site h n s k = settled h n s s.declared k
+abbrev pub settled_site : Home → SiteTree → Known → Known
+settled_site h s k = settled h s s.declared k
 
-abbrev pub round : Home → Sites → Known → Known
-round h so k = numbered (settled_site h) 1 so k
+abbrev pub round : Home → List SiteTree → Known → Known
+round h so k = each (settled_site h) so k
 
-abbrev pub rounds : Sites → Home → Sites → Known → Known
+abbrev pub rounds : List SiteTree → Home → List SiteTree → Known → Known
 rounds [] h so k = k
 rounds (s ∷ more) h so k = rounds more h so (round h so k)
 
@@ -213,10 +303,10 @@ measured_object m o = record o {
   detail = detail_with m.lowest o.detail;
 }
 
-abbrev pub with_measure : ℕ → SiteTree → Measure → Known → Known
-with_measure n s m k = record k {
-  names = with_bounds n s m.range k.names;
-  objects = with_object n (measured_object m) k.objects;
+abbrev pub with_measure : SiteTree → Measure → Known → Known
+with_measure s m k = record k {
+  names = with_bounds s m.range k.names;
+  objects = with_object s.number (measured_object m) k.objects;
 }
 
 abbrev pub most_objects : ℕ
@@ -229,44 +319,55 @@ most_words_in_all = 1048576
 abbrev pub too_many : SiteTree → Bool → Option Fault
 too_many s b = if b then Some (N11, s.place) else None
 
-abbrev pub with_words : ℕ → SiteTree → Measure → Checked → Checked
-with_words n s m c = record c {
-  known = with_measure n s m c.known;
+abbrev pub with_words : SiteTree → Measure → Checked → Checked
+with_words s m c = record c {
+  known = with_measure s m c.known;
   fault = least c.fault (too_many s (nat_lt most_words_in_all (c.words + m.words)));
   words = c.words + m.words;
 }
 
-abbrev pub measured_by : ℕ → SiteTree → Checked → Outcome (Option Measure) → Checked
-measured_by n s c (Ok (Some m)) = with_words n s m c
-measured_by n s c (Ok None) = record c { passed = true }
-measured_by n s c (Err fault) = record c { fault = least c.fault (Some fault) }
+abbrev pub measured_by : SiteTree → Checked → Outcome (Option Measure) → Checked
+measured_by s c (Ok (Some m)) = with_words s m c
+measured_by s c (Ok None) = record c { passed = true }
+measured_by s c (Err fault) = record c { fault = least c.fault (Some fault) }
 
 abbrev pub valued_by : Checked → Outcome (Option (Range × Vector)) → Checked
 valued_by c (Ok (Some v)) = c
 valued_by c (Ok None) = record c { passed = true }
 valued_by c (Err fault) = record c { fault = least c.fault (Some fault) }
 
-abbrev pub measured_var : Home → ℕ → SiteTree → VarType → Checked → Checked
-measured_var h n s t c = measured_by n s c (var_measure (scope_at h c.known s.scope) t)
+abbrev pub measured_var : Home → SiteTree → VarType → Checked → Checked
+measured_var h s t c = measured_by s c (var_measure (scope_at h c.known s.scope) t)
 
-abbrev pub measured_memory : Home → ℕ → SiteTree → TypeTree → RangeTree → Checked → Checked
-measured_memory h n s t r c = measured_by n s c (memory_measure (scope_at h c.known s.scope) t r)
+abbrev pub measured_memory : Home → SiteTree → TypeTree → RangeTree → Checked → Checked
+measured_memory h s t r c = measured_by s c (memory_measure (scope_at h c.known s.scope) t r)
 
-abbrev pub measured_parameter : Home → SiteTree → Option TypeTree → ExprTree → Checked → Checked
-measured_parameter h s t e c = valued_by c (parameter_value (scope_at h c.known s.scope) t e)
+abbrev pub measured_parameter : Home → SiteTree → ParameterWord → Option TypeTree → ExprTree → Checked → Checked
+measured_parameter h s w t e c = valued_by c (value_at h c.known s w t e)
 
-abbrev pub measured : Home → ℕ → SiteTree → Declared → Checked → Checked
-measured h n s (variable t value) c = measured_var h n s t c
-measured h n s (words t r) c = measured_memory h n s t r c
-measured h n s named_event c = c
-measured h n s (S.constant t e) c = measured_parameter h s t e c
-measured h n s (code w st) c = c
-measured h n s (named_block w) c = c
-measured h n s (result t) c = measured_var h n s t c
-measured h n s (argument d t) c = measured_var h n s t c
+abbrev pub measured : Home → SiteTree → Declared → Checked → Checked
+measured h s (variable t value) c = measured_var h s t c
+measured h s (words t r) c = measured_memory h s t r c
+measured h s named_event c = c
+measured h s (S.constant w t e) c = measured_parameter h s w t e c
+measured h s (code w st) c = c
+measured h s (named_block w) c = c
+measured h s (result t) c = measured_var h s t c
+measured h s (argument d t) c = measured_var h s t c
+measured h s (net n t) c = measured_var h s t c
+measured h s wire c = measured_var h s one_digit c
+measured h s (port d i t) c = measured_var h s t c
+measured h s (drives d x e) c = c
+measured h s (gate g d x) c = c
+measured h s genvar c = c
+measured h s (gen_block b g) c = c
+measured h s (loop_name t) c = c
+measured h s (child m ps i) c = c
 
-abbrev pub counted : ℕ → SiteTree → Checked → Checked
-counted n s c = record c { fault = least c.fault (too_many s (nat_le most_objects n)) }
+-- What is no object isn't counted.
+abbrev pub counted : SiteTree → Checked → Checked
+counted s c =
+    record c { fault = least c.fault (too_many s (S.is_object s.declared && nat_le most_objects s.number)) }
 
-abbrev pub measured_site : Home → ℕ → SiteTree → Checked → Checked
-measured_site h n s c = measured h n s s.declared (counted n s c)
+abbrev pub measured_site : Home → SiteTree → Checked → Checked
+measured_site h s c = measured h s s.declared (counted s c)

@@ -1,23 +1,55 @@
--- The first pass over a module: what is known of its objects, and the least fault of that. (IEEE 1364-2005, clause 12;
+-- The first pass over an instance: what is known of its objects, and the least fault of that. (IEEE 1364-2005, clause 12;
 -- the passes are own)
-use Rattle.std.specs.Prelude.{false, []}
-use Rattle.vh_ast.specs.Items.{ModuleTree}
-use Rattle.vh_sites.specs.Sites.{Sites}
-use Rattle.vh_declare.specs.Least.{numbered}
-use Rattle.vh_declare.specs.Objects.{named_sites, module_objects}
-use Rattle.vh_declare.specs.Constants.{Home, Known, Checked, rounds, measured_site}
+use Rattle.std.specs.Prelude.{ℕ, List, [], ◌∷◌, ◌++◌, true, false, Option, Some, None, ℤ}
+use Rattle.vh_logic.specs.Number.{wrapped}
+use Rattle.vh_logic.specs.Planes.{digits_of}
+use Rattle.vh_logic.specs.Vector.{Vector}
+use Rattle.vh_nodes.specs.declared.object.ObjectInfo.{ObjectInfo}
+use Rattle.vh_least.specs.Least.{least}
+use Rattle.vh_sites.specs.Blocks.{GenvarAt}
+use Rattle.vh_sites.specs.Sites.{Declared, SiteTree, gen_block}
+use Rattle.vh_declare.specs.Needs.{needs_fault}
+use Rattle.vh_declare.specs.Objects.{Made, Naming, each, made_site, named_site}
+use Rattle.vh_declare.specs.Constants.{Genvars, Home, Known, Checked, rounds, measured_site, with_genvar}
+
+-- The objects behind those so far, the first of which is the instance.
+abbrev pub made_of : ObjectInfo → List SiteTree → Known → Made
+made_of o so k = each made_site so (record { objects = k.objects ++ o ∷ []; bodies = k.bodies })
+
+abbrev pub naming_of : List SiteTree → Known → Naming
+naming_of so k = each named_site so (record { names = k.names; fault = None })
+
+-- The genvars of generate blocks: 32 digits, signed. (12.4.1)
+abbrev pub genvar_value : ℤ → Vector
+genvar_value z = record { digits = digits_of 32 (wrapped 32 z) 0; signed = true }
+
+abbrev pub genvar_kept : ℕ → Option GenvarAt → Genvars → Genvars
+genvar_kept n None gs = gs
+genvar_kept n (Some g) gs =
+    with_genvar n (record { scope = g.scope; name = g.name; value = genvar_value g.value }) gs
+
+abbrev pub block_kept : ℕ → Declared → Genvars → Genvars
+block_kept n (gen_block b g) gs = genvar_kept n g gs
+block_kept n _ gs = gs
+
+abbrev pub site_kept : SiteTree → Genvars → Genvars
+site_kept s gs = block_kept s.number s.declared gs
 
 -- The names, the values of parameters, and then the ranges.
-abbrev pub home_of : ModuleTree → Home
-home_of m = record { name = m.id.name; unit = m.setting.unit; precision = m.setting.precision }
+abbrev pub first_known : ObjectInfo → List SiteTree → Known → Known
+first_known o so k = record {
+  names = (naming_of so k).names;
+  objects = (made_of o so k).objects;
+  bodies = (made_of o so k).bodies;
+  exprs = k.exprs;
+  genvars = each site_kept so k.genvars;
+}
 
-abbrev pub first_known : ModuleTree → Sites → Known
-first_known m so = record { names = (named_sites so).names; objects = module_objects m so; exprs = [] }
+abbrev pub settled_known : Home → ObjectInfo → List SiteTree → Known → Known
+settled_known h o so k = rounds so h so (first_known o so k)
 
-abbrev pub settled_known : ModuleTree → Sites → Known
-settled_known m so = rounds so (home_of m) so (first_known m so)
-
-abbrev pub checked : ModuleTree → Sites → Checked
-checked m so =
-    numbered (measured_site (home_of m)) 1 so
-    (record { known = settled_known m so; fault = (named_sites so).fault; passed = false; words = 0 })
+-- Behind what is known of the instances before it, with the words that their memories have.
+abbrev pub checked : Home → ObjectInfo → List SiteTree → Known → ℕ → Checked
+checked h o so k words =
+    each (measured_site h) so
+    (record { known = settled_known h o so k; fault = least (naming_of so k).fault (needs_fault h (settled_known h o so k) so); passed = false; words = words })

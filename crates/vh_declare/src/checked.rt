@@ -1,25 +1,28 @@
 ghost use Rattle.std.specs.Prelude.{◌≡◌, ◌+◌, length, IfOk, OnOk};
 ghost use Rattle.vh_bind.specs.Steps.{Gives};
-ghost use Rattle.vh_ast.specs.Views.{expr_tree, module_tree, range_tree, type_tree};
-ghost use Rattle.vh_sites.specs.Views.{data_type_seen, site_seen, sites_seen, var_type_seen};
+ghost use Rattle.vh_ast.specs.Views.{expr_tree, range_tree, type_tree};
+ghost use Rattle.vh_ports.specs.Views.{data_type_seen};
+ghost use Rattle.vh_sites.specs.Views.{all_seen, site_seen, var_type_seen};
 ghost use Rattle.vh_declare.specs.Constants;
 ghost use Rattle.vh_declare.specs.FirstPass;
-ghost use Rattle.vh_declare.specs.Least.{numbered};
+ghost use Rattle.vh_declare.specs.Objects.{each};
 ghost use Rattle.vh_declare.specs.Views;
 ghost use Rattle.vh_declare.specs.Views.{checked_seen, home_seen, known_seen};
 
+use crate::genvars::keep_genvars;
 use crate::known::{Home, Known};
-use crate::least::{Fault, least};
-use crate::objects::{module_objects, named_sites, next_number, set_bounds};
+use crate::needs::needs_fault;
+use crate::objects::{make_sites, name_sites, set_bounds};
 use crate::parameters::{Bounded, settle};
 use crate::ranges::Measure;
-use crate::standing::{memory_at, parameter_at, var_at};
+use crate::standing::{memory_at, value_at, var_at};
 use std::alloc::Global;
-use vh_ast::{DataType, Expr, Module};
+use vh_ast::{DataType, Expr, ParameterWord};
 use vh_base::{DesignFault, NoMemory};
 use vh_bind::ElabFault;
+use vh_least::{Fault, least};
 use vh_nodes::{Detail, ObjectInfo};
-use vh_sites::{Declared, Site, VarType};
+use vh_sites::{Declared, Site, VarType, is_object};
 
 /// The first pass over the sites: what is known, the least fault so far, whether something was
 /// passed
@@ -72,18 +75,18 @@ fn too_many(site: &Site, is_too_many: bool) -> Option<Fault>
 
 // An object has a measure, needs what has no value, or has a fault.
 fn take_measure(
-    number: u32,
+    alloc: Global,
     site: &Site,
     measure: Result<Option<Measure>, ElabFault>,
     checked: &mut Checked,
 ) -> Result<(), NoMemory>
-    ensures { Views.MeasuresBy number (site_seen site.now)
-        (checked_seen checked.old) measure result (checked_seen checked.new) }
+    ensures { Views.MeasuresBy (site_seen site.now) (checked_seen checked.old) measure result
+        (checked_seen checked.new) }
 {
     match measure {
         Ok(Some(measure)) => {
-            set_bounds(number, site, measure.range, &mut checked.known.names);
-            set_measure(&mut checked.known.objects, number, measure);
+            set_bounds(alloc, site, measure.range, &mut checked.known.names)?;
+            set_measure(&mut checked.known.objects, site.number, measure);
             let Some(words) = checked.words.checked_add(u64::from(measure.words)) else {
                 return Err(NoMemory);
             };
@@ -121,31 +124,29 @@ fn take_parameter(
 fn measure_var(
     alloc: Global,
     home: Home,
-    number: u32,
     site: &Site,
     var_type: VarType,
     checked: &mut Checked,
 ) -> Result<(), NoMemory>
     ensures { OnOk result (checked_seen checked.new
-        ≡ Constants.measured_var (home_seen home.entry) number (site_seen site.now)
+        ≡ Constants.measured_var (home_seen home.entry) (site_seen site.now)
         (var_type_seen var_type.entry) (checked_seen checked.old)) }
 {
     let measure = var_at(alloc, home, &checked.known, site.scope, var_type);
-    take_measure(number, site, measure, checked)
+    take_measure(alloc, site, measure, checked)
 }
 
 // A memory.
 fn measure_memory(
     alloc: Global,
     home: Home,
-    number: u32,
     site: &Site,
     data_type: &DataType,
     addresses: &vh_ast::Range,
     checked: &mut Checked,
 ) -> Result<(), NoMemory>
     ensures { OnOk result (checked_seen checked.new
-        ≡ Constants.measured_memory (home_seen home.entry) number (site_seen site.now)
+        ≡ Constants.measured_memory (home_seen home.entry) (site_seen site.now)
         (type_tree data_type.now) (range_tree addresses.now) (checked_seen checked.old)) }
 {
     let measure = memory_at(
@@ -156,7 +157,7 @@ fn measure_memory(
         data_type,
         addresses,
     );
-    take_measure(number, site, measure, checked)
+    take_measure(alloc, site, measure, checked)
 }
 
 // A parameter.
@@ -164,47 +165,50 @@ fn measure_parameter(
     alloc: Global,
     home: Home,
     site: &Site,
+    word: ParameterWord,
     data_type: Option<&DataType>,
     e: &Expr,
     checked: &mut Checked,
 ) -> Result<(), NoMemory>
     ensures { OnOk result (checked_seen checked.new
-        ≡ Constants.measured_parameter (home_seen home.entry) (site_seen site.now)
+        ≡ Constants.measured_parameter (home_seen home.entry) (site_seen site.now) word
         (data_type_seen data_type.entry) (expr_tree e.now) (checked_seen checked.old)) }
 {
-    let value = parameter_at(alloc, home, &checked.known, site.scope, data_type, e);
+    let value = value_at(alloc, home, &checked.known, site, word, data_type, e);
     take_parameter(value, checked)
 }
 
-// One site in the first pass.
+// One site in the first pass: what is no object isn't counted.
 fn measure_site(
     alloc: Global,
     home: Home,
-    number: u32,
     site: &Site,
     checked: &mut Checked,
 ) -> Result<(), NoMemory>
     ensures { OnOk result (checked_seen checked.new
-        ≡ Constants.measured_site (home_seen home.entry) number (site_seen site.now)
+        ≡ Constants.measured_site (home_seen home.entry) (site_seen site.now)
         (checked_seen checked.old)) }
 {
-    let fault = too_many(site, number >= MOST_OBJECTS);
-    checked.fault = least(checked.fault, fault);
+    let is_over = is_object(site.declared) && site.number >= MOST_OBJECTS;
+    checked.fault = least(checked.fault, too_many(site, is_over));
     match site.declared {
-        Declared::Variable(var_type, _) => {
-            measure_var(alloc, home, number, site, var_type, checked)
-        }
+        Declared::Wire => measure_var(alloc, home, site, VarType::OneDigit, checked),
+        Declared::Typed(_, var_type) => measure_var(alloc, home, site, var_type, checked),
         Declared::Words(data_type, addresses) => {
-            measure_memory(alloc, home, number, site, data_type, addresses, checked)
+            measure_memory(alloc, home, site, data_type, addresses, checked)
         }
-        Declared::Constant(data_type, e) => {
-            measure_parameter(alloc, home, site, data_type, e, checked)
+        Declared::Constant(word, data_type, e) => {
+            measure_parameter(alloc, home, site, word, data_type, e, checked)
         }
-        Declared::Result(var_type) => measure_var(alloc, home, number, site, var_type, checked),
-        Declared::Argument(_, var_type) => {
-            measure_var(alloc, home, number, site, var_type, checked)
-        }
-        Declared::Event | Declared::Code(_, _) | Declared::Block(_) => Ok(()),
+        Declared::Event
+        | Declared::Code(_, _)
+        | Declared::Block(_)
+        | Declared::Drives(_, _, _)
+        | Declared::Gate(_, _, _)
+        | Declared::GenBlock(_, _)
+        | Declared::Loop(_)
+        | Declared::Genvar
+        | Declared::Child(_, _, _) => Ok(()),
     }
 }
 
@@ -216,40 +220,61 @@ fn measure_sites(
     checked: &mut Checked,
 ) -> Result<(), NoMemory>
     ensures { OnOk result (checked_seen checked.new
-        ≡ numbered (Constants.measured_site (home_seen home.entry)) 1 (sites_seen sites.now)
+        ≡ each (Constants.measured_site (home_seen home.entry)) (all_seen sites.now)
         (checked_seen checked.old)) }
 {
-    let mut number = 1;
     for site in sites {
-        measure_site(alloc, home, number, site, checked)?;
-        number = next_number(number)?;
+        measure_site(alloc, home, site, checked)?;
     }
     Ok(())
 }
 
-/// The first pass: names, parameters, ranges, and their least fault.
+/// Some sites are known, behind an object, with the values of their parameters; answers the least
+/// fault of their names.
+pub fn declare(
+    alloc: Global,
+    home: Home,
+    object: ObjectInfo,
+    sites: &[Site],
+    known: &mut Known,
+) -> Result<Option<Fault>, NoMemory>
+    ensures fault { IfOk result (λ f. f
+        ≡ (FirstPass.naming_of (all_seen sites.now) (known_seen known.old)).fault) }
+    ensures known { OnOk result (known_seen known.new
+        ≡ FirstPass.settled_known (home_seen home.entry) object (all_seen sites.now)
+        (known_seen known.old)) }
+{
+    known.objects.push(object)?;
+    make_sites(alloc, sites, &mut known.objects, &mut known.bodies)?;
+    keep_genvars(alloc, sites, &mut known.genvars)?;
+    let fault = name_sites(alloc, sites, &mut known.names)?;
+    settle(alloc, home, sites, known)?;
+    Ok(fault)
+}
+
+/// The first pass over an instance, behind what is known of those before it: names, parameters,
+/// ranges, and their least fault.
+/// `words` is how many words the memories before it have.
 pub fn first_pass(
     alloc: Global,
     home: Home,
-    module: &Module,
+    object: ObjectInfo,
     sites: &[Site],
+    known: Known,
+    words: u64,
 ) -> Result<Checked, NoMemory>
-    requires { home_seen home ≡ FirstPass.home_of (module_tree module.now) }
     ensures { IfOk result (λ c. checked_seen c
-        ≡ FirstPass.checked (module_tree module.now) (sites_seen sites.now)) }
+        ≡ FirstPass.checked (home_seen home.entry) object (all_seen sites.now)
+        (known_seen known) words) }
 {
-    let naming = named_sites(alloc, sites)?;
-    let mut known = Known {
-        names: naming.names,
-        objects: module_objects(alloc, module, sites)?,
-        exprs: Vec::new(alloc),
-    };
-    settle(alloc, home, sites, &mut known)?;
+    let mut known = known;
+    let fault = declare(alloc, home, object, sites, &mut known)?;
+    let cycle = needs_fault(alloc, home, &known, sites)?;
     let mut checked = Checked {
         known,
-        fault: naming.fault,
+        fault: least(fault, cycle),
         passed: false,
-        words: 0,
+        words,
     };
     measure_sites(alloc, home, sites, &mut checked)?;
     Ok(checked)

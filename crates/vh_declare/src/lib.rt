@@ -1,21 +1,27 @@
-//! What a module declares, with all its constants (IEEE 1364-2005, 4.3, 4.9, 4.10 and 12.7).
+//! What an instance of a module declares, with all its constants (IEEE 1364-2005, 4.3, 4.9, 4.10
+//! and 12.7).
 //!
-//! The one contract used above: [`first_pass`] answers what `specs/FirstPass.antt` gives a module and
-//! the sites in it: its objects and their names, the values of parameters and the ranges of variables
-//! and memories, and the least fault of these.
+//! The contract that the layer above uses: [`first_pass`] answers what `specs/FirstPass.antt`
+//! gives an
+//! instance and the sites in it, behind what is known of the instances before it: its objects and
+//! their names, the values of
+//! parameters and the ranges of variables, nets and memories, and the least fault of these.
 //!
 //! It stands on `vh_sites` for what is declared, and on `vh_bind` for the values of constants.
 #![tactic(auto)]
 
 mod checked;
+mod genvars;
+mod given;
 mod known;
-mod least;
+mod needs;
 mod objects;
 mod parameters;
 mod ranges;
 mod standing;
 
-pub use checked::{Checked, first_pass};
+pub use checked::{Checked, declare, first_pass};
+pub use genvars::{Genvars, genvars_in};
+pub use given::Given;
 pub use known::{Home, Known};
-pub use least::{Fault, lesser};
-pub use objects::{around, is_routine, next_number};
+pub use objects::{around, instance_object, is_routine, name_wires};

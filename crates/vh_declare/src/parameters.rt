@@ -3,16 +3,17 @@ ghost use Rattle.vh_logic.specs.declared.vector.TheConstants.{MAX_WIDTH};
 ghost use Rattle.vh_ast.specs.Views.{expr_tree, type_tree};
 ghost use Rattle.vh_bind.specs.Steps.{Gives};
 ghost use Rattle.vh_bind.specs.Views.{scope_seen};
-ghost use Rattle.vh_sites.specs.Views.{data_type_seen, site_seen, sites_seen};
+ghost use Rattle.vh_ports.specs.Views.{data_type_seen};
+ghost use Rattle.vh_sites.specs.Views.{all_seen, site_seen};
 ghost use Rattle.vh_declare.specs.Constants;
-ghost use Rattle.vh_declare.specs.Views.{home_seen, known_seen, range_seen, IsGiven};
+ghost use Rattle.vh_declare.specs.Views.{home_seen, known_seen, range_seen, IsFound};
 
 use crate::known::{Home, Known};
-use crate::objects::{next_number, set_bounds};
+use crate::objects::{name_of, set_bounds};
 use crate::ranges::{range_of, span};
-use crate::standing::parameter_at;
+use crate::standing::value_at;
 use std::alloc::Global;
-use vh_ast::{DataType, Expr};
+use vh_ast::{DataType, Expr, ParameterWord};
 use vh_base::{ExprId, NoMemory};
 use vh_bind::{ElabFault, Scope, constant};
 use vh_logic::{MAX_WIDTH, Vec4, resize};
@@ -79,10 +80,9 @@ fn typed_value(
     }
 }
 
-/// The value of a parameter with the bounds of its digits; none where it needs one that has no
-/// value
-/// (IEEE 1364-2005, 4.10.1).
-pub(crate) fn parameter_value(
+// The value of a parameter with the bounds of its digits; none where it needs one that has no value
+// (IEEE 1364-2005, 4.10.1).
+fn parameter_value(
     alloc: Global,
     scope: &Scope,
     data_type: Option<&DataType>,
@@ -96,6 +96,86 @@ pub(crate) fn parameter_value(
         Some(data_type) => {
             typed_value(alloc, scope, data_type.signed, data_type.range.as_ref(), e)
         }
+    }
+}
+
+// A value that is given, in a range.
+fn given_range(
+    alloc: Global,
+    scope: &Scope,
+    signed: bool,
+    value: Vec4,
+    range: Option<&vh_ast::Range>,
+) -> Result<Option<Bounded>, ElabFault>
+    ensures { Gives (Constants.given_range signed value (range_seen range.entry)
+        (scope_seen scope.now)) result }
+{
+    let Some(range) = range else {
+        return Ok(Some(own_value(signed, value)));
+    };
+    let Some(range) = range_of(alloc, scope, MAX_WIDTH, range)? else {
+        return Ok(None);
+    };
+    Ok(Some((range, resize(&value, span(range) as u32, signed))))
+}
+
+fn given_value(
+    alloc: Global,
+    scope: &Scope,
+    data_type: Option<&DataType>,
+    value: Vec4,
+) -> Result<Option<Bounded>, ElabFault>
+    ensures { Gives (Constants.given_value (scope_seen scope.now)
+        (data_type_seen data_type.entry) value) result }
+{
+    match data_type {
+        None => given_range(alloc, scope, false, value, None),
+        Some(data_type) => given_range(
+            alloc,
+            scope,
+            data_type.signed,
+            value,
+            data_type.range.as_ref(),
+        ),
+    }
+}
+
+/// What a parameter is given, if it may be.
+pub(crate) fn given_to(
+    alloc: Global,
+    home: Home,
+    site: &Site,
+    word: ParameterWord,
+) -> Result<Option<Vec4>, NoMemory>
+    ensures { IfOk result (λ v. v
+        ≡ Constants.given_to (home_seen home.entry) (site_seen site.now) word) }
+{
+    match word {
+        ParameterWord::Localparam => Ok(None),
+        ParameterWord::Parameter => {
+            if site.scope != home.number {
+                return Ok(None);
+            }
+            let name = name_of(alloc, site)?;
+            Ok(home.given.of(&name))
+        }
+    }
+}
+
+/// Its own value, or the one that it is given.
+pub(crate) fn own_or_given(
+    alloc: Global,
+    scope: &Scope,
+    data_type: Option<&DataType>,
+    e: &Expr,
+    given: Option<Vec4>,
+) -> Result<Option<Bounded>, ElabFault>
+    ensures { Gives (Constants.own_or_given (scope_seen scope.now)
+        (data_type_seen data_type.entry) (expr_tree e.now) given) result }
+{
+    match given {
+        None => parameter_value(alloc, scope, data_type, e),
+        Some(value) => given_value(alloc, scope, data_type, value),
     }
 }
 
@@ -129,9 +209,9 @@ fn set_value(objects: &mut Vec<ObjectInfo>, number: u32, e: u32, value: Vec4)
 }
 
 // A parameter takes its value.
-fn take_value(number: u32, site: &Site, value: Bounded, known: &mut Known) -> Result<(), NoMemory>
+fn take_value(alloc: Global, site: &Site, value: Bounded, known: &mut Known) -> Result<(), NoMemory>
     ensures { OnOk result (known_seen known.new
-        ≡ Constants.with_value number (site_seen site.now) value (known_seen known.old)) }
+        ≡ Constants.with_value (site_seen site.now) value (known_seen known.old)) }
 {
     let (range, value) = value;
     let Ok(e) = u32::try_from(known.exprs.len()) else {
@@ -142,14 +222,14 @@ fn take_value(number: u32, site: &Site, value: Bounded, known: &mut Known) -> Re
         width: value.width(),
         signed: value.is_signed(),
     })?;
-    set_bounds(number, site, range, &mut known.names);
-    set_value(&mut known.objects, number, e, value);
+    set_bounds(alloc, site, range, &mut known.names)?;
+    set_value(&mut known.objects, site.number, e, value);
     Ok(())
 }
 
 // A value, where there is one: a fault is found later.
 fn value_or_none(value: Result<Option<Bounded>, ElabFault>) -> Result<Option<Bounded>, NoMemory>
-    ensures { IsGiven value result }
+    ensures { IsFound value result }
 {
     match value {
         Ok(value) => Ok(value),
@@ -159,46 +239,40 @@ fn value_or_none(value: Result<Option<Bounded>, ElabFault>) -> Result<Option<Bou
 }
 
 // The value of a site's parameter, where it can have one: a fault is found later.
-fn value_at(
+fn value_now(
     alloc: Global,
     home: Home,
     site: &Site,
+    word: ParameterWord,
     data_type: Option<&DataType>,
     e: &Expr,
     known: &Known,
 ) -> Result<Option<Bounded>, NoMemory>
-    ensures { IfOk result (λ v. v ≡ Constants.given
-        (Constants.parameter_value (Constants.scope_at (home_seen home.entry)
-        (known_seen known.now) site.now.scope) (data_type_seen data_type.entry)
-        (expr_tree e.now))) }
+    ensures { IfOk result (λ v. v ≡ Constants.found_value
+        (Constants.value_at (home_seen home.entry) (known_seen known.now)
+        (site_seen site.now) word (data_type_seen data_type.entry) (expr_tree e.now))) }
 {
-    let value = parameter_at(alloc, home, known, site.scope, data_type, e);
+    let value = value_at(alloc, home, known, site, word, data_type, e);
     value_or_none(value)
 }
 
 // A site's parameter takes its value, where it can; answers whether it did.
-fn settle_site(
-    alloc: Global,
-    home: Home,
-    number: u32,
-    site: &Site,
-    known: &mut Known,
-) -> Result<bool, NoMemory>
+fn settle_site(alloc: Global, home: Home, site: &Site, known: &mut Known) -> Result<bool, NoMemory>
     ensures settled { OnOk result (known_seen known.new
-        ≡ Constants.settled_site (home_seen home.entry) number (site_seen site.now)
+        ≡ Constants.settled_site (home_seen home.entry) (site_seen site.now)
         (known_seen known.old)) }
     ensures same { result ≡ Ok false → known_seen known.new ≡ known_seen known.old }
 {
-    let Declared::Constant(data_type, e) = site.declared else {
+    let Declared::Constant(word, data_type, e) = site.declared else {
         return Ok(false);
     };
-    if is_valued(number, known) {
+    if is_valued(site.number, known) {
         return Ok(false);
     }
-    let Some(value) = value_at(alloc, home, site, data_type, e, known)? else {
+    let Some(value) = value_now(alloc, home, site, word, data_type, e, known)? else {
         return Ok(false);
     };
-    take_value(number, site, value, known)?;
+    take_value(alloc, site, value, known)?;
     Ok(true)
 }
 
@@ -210,16 +284,14 @@ fn settle_round(
     known: &mut Known,
 ) -> Result<bool, NoMemory>
     ensures settled { OnOk result (known_seen known.new
-        ≡ Constants.round (home_seen home.entry) (sites_seen sites.now) (known_seen known.old)) }
+        ≡ Constants.round (home_seen home.entry) (all_seen sites.now) (known_seen known.old)) }
     ensures same { result ≡ Ok false → known_seen known.new ≡ known_seen known.old }
 {
     let mut changed = false;
-    let mut number = 1;
     for site in sites {
-        if settle_site(alloc, home, number, site, known)? {
+        if settle_site(alloc, home, site, known)? {
             changed = true;
         }
-        number = next_number(number)?;
     }
     Ok(changed)
 }
@@ -232,7 +304,7 @@ pub(crate) fn settle(
     known: &mut Known,
 ) -> Result<(), NoMemory>
     ensures { OnOk result (known_seen known.new
-        ≡ Constants.rounds (sites_seen sites.now) (home_seen home.entry) (sites_seen sites.now)
+        ≡ Constants.rounds (all_seen sites.now) (home_seen home.entry) (all_seen sites.now)
         (known_seen known.old)) }
 {
     for _round in sites {

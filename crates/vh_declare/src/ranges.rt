@@ -5,15 +5,16 @@ ghost use Rattle.vh_ast.specs.Views.{expr_tree, range_tree, type_tree};
 ghost use Rattle.vh_bind.specs.Steps.{Gives};
 ghost use Rattle.vh_bind.specs.Views.{scope_seen};
 ghost use Rattle.vh_sites.specs.Views.{var_type_seen};
-ghost use Rattle.vh_declare.specs.Least;
+ghost use Rattle.vh_least.specs.Least.{both};
+ghost use Rattle.vh_declare.specs.Views.{BothBy};
 ghost use Rattle.vh_declare.specs.Constants;
 
-use crate::least::lesser;
 use crate::objects::LONE_DIGIT;
 use std::alloc::Global;
 use vh_ast::{DataType, Expr};
 use vh_base::{DesignFault, Place};
 use vh_bind::{ElabFault, Scope, constant, number_in};
+use vh_least::lesser;
 use vh_logic::MAX_WIDTH;
 use vh_nodes::Range;
 use vh_sites::VarType;
@@ -40,18 +41,13 @@ fn bound(alloc: Global, scope: &Scope, place: Place, e: &Expr) -> Result<Option<
     number_in(place, 0, MOST_BOUND, value)
 }
 
-// Both bounds, or the lesser of their faults.
-fn bounds(
-    alloc: Global,
-    scope: &Scope,
-    range: &vh_ast::Range,
-) -> Result<(Option<u64>, Option<u64>), ElabFault>
-    ensures value { Gives (Constants.bounds (scope_seen scope.now) (range_tree range.now)) result }
-    ensures left { IfOk result (λ b. IfSome b.0 (λ n. n ≤ 2 ^ 31 - 1)) }
-    ensures right { IfOk result (λ b. IfSome b.1 (λ n. n ≤ 2 ^ 31 - 1)) }
+// Both of two, or the lesser of their faults.
+fn both<T: Copy, U: Copy>(
+    left: Result<T, ElabFault>,
+    right: Result<U, ElabFault>,
+) -> Result<(T, U), ElabFault>
+    ensures { BothBy left right result }
 {
-    let left = bound(alloc, scope, range.place, &range.left);
-    let right = bound(alloc, scope, range.place, &range.right);
     match left {
         Ok(left) => match right {
             Ok(right) => Ok((left, right)),
@@ -67,6 +63,22 @@ fn bounds(
             }
         },
     }
+}
+
+// Both bounds, or the lesser of their faults.
+#[tactic(auto, using(crate::proofs::BothLemmas::gives_both, crate::proofs::BothLemmas::both_left, crate::proofs::BothLemmas::both_right))]
+fn bounds(
+    alloc: Global,
+    scope: &Scope,
+    range: &vh_ast::Range,
+) -> Result<(Option<u64>, Option<u64>), ElabFault>
+    ensures value { Gives (Constants.bounds (scope_seen scope.now) (range_tree range.now)) result }
+    ensures left { IfOk result (λ b. IfSome b.0 (λ n. n ≤ 2 ^ 31 - 1)) }
+    ensures right { IfOk result (λ b. IfSome b.1 (λ n. n ≤ 2 ^ 31 - 1)) }
+{
+    let left = bound(alloc, scope, range.place, &range.left);
+    let right = bound(alloc, scope, range.place, &range.right);
+    both(left, right)
 }
 
 // A range of so many elements at most.
@@ -179,7 +191,57 @@ fn typed_measure(
     }
 }
 
-/// That of a variable.
+// The ranges of a type, and of a port of the same name: both are looked at.
+#[tactic(auto, using(crate::proofs::BothLemmas::gives_both, crate::proofs::BothLemmas::both_left, crate::proofs::BothLemmas::both_right))]
+fn both_ranges(
+    alloc: Global,
+    scope: &Scope,
+    data_type: &DataType,
+    port: &DataType,
+) -> Result<(Option<Range>, Option<Range>), ElabFault>
+    ensures value { Gives (both (Constants.type_range (scope_seen scope.now)
+        (type_tree data_type.now).range) (Constants.type_range (scope_seen scope.now)
+        (type_tree port.now).range)) result }
+    ensures own { IfOk result (λ b. IfSome b.0 (λ r. Constants.span r ≤ MAX_WIDTH)) }
+    ensures other { IfOk result (λ b. IfSome b.1 (λ r. Constants.span r ≤ MAX_WIDTH)) }
+{
+    let own = type_range(alloc, scope, data_type);
+    let other = type_range(alloc, scope, port);
+    both(own, other)
+}
+
+fn own_or(range: &Option<vh_ast::Range>, own: Option<Range>, other: Option<Range>) -> Option<Range>
+    requires own { IfSome own (λ r. Constants.span r ≤ MAX_WIDTH) }
+    requires other { IfSome other (λ r. Constants.span r ≤ MAX_WIDTH) }
+    ensures value { result ≡ Constants.own_or (option_map range_tree range.now) (own, other) }
+    ensures most { IfSome result (λ r. Constants.span r ≤ MAX_WIDTH) }
+{
+    match range {
+        None => other,
+        Some(_) => own,
+    }
+}
+
+// That of a type, and of a port of the same name.
+fn joined_measure(
+    alloc: Global,
+    scope: &Scope,
+    data_type: &DataType,
+    port: &DataType,
+) -> Result<Option<Measure>, ElabFault>
+    ensures { Gives (Constants.joined_measure (scope_seen scope.now) (type_tree data_type.now)
+        (type_tree port.now)) result }
+{
+    let (own, other) = both_ranges(alloc, scope, data_type, port)?;
+    let signed = data_type.signed || port.signed;
+    match own_or(&data_type.range, own, other) {
+        None => Ok(None),
+        Some(range) => Ok(Some(vector_measure(signed, range))),
+    }
+}
+
+/// That of a variable or a net.
+#[tactic(auto, unfolding(crate::specs::Constants::var_measure))]
 pub(crate) fn var_measure(
     alloc: Global,
     scope: &Scope,
@@ -189,7 +251,8 @@ pub(crate) fn var_measure(
         (var_type_seen var_type.entry)) result }
 {
     match var_type {
-        VarType::Typed(data_type) => typed_measure(alloc, scope, data_type),
+        VarType::Typed(data_type, None) => typed_measure(alloc, scope, data_type),
+        VarType::Typed(data_type, Some(port)) => joined_measure(alloc, scope, data_type, port),
         VarType::OneDigit => Ok(Some(vector_measure(false, LONE_DIGIT))),
         VarType::Integer => Ok(Some(vector_measure(true, Range { left: 31, right: 0 }))),
         VarType::Time => Ok(Some(vector_measure(false, Range { left: 63, right: 0 }))),
@@ -197,6 +260,7 @@ pub(crate) fn var_measure(
 }
 
 /// That of a memory.
+#[tactic(auto, unfolding(crate::specs::Constants::memory_measure))]
 pub(crate) fn memory_measure(
     alloc: Global,
     scope: &Scope,

@@ -1,20 +1,22 @@
 ghost use Rattle.std.specs.Prelude.{◌≡◌};
 ghost use Rattle.vh_ast.specs.Views.{expr_tree, range_tree, type_tree};
 ghost use Rattle.vh_bind.specs.Steps.{Gives};
-ghost use Rattle.vh_sites.specs.Views.{data_type_seen, var_type_seen};
+ghost use Rattle.vh_ports.specs.Views.{data_type_seen};
+ghost use Rattle.vh_sites.specs.Views.{site_seen, var_type_seen};
 ghost use Rattle.vh_declare.specs.Constants;
 ghost use Rattle.vh_declare.specs.Views.{home_seen, known_seen};
 
+use crate::genvars::genvars_in;
 use crate::known::{Home, Known};
 use crate::objects::around;
-use crate::parameters::{Bounded, parameter_value};
+use crate::parameters::{Bounded, given_to, own_or_given};
 use crate::ranges::{Measure, memory_measure, var_measure};
 use std::alloc::Global;
-use vh_ast::{DataType, Expr};
+use vh_ast::{DataType, Expr, ParameterWord};
 use vh_base::ObjId;
 use vh_bind::{ElabFault, Scope};
 use vh_scope::Top;
-use vh_sites::VarType;
+use vh_sites::{Site, VarType};
 
 /// What is known of a variable that is declared in a scope.
 pub(crate) fn var_at(
@@ -29,21 +31,22 @@ pub(crate) fn var_at(
         (var_type_seen var_type.entry)) result }
 {
     let around = around(alloc, &known.objects, ObjId::new(scope))?;
-    let scope = Scope {
+    let genvars = genvars_in(alloc, &known.genvars, &around)?;
+    let inside = Scope {
         names: &known.names,
         around: &around,
         top: Top {
             id: ObjId::new(0),
-            name: home.name,
+            name: home.top_name,
         },
-        genvars: &[],
+        genvars: &genvars,
         objects: &known.objects,
         exprs: &known.exprs,
         routines: &[],
         unit: home.unit,
         precision: home.precision,
     };
-    var_measure(alloc, &scope, var_type)
+    var_measure(alloc, &inside, var_type)
 }
 
 /// The same of a memory.
@@ -60,50 +63,54 @@ pub(crate) fn memory_at(
         (type_tree data_type.now) (range_tree addresses.now)) result }
 {
     let around = around(alloc, &known.objects, ObjId::new(scope))?;
-    let scope = Scope {
+    let genvars = genvars_in(alloc, &known.genvars, &around)?;
+    let inside = Scope {
         names: &known.names,
         around: &around,
         top: Top {
             id: ObjId::new(0),
-            name: home.name,
+            name: home.top_name,
         },
-        genvars: &[],
+        genvars: &genvars,
         objects: &known.objects,
         exprs: &known.exprs,
         routines: &[],
         unit: home.unit,
         precision: home.precision,
     };
-    memory_measure(alloc, &scope, data_type, addresses)
+    memory_measure(alloc, &inside, data_type, addresses)
 }
 
-/// The value of a parameter that is declared in a scope.
-pub(crate) fn parameter_at(
+/// The value of a parameter, which it may be given.
+pub(crate) fn value_at(
     alloc: Global,
     home: Home,
     known: &Known,
-    scope: u32,
+    site: &Site,
+    word: ParameterWord,
     data_type: Option<&DataType>,
     e: &Expr,
 ) -> Result<Option<Bounded>, ElabFault>
-    ensures { Gives (Constants.parameter_value
-        (Constants.scope_at (home_seen home.entry) (known_seen known.now) scope)
+    ensures { Gives (Constants.value_at
+        (home_seen home.entry) (known_seen known.now) (site_seen site.now) word
         (data_type_seen data_type.entry) (expr_tree e.now)) result }
 {
-    let around = around(alloc, &known.objects, ObjId::new(scope))?;
-    let scope = Scope {
+    let around = around(alloc, &known.objects, ObjId::new(site.scope))?;
+    let genvars = genvars_in(alloc, &known.genvars, &around)?;
+    let inside = Scope {
         names: &known.names,
         around: &around,
         top: Top {
             id: ObjId::new(0),
-            name: home.name,
+            name: home.top_name,
         },
-        genvars: &[],
+        genvars: &genvars,
         objects: &known.objects,
         exprs: &known.exprs,
         routines: &[],
         unit: home.unit,
         precision: home.precision,
     };
-    parameter_value(alloc, &scope, data_type, e)
+    let given = given_to(alloc, home, site, word)?;
+    own_or_given(alloc, &inside, data_type, e, given)
 }

@@ -1,254 +1,212 @@
--- The second pass: the codes of processes and the bodies of tasks and functions. (IEEE 1364-2005, 6.2.1, 9.9 and 10)
-use Rattle.std.specs.Prelude.{ℕ, ◌+◌, Bool, true, false, ◌&&◌, ◌||◌, List, [], ◌∷◌, ◌++◌, length, if◌then◌else◌, ◌==◌, nat_lt, drop, Option, Some, None, Result, Ok, Err, slice_get}
-use Rattle.std.specs.List.{list_any}
-use Rattle.vh_ast.specs.declared.routine.TaskDirection.{TaskDirection}
-use Rattle.vh_ast.specs.declared.routine.TaskDirection.TheVariants as goes
-use Rattle.vh_ast.specs.Expressions.{ExprTree}
-use Rattle.vh_ast.specs.Statements.{StmtTree}
+-- The second pass over an instance: the codes of processes and the bodies of tasks and functions, and the least fault of these.
+-- (IEEE 1364-2005, 6.1, 6.2.1, 7.1, 9.9, 10 and 12.3)
+use Rattle.std.specs.Prelude.{ℕ, ◌+◌, Bool, true, List, [], ◌∷◌, ◌++◌, length, if◌then◌else◌, ◌==◌, Option, Some, None, Result, Ok, Err}
+use Rattle.vh_base.specs.declared.faults.DesignFault.TheVariants.{N7}
+use Rattle.vh_base.specs.declared.place.Place.{Place}
 use Rattle.vh_nodes.specs.declared.object.ObjectInfo.{ObjectInfo}
 use Rattle.vh_code.specs.declared.code.Code.{Code}
-use Rattle.vh_code.specs.declared.statement.StmtKind.{StmtKind}
-use Rattle.vh_code.specs.declared.statement.StmtKind.TheVariants as a
+use Rattle.vh_code.specs.declared.operation.Operation.{Operation}
+use Rattle.vh_code.specs.declared.target.Delay.{Delay}
+use Rattle.vh_ast.specs.declared.instance.GateType.{GateType}
+use Rattle.vh_ast.specs.Expressions.{ExprTree}
+use Rattle.vh_ast.specs.Items.{GateTree}
+use Rattle.vh_ast.specs.Statements.{DelayTree, StmtTree}
 use Rattle.vh_scope.specs.Names.{Names}
-use Rattle.vh_bind.specs.declared.scope.Routine.{Routine}
-use Rattle.vh_bind.specs.Scopes.{Scope}
-use Rattle.vh_bind.specs.Steps.{Fault}
-use Rattle.vh_bind_stmt.specs.declared.surroundings.Argument.{Argument}
+use Rattle.vh_bind.specs.Constants.{with_number}
+use Rattle.vh_bind.specs.Scopes.{Scope, here}
+use Rattle.vh_bind.specs.Selects.{Outcome, with_ok, with_some}
+use Rattle.vh_bind.specs.Steps.{Nodes}
 use Rattle.vh_bind_stmt.specs.Calls.{Surroundings}
 use Rattle.vh_flow.specs.declared.code_kind.CodeKind.{CodeKind}
 use Rattle.vh_flow.specs.declared.code_kind.CodeKind.TheVariants as code_of
-use Rattle.vh_lower.specs.Making.{Added}
-use Rattle.vh_lower.specs.Processes.{initial_code}
+use Rattle.vh_lower.specs.Making.{Added, Making}
+use Rattle.vh_lower.specs.Processes.{initial_code, drive_code}
 use Rattle.vh_lower.specs.Statements.{lowered}
+use Rattle.vh_least.specs.Least.{Fault, least}
 use Rattle.vh_sites.specs.declared.site.CodeWord.{CodeWord}
 use Rattle.vh_sites.specs.declared.site.CodeWord.TheVariants as word
-use Rattle.vh_sites.specs.Sites as S
-use Rattle.vh_sites.specs.Sites.{Declared, SiteTree, Sites, VarType, variable, words, named_event, code, named_block, result, argument}
-use Rattle.vh_declare.specs.Least.{numbered}
-use Rattle.vh_declare.specs.Objects.{around_in, is_routine}
-use Rattle.vh_declare.specs.Constants.{Home}
+use Rattle.vh_sites.specs.Sites.{Driven, net_of, target_of}
+use Rattle.vh_declare.specs.Objects.{around_in}
+use Rattle.vh_declare.specs.Constants.{Genvars, genvars_in}
+use Rattle.vh_drives.specs.Nets.{Drivers, driver, drivers_sum, output_drivers, target_drivers, width_at}
+use Rattle.vh_drives.specs.Gates.{gate_code, gate_delay, has_terminals, input_of}
+use Rattle.vh_elab.specs.Routines.{Routines}
 
--- The arguments of the task or function with this number stand directly behind it, in its scope, and the result of a
--- function, which is the first. (10.2.1 and 10.4.1)
-abbrev pub argument_in : ℕ → Declared → List Argument
-argument_in n (variable t value) = []
-argument_in n (words t r) = []
-argument_in n named_event = []
-argument_in n (S.constant t e) = []
-argument_in n (code w s) = []
-argument_in n (named_block w) = []
-argument_in n (result t) = []
-argument_in n (argument d t) = record { variable = n; direction = d } ∷ []
-
-abbrev pub arguments_from : ℕ → ℕ → Sites → List Argument
-arguments_from scope n [] = []
-arguments_from scope n (s ∷ so) =
-    if s.scope == scope then argument_in n s.declared ++ arguments_from scope (n + 1) so else []
-
-abbrev pub is_function : CodeWord → Bool
-is_function word.Initial = false
-is_function word.Always = false
-is_function word.Task = false
-is_function word.Function = true
-
-abbrev pub result_number : CodeWord → ℕ → Option ℕ
-result_number w n = if is_function w then Some (n + 1) else None
-
-abbrev pub routine_of : CodeWord → ℕ → List Argument → Routine
-routine_of w n arguments = record { result = result_number w n; arguments = length arguments }
-
--- A function whose arguments aren't all inputs comes later.
-abbrev pub is_given_back : TaskDirection → Bool
-is_given_back goes.Input = false
-is_given_back goes.Output = true
-is_given_back goes.Inout = true
-
-abbrev pub gives_more : CodeWord → List Argument → Bool
-gives_more w arguments = is_function w && list_any (λ a. is_given_back a.direction) arguments
-
--- What is known of all tasks and functions, by the numbers of their bodies; and whether there is such a function.
-pub record Routines : Type 0 where
-  pub routines : List Routine
-  pub arguments : List (List Argument)
-  pub gives_back : Bool
-
-abbrev pub with_routine : CodeWord → ℕ → List Argument → Routines → Routines
-with_routine w n arguments rs = record {
-  routines = rs.routines ++ routine_of w n arguments ∷ [];
-  arguments = rs.arguments ++ arguments ∷ [];
-  gives_back = rs.gives_back || gives_more w arguments;
-}
-
-abbrev pub routine_declared : Sites → ℕ → Declared → Routines → Routines
-routine_declared so n (variable t value) rs = rs
-routine_declared so n (words t r) rs = rs
-routine_declared so n named_event rs = rs
-routine_declared so n (S.constant t e) rs = rs
-routine_declared so n (code w s) rs =
-    if is_routine w then with_routine w n (arguments_from n (n + 1) (drop n so)) rs else rs
-routine_declared so n (named_block w) rs = rs
-routine_declared so n (result t) rs = rs
-routine_declared so n (argument d t) rs = rs
-
-abbrev pub routine_site : Sites → ℕ → SiteTree → Routines → Routines
-routine_site so n s rs = routine_declared so n s.declared rs
-
-abbrev pub no_routines : Routines
-no_routines = record { routines = []; arguments = []; gives_back = false }
-
-abbrev pub routines_of : Sites → Routines
-routines_of so = numbered (routine_site so) 1 so no_routines
-
--- A module of which all constants are known: the second pass reads it, and changes nothing in it.
+-- The instances, of which all constants are known: the second pass reads this, and changes nothing in it. The precision is that of
+-- the simulation.
 pub record Ready : Type 0 where
-  pub home : Home
+  pub top_name : List ℕ
+  pub precision : ℕ
   pub names : Names
   pub objects : List ObjectInfo
+  pub values : Nodes
   pub routines : Routines
+  pub genvars : Genvars
 
--- Where a statement stands: parameters have their values in what is added to.
-abbrev pub scope_in : Ready → List ℕ → Scope
-scope_in r around = record {
+-- Where a statement stands, in a module of this time unit: parameters have their values in what is added to.
+abbrev pub scope_in : Ready → ℕ → List ℕ → Scope
+scope_in r unit around = record {
   names = r.names;
   around = around;
   top = 0;
-  top_name = r.home.name;
-  genvars = [];
+  top_name = r.top_name;
+  genvars = genvars_in r.genvars around;
   objects = r.objects;
   exprs = [];
   routines = r.routines.routines;
-  unit = r.home.unit;
-  precision = r.home.precision;
+  unit = unit;
+  precision = r.precision;
 }
 
-abbrev pub surroundings_in : Ready → List ℕ → Surroundings
-surroundings_in r around = record { scope = scope_in r around; arguments = r.routines.arguments }
+abbrev pub surroundings_at : Ready → ℕ → ℕ → Surroundings
+surroundings_at r unit scope =
+    record { scope = scope_in r unit (around_in r.objects scope); arguments = r.routines.arguments }
 
-abbrev pub surroundings_at : Ready → ℕ → Surroundings
-surroundings_at r scope = surroundings_in r (around_in r.objects scope)
-
--- The codes so far, of processes and of bodies, with what they have added to the design; or the first fault; or neither,
--- where something has no value.
+-- What is made so far, and the least fault so far: the codes of processes and of bodies, drivers, and what these have added to the
+-- design; and whether something was passed over.
 pub record Coding : Type 0 where
   pub added : Added
+  pub drivers : Drivers
   pub codes : List Code
   pub bodies : List Code
+  pub fault : Option Fault
+  pub passed : Bool
 
-abbrev pub Coded : Type 0
-Coded = Result Coding (Option Fault)
+abbrev pub with_fault : Fault → Coding → Coding
+with_fault fault c = record c { fault = least c.fault (Some fault) }
 
-abbrev pub coded_then : Coded → (Coding → Coded) → Coded
-coded_then (Ok c) f = f c
-coded_then (Err fault) f = Err fault
+-- What is made is put in. The fault of a construct is that which it has beside the values of parameters alone, whatever else is made:
+-- behind a fault nothing but these is left, since nobody will have the design.
+abbrev pub only_values : Ready → Added
+only_values r = record { exprs = r.values; waits = []; shows = []; stmts = [] }
 
--- The process of a first value: the calls that it makes, and one label that assigns it and ends the process. (6.2.1)
-abbrev pub with_code : Coding → Added → Code → Coding
-with_code c added made = record c { added = added; codes = c.codes ++ made ∷ [] }
+abbrev pub tried_by : {A : Type 0} → Ready → Coding → Result (A × Added) (Option Fault) → Option A × Coding
+tried_by r c (Ok x) = (Some x.0, record c { added = x.1 })
+tried_by r c (Err (Some fault)) =
+    (None, record c { added = only_values r; fault = least c.fault (Some fault) })
+tried_by r c (Err None) = (None, record c { added = only_values r; passed = true })
 
-abbrev pub with_body : Coding → Added → Code → Coding
-with_body c added made = record c { added = added; bodies = c.bodies ++ made ∷ [] }
+abbrev pub tried : {A : Type 0} → Ready → Making A → Coding → Option A × Coding
+tried r p c = tried_by r c (p c.added)
 
-abbrev pub added_by : {A : Type 0} → Result (A × Added) (Option Fault) → (Added → A → Coding) → Coded
-added_by (Ok r) f = Ok (f r.1 r.0)
-added_by (Err fault) f = Err fault
+-- The same of what only looks.
+abbrev pub looked_by : {A : Type 0} → Coding → Outcome (Option A) → Option A × Coding
+looked_by c (Ok (Some x)) = (Some x, c)
+looked_by c (Ok None) = (None, record c { passed = true })
+looked_by c (Err fault) = (None, record c { fault = least c.fault (Some fault) })
 
-abbrev pub value_coded : Surroundings → ℕ → ExprTree → Coding → Coded
-value_coded w n e c = added_by (initial_code w n e c.added) (λ added made. with_code c added made)
+-- A process more, and a body.
+abbrev pub with_code : Option Code × Coding → Coding
+with_code (None, c) = c
+with_code (Some made, c) = record c { codes = c.codes ++ made ∷ [] }
 
-abbrev pub first_value : Surroundings → ℕ → Option ExprTree → Coding → Coded
-first_value w n None c = Ok c
-first_value w n (Some e) c = value_coded w n e c
+abbrev pub with_body : Option Code × Coding → Coding
+with_body (None, c) = c
+with_body (Some made, c) = record c { bodies = c.bodies ++ made ∷ [] }
 
-abbrev pub value_declared : Surroundings → ℕ → Declared → Coding → Coded
-value_declared w n (variable t value) c = first_value w n value c
-value_declared w n (words t r) c = Ok c
-value_declared w n named_event c = Ok c
-value_declared w n (S.constant t e) c = Ok c
-value_declared w n (code x s) c = Ok c
-value_declared w n (named_block x) c = Ok c
-value_declared w n (result t) c = Ok c
-value_declared w n (argument d t) c = Ok c
+-- A first value, a construct, and a task or function, which has its own scope. (6.2.1, 9.9 and 10)
+abbrev pub value_coded : Ready → Surroundings → ℕ → ExprTree → Coding → Coding
+value_coded r w n e c = with_code (tried r (initial_code w n e) c)
 
-abbrev pub values_from : Ready → ℕ → Sites → Coding → Coded
-values_from r n [] c = Ok c
-values_from r n (s ∷ so) c =
-    coded_then (value_declared (surroundings_at r s.scope) n s.declared c) (λ d. values_from r (n + 1) so d)
+abbrev pub construct_coded : Ready → Surroundings → CodeKind → StmtTree → Coding → Coding
+construct_coded r w kind s c = with_code (tried r (lowered kind w s) c)
 
--- Constructs, tasks and functions: these have their own scope. (12.7)
-abbrev pub construct_coded : Surroundings → CodeKind → StmtTree → Coding → Coded
-construct_coded w kind s c = added_by (lowered kind w s c.added) (λ added made. with_code c added made)
+abbrev pub body_coded : Ready → Surroundings → StmtTree → Coding → Coding
+body_coded r w s c = with_body (tried r (lowered code_of.Body w s) c)
 
-abbrev pub body_coded : Surroundings → StmtTree → Coding → Coded
-body_coded w s c = added_by (lowered code_of.Body w s c.added) (λ added made. with_body c added made)
+abbrev pub statement_coded : Ready → Surroundings → CodeWord → StmtTree → Coding → Coding
+statement_coded r w word.Initial s c = construct_coded r w code_of.Initial s c
+statement_coded r w word.Always s c = construct_coded r w code_of.Always s c
+statement_coded r w word.Task s c = body_coded r w s c
+statement_coded r w word.Function s c = body_coded r w s c
 
-abbrev pub statement_coded : Ready → ℕ → ℕ → CodeWord → StmtTree → Coding → Coded
-statement_coded r n scope word.Initial s c = construct_coded (surroundings_at r scope) code_of.Initial s c
-statement_coded r n scope word.Always s c = construct_coded (surroundings_at r scope) code_of.Always s c
-statement_coded r n scope word.Task s c = body_coded (surroundings_at r n) s c
-statement_coded r n scope word.Function s c = body_coded (surroundings_at r n) s c
+-- Drivers more, and their numbers.
+abbrev pub numbers_from : ℕ → Drivers → List ℕ
+numbers_from n [] = []
+numbers_from n (d ∷ ds) = n ∷ numbers_from (n + 1) ds
 
-abbrev pub statement_declared : Ready → ℕ → ℕ → Declared → Coding → Coded
-statement_declared r n scope (variable t value) c = Ok c
-statement_declared r n scope (words t x) c = Ok c
-statement_declared r n scope named_event c = Ok c
-statement_declared r n scope (S.constant t e) c = Ok c
-statement_declared r n scope (code w s) c = statement_coded r n scope w s c
-statement_declared r n scope (named_block w) c = Ok c
-statement_declared r n scope (result t) c = Ok c
-statement_declared r n scope (argument d t) c = Ok c
+abbrev pub drivers_or_none : Option Drivers → Drivers
+drivers_or_none None = []
+drivers_or_none (Some ds) = ds
 
-abbrev pub statements_from : Ready → ℕ → Sites → Coding → Coded
-statements_from r n [] c = Ok c
-statements_from r n (s ∷ so) c =
-    coded_then (statement_declared r n s.scope s.declared c) (λ d. statements_from r (n + 1) so d)
+abbrev pub with_drivers : Option Drivers × Coding → List ℕ × Coding
+with_drivers (ds, c) =
+    (numbers_from (length c.drivers) (drivers_or_none ds), record c { drivers = c.drivers ++ drivers_or_none ds })
 
-abbrev pub values_coded : Ready → Sites → Coding → Coded
-values_coded r so c = values_from r 1 so c
+-- A continuous assignment: its target, and its value with its delay. (6.1)
+abbrev pub whole_driver : List ObjectInfo → ℕ → Drivers
+whole_driver os n = driver n 0 (width_at os n) ∷ []
 
-abbrev pub statements_coded : Ready → Sites → Coding → Coded
-statements_coded r so c = statements_from r 1 so c
+abbrev pub driven_by : Scope → Nodes → Driven → Outcome (Option Drivers)
+driven_by s ns (net_of n) = Ok (Some (whole_driver s.objects n))
+driven_by s ns (target_of lv) = target_drivers (here s ns) lv
 
--- Processes are numbered in the order of the source: those of first values among the constructs. (own)
-pub data Process : Type 0 where
-  of_value : Process
-  of_construct : Process
-  no_process : Process
+abbrev pub drive_coded : Ready → Surroundings → Option DelayTree → ExprTree → List ℕ × Coding → Coding
+drive_coded r w wait e (drivers, c) = with_code (tried r (drive_code w drivers wait e) c)
 
-abbrev pub value_process : Option ExprTree → Process
-value_process None = no_process
-value_process (Some e) = of_value
+abbrev pub assignment_coded : Ready → Surroundings → Option DelayTree → Driven → ExprTree → Coding → Coding
+assignment_coded r w wait x e c = drive_coded r w wait e (with_drivers (looked_by c (driven_by w.scope c.added.exprs x)))
 
-abbrev pub word_process : CodeWord → Process
-word_process word.Initial = of_construct
-word_process word.Always = of_construct
-word_process word.Task = no_process
-word_process word.Function = no_process
+-- A gate: its first terminal is its target, the others are its inputs. Each that isn't one digit wide is N7, and each is looked at by
+-- itself. (7.1)
+pub record Inputs : Type 0 where
+  pub numbers : Option (List ℕ)
+  pub calls : List Operation
 
-abbrev pub process_of : Declared → Process
-process_of (variable t value) = value_process value
-process_of (words t r) = no_process
-process_of named_event = no_process
-process_of (S.constant t e) = no_process
-process_of (code w s) = word_process w
-process_of (named_block w) = no_process
-process_of (result t) = no_process
-process_of (argument d t) = no_process
+abbrev pub one_input : Option (List ℕ) → Option (ℕ × List Operation) → Inputs
+one_input numbers None = record { numbers = None; calls = [] }
+one_input numbers (Some x) = record { numbers = with_number numbers (Some x.0); calls = x.1 }
 
-abbrev pub merged_by : Process → (List Code → List Code → List Code) → List Code → List Code → List Code
-merged_by no_process rest values constructs = rest values constructs
-merged_by of_value rest [] constructs = rest [] constructs
-merged_by of_value rest (v ∷ values) constructs = v ∷ rest values constructs
-merged_by of_construct rest values [] = rest values []
-merged_by of_construct rest values (c ∷ constructs) = c ∷ rest values constructs
+abbrev pub with_input : Inputs → Option (ℕ × List Operation) × Coding → Inputs × Coding
+with_input i (x, c) = (one_input i.numbers x, c)
 
-abbrev pub merged : Sites → List Code → List Code → List Code
-merged [] values constructs = []
-merged (s ∷ so) values constructs = merged_by (process_of s.declared) (merged so) values constructs
+abbrev pub inputs_coded : Ready → Surroundings → Place → List ExprTree → Inputs × Coding → Inputs × Coding
+inputs_coded r w place [] s = s
+inputs_coded r w place (e ∷ es) (i, c) =
+    inputs_coded r w place es (with_input i (tried r (input_of w place i.calls e) c))
 
--- Statements that come with nets.
-abbrev pub comes_with_nets : StmtKind → Bool
-comes_with_nets a.Force = true
-comes_with_nets a.Release = true
-comes_with_nets a.AssignStmt = true
-comes_with_nets a.Deassign = true
-comes_with_nets _ = false
+abbrev pub one_wide : Place → Drivers → Outcome (Option Drivers)
+one_wide place ds = if drivers_sum ds == 1 then Ok (Some ds) else Err (N7, place)
+
+abbrev pub output_one : Place → Outcome (Option Drivers) → Outcome (Option Drivers)
+output_one place outcome = with_ok outcome (λ o. with_some o (one_wide place))
+
+-- Its code, where none of its inputs has a fault.
+abbrev pub gate_made : Ready → Surroundings → Place → GateType → List ℕ → ℕ → Option Delay → Option (List ℕ) → List Operation
+    → Coding → Coding
+gate_made r w place g drivers from delay None calls c = c
+gate_made r w place g drivers from delay (Some []) calls c = c
+gate_made r w place g drivers from delay (Some (e ∷ es)) calls c =
+    with_code (tried r (gate_code w place g drivers from delay e es calls) c)
+
+abbrev pub gate_ended : Ready → Surroundings → Place → GateType → List ℕ → ℕ → Option Delay → Inputs × Coding → Coding
+gate_ended r w place g drivers from delay (i, c) = gate_made r w place g drivers from delay i.numbers i.calls c
+
+abbrev pub with_delay : Option (Option Delay × List Operation) × Coding → (Option Delay × List Operation) × Coding
+with_delay (None, c) = ((None, []), c)
+with_delay (Some d, c) = (d, c)
+
+abbrev pub gate_inputs : Ready → Surroundings → Place → GateType → List ExprTree → Option Delay × List Operation
+    → List ℕ × Coding → Coding
+gate_inputs r w place g inputs d (drivers, c) =
+    gate_ended r w place g drivers (length c.added.exprs) d.0
+    (inputs_coded r w place inputs (record { numbers = Some []; calls = d.1 }, c))
+
+abbrev pub delay_coded : Ready → Surroundings → Option DelayTree → Coding → (Option Delay × List Operation) × Coding
+delay_coded r w wait c = with_delay (tried r (gate_delay w [] wait) c)
+
+abbrev pub gate_driven : Ready → Surroundings → Place → GateType → ExprTree → List ExprTree
+    → (Option Delay × List Operation) × Coding → Coding
+gate_driven r w place g output inputs (d, c) =
+    gate_inputs r w place g inputs d
+    (with_drivers (looked_by c (output_one place (output_drivers (here w.scope c.added.exprs) output))))
+
+abbrev pub terminals_coded : Ready → Surroundings → Place → GateType → Option DelayTree → List ExprTree → Coding → Coding
+terminals_coded r w place g wait [] c = with_fault (N7, place) c
+terminals_coded r w place g wait (output ∷ inputs) c =
+    if has_terminals g (length (output ∷ inputs)) then
+    gate_driven r w place g output inputs (delay_coded r w wait c)
+    else with_fault (N7, place) c
+
+abbrev pub gate_coded : Ready → Surroundings → GateType → Option DelayTree → GateTree → Coding → Coding
+gate_coded r w g wait x c = terminals_coded r w x.place g wait x.terminals c

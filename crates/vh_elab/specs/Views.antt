@@ -1,46 +1,53 @@
 -- How contracts see what the code holds.
-use Rattle.std.specs.Prelude.{◌≡◌, Result, Ok, Err, Some, None}
-use Rattle.vh_bind.specs.Steps.{Fault}
-use Rattle.vh_lower.specs.Views.{added_seen}
-use Rattle.vh_elab.specs.declared.coding.Coding as codes
-use Rattle.vh_elab.specs.declared.routines.Routines as calls
-use Rattle.vh_declare.specs.Least.{lesser}
-use Rattle.vh_declare.specs.Views.{home_seen}
-use Rattle.vh_elab.specs.declared.design.Elaboration.{Elaboration}
-use Rattle.vh_elab.specs.declared.design.Elaboration.TheVariants as it
-use Rattle.vh_elab.specs.declared.merging.Process as part
-use Rattle.vh_elab.specs.declared.merging.Process.TheVariants as is
-use Rattle.vh_elab.specs.declared.second_pass.Ready as module_ready
-use Rattle.vh_elab.specs.Coded.{Coding, Coded, Process, Ready, Routines, of_value, of_construct, no_process}
-use Rattle.vh_elab.specs.Elaborated.{Elaborated, made, refused, later}
+use Rattle.std.specs.Prelude.{◌≡◌, ℕ, List, Vec, map, Option, Some, None, Result, Ok, Err}
+use Rattle.vh_bind.specs.Views.{numbers_of}
+use Rattle.vh_bind.specs.declared.fault.ElabFault.{ElabFault}
+use Rattle.vh_bind.specs.declared.fault.ElabFault.TheVariants as faults
 use Rattle.vh_lower.specs.declared.fault.LowerFault.{LowerFault}
 use Rattle.vh_lower.specs.declared.fault.LowerFault.TheVariants as low
+use Rattle.vh_logic.specs.Vector.{Vector}
+use Rattle.vh_lower.specs.Views.{added_seen}
+use Rattle.vh_code.specs.declared.code.Code.{Code}
+use Rattle.vh_code.specs.declared.operation.Operation.{Operation}
+use Rattle.vh_code.specs.declared.target.Delay.{Delay}
+use Rattle.vh_elab.specs.declared.coding.Coding as codes
+use Rattle.vh_elab.specs.declared.gates.Inputs as gates
+use Rattle.vh_elab.specs.declared.coding.Ready as instances
+use Rattle.vh_elab.specs.declared.connected.Outer as outer
+use Rattle.vh_ast.specs.Views.{expr_tree}
+use Rattle.vh_elab.specs.declared.routines.Routines as calls
+use Rattle.vh_elab.specs.declared.design.Elaboration.{Elaboration}
+use Rattle.vh_elab.specs.declared.design.Elaboration.TheVariants as it
+use Rattle.vh_elab.specs.Routines.{Routines}
+use Rattle.vh_elab.specs.Coded.{Coding, Inputs, Ready, looked_by, tried_by, with_drivers}
+use Rattle.vh_elab.specs.Connected.{Outer}
+use Rattle.vh_drives.specs.Nets.{Drivers}
+use Rattle.vh_elab.specs.Elaborated.{Elaborated, made, refused, later}
+use Rattle.vh_declare.specs.Constants.{literal_node}
 
 abbrev pub routines_seen : calls.Routines → Routines
 routines_seen r = record { routines = r.routines.items; arguments = r.arguments.items; gives_back = r.gives_back }
 
 abbrev pub coding_seen : codes.Coding → Coding
-coding_seen c = record { added = added_seen c.added; codes = c.codes.items; bodies = c.bodies.items }
-
-abbrev pub process_seen : part.Process → Process
-process_seen is.OfValue = of_value
-process_seen is.OfConstruct = of_construct
-process_seen is.NoProcess = no_process
-
-abbrev pub ready_seen : module_ready.Ready → Ready
-ready_seen r = record {
-  home = home_seen r.home;
-  names = r.names.now;
-  objects = r.objects.now;
-  routines = routines_seen r.routines.now;
+coding_seen c = record {
+  added = added_seen c.added;
+  drivers = c.drivers.items;
+  codes = c.codes.items;
+  bodies = c.bodies.items;
+  fault = c.fault;
+  passed = c.passed;
 }
 
--- It is what the second pass makes so far. (Want of memory is free.)
-abbrev pub CodesTo : Coded → Result (Unit {0}) LowerFault → Coding → Type 0
-CodesTo outcome (Ok done) c = outcome ≡ Ok c
-CodesTo outcome (Err (low.Refused f p)) c = outcome ≡ Err (Some (f, p))
-CodesTo outcome (Err low.PassedOver) c = outcome ≡ Err None
-CodesTo outcome (Err low.NoMemory) c = Unit {0}
+abbrev pub ready_seen : instances.Ready → Ready
+ready_seen r = record {
+  top_name = r.top_name.now;
+  precision = r.precision;
+  names = r.names.now;
+  objects = r.objects.now;
+  values = map literal_node r.values.now;
+  routines = routines_seen r.routines.now;
+  genvars = r.genvars.now;
+}
 
 -- It is what comes of a source. (Want of memory is free.)
 abbrev pub Elaborates : {E : Type 0} → Elaborated → Result Elaboration E → Type 0
@@ -49,17 +56,41 @@ Elaborates outcome (Ok (it.Refused f p)) = outcome ≡ refused (f, p)
 Elaborates outcome (Ok it.Later) = outcome ≡ later
 Elaborates outcome (Err memory) = Unit {0}
 
--- A fault in statements, as it is answered. (Want of memory is free.)
-abbrev pub RefusesBy : {E : Type 0} → LowerFault → Result Elaboration E → Type 0
-RefusesBy (low.Refused f p) result = Elaborates (refused (f, p)) result
-RefusesBy low.PassedOver result = Elaborates later result
-RefusesBy low.NoMemory (Ok e) = ⊥
-RefusesBy low.NoMemory (Err memory) = Unit {0}
+-- What comes of what was tried, beside what it has added.
+abbrev pub Tries : {A : Type 0} → Ready → Result A LowerFault → Coding → Option A → Coding → Type 0
+Tries r (Ok x) old found new = (found, new) ≡ tried_by r old (Ok (x, old.added))
+Tries r (Err (low.Refused f p)) old found new = (found, new) ≡ tried_by r old (Err (Some (f, p)))
+Tries r (Err low.PassedOver) old found new = (found, new) ≡ tried_by r old (Err None)
+Tries r (Err low.NoMemory) old found new = ⊥
 
--- The lesser of a fault and that of the statements, if they have one.
-abbrev pub LesserOf : {E : Type 0} → Fault → Result (Unit {0}) LowerFault → Result Elaboration E → Type 0
-LesserOf fault (Ok done) result = Elaborates (refused fault) result
-LesserOf fault (Err (low.Refused f p)) result = Elaborates (refused (lesser fault (f, p))) result
-LesserOf fault (Err low.PassedOver) result = Elaborates later result
-LesserOf fault (Err low.NoMemory) (Ok e) = ⊥
-LesserOf fault (Err low.NoMemory) (Err memory) = Unit {0}
+-- The same of what is put in.
+abbrev pub Puts : (Option Code × Coding → Coding) → Ready → Result Code LowerFault → Coding → Coding → Type 0
+Puts put r (Ok x) old new = new ≡ put (tried_by r old (Ok (x, old.added)))
+Puts put r (Err (low.Refused f p)) old new = new ≡ put (tried_by r old (Err (Some (f, p))))
+Puts put r (Err low.PassedOver) old new = new ≡ put (tried_by r old (Err None))
+Puts put r (Err low.NoMemory) old new = ⊥
+
+-- What comes of what was looked at, and of drivers.
+abbrev pub Looks : {A : Type 0} → Result (Option A) ElabFault → Coding → Option A → Coding → Type 0
+Looks (Ok x) old found new = (found, new) ≡ looked_by old (Ok x)
+Looks (Err (faults.Refused f p)) old found new = (found, new) ≡ looked_by old (Err (f, p))
+Looks (Err faults.NoMemory) old found new = ⊥
+
+abbrev pub DrivesBy : Result (Option Drivers) ElabFault → Coding → List ℕ → Coding → Type 0
+DrivesBy (Ok x) old numbers new = (numbers, new) ≡ with_drivers (looked_by old (Ok x))
+DrivesBy (Err (faults.Refused f p)) old numbers new = (numbers, new) ≡ with_drivers (looked_by old (Err (f, p)))
+DrivesBy (Err faults.NoMemory) old numbers new = ⊥
+
+abbrev pub inputs_seen : gates.Inputs → Inputs
+inputs_seen i = record { numbers = numbers_of i.numbers; calls = i.calls.items }
+
+abbrev pub delay_made : {A : Type 0} → Option Delay × Vec Operation A → Option Delay × List Operation
+delay_made d = (d.0, d.1.items)
+
+-- What is connected to a port.
+abbrev pub outer_seen : outer.Outer → Outer
+outer_seen o = record { place = o.place; expr = expr_tree o.expr.now }
+
+abbrev pub values_seen : {A : Type 0} → Option (Vec Vector A) → Option (List Vector)
+values_seen None = None
+values_seen (Some v) = Some v.items

@@ -1,107 +1,438 @@
-ghost use Rattle.std.specs.Prelude.{◌≡◌, ◌++◌, ◌∷◌, [], true, OnOk};
+ghost use Rattle.std.specs.Prelude.{◌≡◌, ◌++◌, ◌∷◌, [], length, true, None, Some, IfOk, OnOk};
+ghost use Rattle.std.specs.Option.{option_map};
 ghost use Rattle.vh_nodes.specs.Fits.{is_unit};
-ghost use Rattle.vh_ast.specs.Views.{expr_tree, stmt_tree};
+ghost use Rattle.vh_ast.specs.Views.{delay_tree, expr_tree, stmt_tree};
 ghost use Rattle.vh_bind.specs.declared.scope.Mode.TheVariants as mode;
 ghost use Rattle.vh_bind.specs.Nodes.{IsSound};
+ghost use Rattle.vh_bind.specs.Steps.{Gives};
+ghost use Rattle.vh_bind.specs.Views.{scope_seen};
 ghost use Rattle.vh_bind_stmt.specs.Views.{surroundings_seen};
+ghost use Rattle.vh_lower.specs.Views.{added_seen};
+ghost use Rattle.vh_sites.specs.Views.{driven_seen};
 ghost use Rattle.vh_elab.specs.Coded;
-ghost use Rattle.vh_elab.specs.Views.{coding_seen, CodesTo};
+ghost use Rattle.vh_elab.specs.Views.{DrivesBy, Looks, Puts, Tries, coding_seen, ready_seen};
 
+use crate::routines::Routines;
 use std::alloc::Global;
-use vh_ast::{Expr, Stmt};
-use vh_base::{NoMemory, ObjId};
+use vh_ast::{Delay, Expr, Stmt};
+use vh_base::{DesignFault, DriverId, NoMemory, ObjId, Place, Sequence};
+use vh_bind::{ElabFault, Scope};
 use vh_bind_stmt::Surroundings;
-use vh_code::Code;
+use vh_code::{Code, DriverIds};
+use vh_declare::Genvars;
+use vh_drives::{Drivers, object_width, target_drivers};
 use vh_flow::CodeKind;
-use vh_lower::{Added, LowerFault, initial_code, lower};
+use vh_least::{Fault, least};
+use vh_logic::Vec4;
+use vh_lower::{Added, LowerFault, drive_code, initial_code, lower};
+use vh_nodes::{DriverInfo, ExprKind, ExprNode, ObjectInfo};
+use vh_scope::Names;
+use vh_sites::Driven;
 
-/// The codes so far, of processes and of bodies, with what they have added to the design.
+/// The instances, of which all constants are known.
+#[derive(Clone, Copy)]
+pub(crate) struct Ready<'a> {
+    pub(crate) top_name: &'a [u8],
+    /// That of the simulation.
+    pub(crate) precision: u8,
+    pub(crate) names: &'a Names,
+    pub(crate) objects: &'a [ObjectInfo],
+    /// The values of parameters, at their numbers as expressions.
+    pub(crate) values: &'a [Vec4],
+    pub(crate) routines: &'a Routines,
+    pub(crate) genvars: &'a Genvars,
+}
+
+/// What is made so far, and the least fault so far.
 #[derive(Drop)]
 pub(crate) struct Coding {
     pub(crate) added: Added,
+    pub(crate) drivers: Vec<DriverInfo>,
     pub(crate) codes: Vec<Code>,
     pub(crate) bodies: Vec<Code>,
+    pub(crate) fault: Option<Fault>,
+    pub(crate) passed: bool,
 }
 
-// One code more.
-fn add_code(codes: &mut Vec<Code>, code: Code) -> Result<(), NoMemory>
-    ensures { OnOk result (codes.new.items ≡ codes.old.items ++ code ∷ []) }
+/// The values of parameters alone.
+pub(crate) fn only_values(alloc: Global, ready: Ready) -> Result<Added, NoMemory>
+    ensures { IfOk result (λ a. added_seen a ≡ Coded.only_values (ready_seen ready.entry)) }
 {
-    codes.push(code)?;
+    let mut exprs = Vec::new(alloc);
+    for value in ready.values {
+        exprs.push(ExprNode {
+            kind: ExprKind::Literal(*value),
+            width: value.width(),
+            signed: value.is_signed(),
+        })?;
+    }
+    Ok(Added {
+        exprs,
+        waits: Vec::new(alloc),
+        shows: Vec::new(alloc),
+        stmts: Vec::new(alloc),
+    })
+}
+
+/// One fault more.
+pub(crate) fn take_fault(fault: DesignFault, place: Place, coding: &mut Coding)
+    ensures { coding_seen coding.new
+        ≡ Coded.with_fault (fault, place) (coding_seen coding.old) }
+{
+    coding.fault = least(coding.fault, Some((fault, place)));
+}
+
+/// What was tried: behind a fault the values of parameters alone are left.
+pub(crate) fn tried<T>(
+    alloc: Global,
+    ready: Ready,
+    outcome: Result<T, LowerFault>,
+    coding: &mut Coding,
+) -> Result<Option<T>, NoMemory>
+    ensures { IfOk result (λ found. Tries (ready_seen ready.entry) outcome
+        (coding_seen coding.old) found (coding_seen coding.new)) }
+{
+    match outcome {
+        Ok(made) => Ok(Some(made)),
+        Err(LowerFault::NoMemory) => Err(NoMemory),
+        Err(LowerFault::Refused(fault, place)) => {
+            coding.added = only_values(alloc, ready)?;
+            take_fault(fault, place, coding);
+            Ok(None)
+        }
+        Err(LowerFault::PassedOver) => {
+            coding.added = only_values(alloc, ready)?;
+            coding.passed = true;
+            Ok(None)
+        }
+    }
+}
+
+// What was looked at.
+fn looked<T>(
+    outcome: Result<Option<T>, ElabFault>,
+    coding: &mut Coding,
+) -> Result<Option<T>, NoMemory>
+    ensures looked { IfOk result (λ found. Looks outcome (coding_seen coding.old) found
+        (coding_seen coding.new)) }
+    ensures added { (coding_seen coding.new).added ≡ (coding_seen coding.old).added }
+{
+    match outcome {
+        Ok(Some(found)) => Ok(Some(found)),
+        Ok(None) => {
+            coding.passed = true;
+            Ok(None)
+        }
+        Err(ElabFault::Refused(fault, place)) => {
+            take_fault(fault, place, coding);
+            Ok(None)
+        }
+        Err(ElabFault::NoMemory) => Err(NoMemory),
+    }
+}
+
+// A process more, if one was made.
+fn add_code(code: Option<Code>, coding: &mut Coding) -> Result<(), NoMemory>
+    ensures { OnOk result (coding_seen coding.new
+        ≡ Coded.with_code (code, coding_seen coding.old)) }
+{
+    if let Some(code) = code {
+        coding.codes.push(code)?;
+    }
     Ok(())
 }
 
-/// The code of a first value.
+// A body more, if one was made.
+fn add_body(code: Option<Code>, coding: &mut Coding) -> Result<(), NoMemory>
+    ensures { OnOk result (coding_seen coding.new
+        ≡ Coded.with_body (code, coding_seen coding.old)) }
+{
+    if let Some(code) = code {
+        coding.bodies.push(code)?;
+    }
+    Ok(())
+}
+
+/// A process that was tried.
+pub(crate) fn put_code(
+    alloc: Global,
+    ready: Ready,
+    outcome: Result<Code, LowerFault>,
+    coding: &mut Coding,
+) -> Result<(), NoMemory>
+    ensures { OnOk result (Puts Coded.with_code (ready_seen ready.entry) outcome
+        (coding_seen coding.old) (coding_seen coding.new)) }
+{
+    let code = tried(alloc, ready, outcome, coding)?;
+    add_code(code, coding)
+}
+
+// A body that was tried.
+fn put_body(
+    alloc: Global,
+    ready: Ready,
+    outcome: Result<Code, LowerFault>,
+    coding: &mut Coding,
+) -> Result<(), NoMemory>
+    ensures { OnOk result (Puts Coded.with_body (ready_seen ready.entry) outcome
+        (coding_seen coding.old) (coding_seen coding.new)) }
+{
+    let code = tried(alloc, ready, outcome, coding)?;
+    add_body(code, coding)
+}
+
+/// The process of a first value.
 pub(crate) fn code_value(
     alloc: Global,
+    ready: Ready,
     around: &Surroundings,
     number: u32,
     e: &Expr,
     coding: &mut Coding,
-) -> Result<(), LowerFault>
+) -> Result<(), NoMemory>
+    requires values { IsSound mode.Value (surroundings_seen around.now).scope
+        (ready_seen ready).values }
     requires sound { IsSound mode.Value (surroundings_seen around.now).scope
         (coding_seen coding.old).added.exprs }
     requires unit { is_unit (surroundings_seen around.now).scope.precision
         (surroundings_seen around.now).scope.unit ≡ true }
-    ensures coded { CodesTo
-        (Coded.value_coded (surroundings_seen around.now) number (expr_tree e.now)
-        (coding_seen coding.old))
-        result (coding_seen coding.new) }
-    ensures sound { OnOk result
-        (IsSound mode.Value (surroundings_seen around.now).scope
+    ensures coded { OnOk result (coding_seen coding.new
+        ≡ Coded.value_coded (ready_seen ready.entry) (surroundings_seen around.now) number
+        (expr_tree e.now) (coding_seen coding.old)) }
+    ensures sound { OnOk result (IsSound mode.Value (surroundings_seen around.now).scope
         (coding_seen coding.new).added.exprs) }
 {
     let object = ObjId::new(number);
-    let code = initial_code(alloc, around, &mut coding.added, object, e)?;
-    add_code(&mut coding.codes, code)?;
-    Ok(())
+    let outcome = initial_code(alloc, around, &mut coding.added, object, e);
+    put_code(alloc, ready, outcome, coding)
 }
 
-/// The code of an `initial` or `always` construct.
+/// An `initial` or `always` construct.
 pub(crate) fn code_construct(
     alloc: Global,
+    ready: Ready,
     around: &Surroundings,
     kind: CodeKind,
     stmt: &Stmt,
     coding: &mut Coding,
-) -> Result<(), LowerFault>
+) -> Result<(), NoMemory>
+    requires values { IsSound mode.Value (surroundings_seen around.now).scope
+        (ready_seen ready).values }
     requires sound { IsSound mode.Value (surroundings_seen around.now).scope
         (coding_seen coding.old).added.exprs }
     requires unit { is_unit (surroundings_seen around.now).scope.precision
         (surroundings_seen around.now).scope.unit ≡ true }
-    ensures coded { CodesTo
-        (Coded.construct_coded (surroundings_seen around.now) kind (stmt_tree stmt.now)
-        (coding_seen coding.old))
-        result (coding_seen coding.new) }
-    ensures sound { OnOk result
-        (IsSound mode.Value (surroundings_seen around.now).scope
+    ensures coded { OnOk result (coding_seen coding.new
+        ≡ Coded.construct_coded (ready_seen ready.entry) (surroundings_seen around.now) kind
+        (stmt_tree stmt.now) (coding_seen coding.old)) }
+    ensures sound { OnOk result (IsSound mode.Value (surroundings_seen around.now).scope
         (coding_seen coding.new).added.exprs) }
 {
-    let code = lower(alloc, around, &mut coding.added, kind, stmt)?;
-    add_code(&mut coding.codes, code)?;
-    Ok(())
+    let outcome = lower(alloc, around, &mut coding.added, kind, stmt);
+    put_code(alloc, ready, outcome, coding)
 }
 
 /// The body of a task or function.
 pub(crate) fn code_body(
     alloc: Global,
+    ready: Ready,
     around: &Surroundings,
     stmt: &Stmt,
     coding: &mut Coding,
-) -> Result<(), LowerFault>
+) -> Result<(), NoMemory>
+    requires values { IsSound mode.Value (surroundings_seen around.now).scope
+        (ready_seen ready).values }
     requires sound { IsSound mode.Value (surroundings_seen around.now).scope
         (coding_seen coding.old).added.exprs }
     requires unit { is_unit (surroundings_seen around.now).scope.precision
         (surroundings_seen around.now).scope.unit ≡ true }
-    ensures coded { CodesTo
-        (Coded.body_coded (surroundings_seen around.now) (stmt_tree stmt.now)
-        (coding_seen coding.old))
-        result (coding_seen coding.new) }
-    ensures sound { OnOk result
-        (IsSound mode.Value (surroundings_seen around.now).scope
+    ensures coded { OnOk result (coding_seen coding.new
+        ≡ Coded.body_coded (ready_seen ready.entry) (surroundings_seen around.now)
+        (stmt_tree stmt.now) (coding_seen coding.old)) }
+    ensures sound { OnOk result (IsSound mode.Value (surroundings_seen around.now).scope
         (coding_seen coding.new).added.exprs) }
 {
-    let code = lower(alloc, around, &mut coding.added, CodeKind::Body, stmt)?;
-    add_code(&mut coding.bodies, code)?;
-    Ok(())
+    let outcome = lower(alloc, around, &mut coding.added, CodeKind::Body, stmt);
+    put_body(alloc, ready, outcome, coding)
+}
+
+// A driver more; answers its number.
+fn add_driver(driver: DriverInfo, drivers: &mut Vec<DriverInfo>) -> Result<DriverId, NoMemory>
+    ensures number { IfOk result (λ n. n ≡ length drivers.old.items) }
+    ensures added { OnOk result (drivers.new.items ≡ drivers.old.items ++ driver ∷ []) }
+{
+    let Ok(number) = u32::try_from(drivers.len()) else {
+        return Err(NoMemory);
+    };
+    drivers.push(driver)?;
+    Ok(DriverId::new(number))
+}
+
+// Drivers in a row more; answers their numbers.
+fn add_row(
+    alloc: Global,
+    row: &[DriverInfo],
+    drivers: &mut Vec<DriverInfo>,
+) -> Result<Vec<DriverId>, NoMemory>
+    ensures numbers { IfOk result (λ v. v.items
+        ≡ Coded.numbers_from (length drivers.old.items) row.now) }
+    ensures added { OnOk result (drivers.new.items ≡ drivers.old.items ++ row.now) }
+{
+    let mut numbers = Vec::new(alloc);
+    for driver in row {
+        let number = add_driver(*driver, drivers)?;
+        numbers.push(number)?;
+    }
+    Ok(numbers)
+}
+
+// Drivers more, if some were made; answers their numbers.
+fn add_drivers(
+    alloc: Global,
+    drivers: Option<Drivers>,
+    coding: &mut Coding,
+) -> Result<DriverIds, NoMemory>
+    ensures numbers { IfOk result (λ numbers. (numbers, coding_seen coding.new)
+        ≡ Coded.with_drivers (drivers, coding_seen coding.old)) }
+    ensures added { (coding_seen coding.new).added ≡ (coding_seen coding.old).added }
+{
+    match drivers {
+        None => Ok(Sequence::new(Vec::new(alloc))),
+        Some(row) => {
+            let numbers = add_row(alloc, row.as_slice(), &mut coding.drivers)?;
+            Ok(Sequence::new(numbers))
+        }
+    }
+}
+
+/// Drivers that were looked at; answers their numbers.
+pub(crate) fn put_drivers(
+    alloc: Global,
+    outcome: Result<Option<Drivers>, ElabFault>,
+    coding: &mut Coding,
+) -> Result<DriverIds, NoMemory>
+    ensures numbers { IfOk result (λ numbers. DrivesBy outcome (coding_seen coding.old) numbers
+        (coding_seen coding.new)) }
+    ensures added { OnOk result
+        ((coding_seen coding.new).added ≡ (coding_seen coding.old).added) }
+{
+    let drivers = looked(outcome, coding)?;
+    add_drivers(alloc, drivers, coding)
+}
+
+// A driver of a whole net.
+fn whole_driver(alloc: Global, objects: &[ObjectInfo], object: ObjId) -> Result<Drivers, NoMemory>
+    ensures { IfOk result (λ ds. ds ≡ Coded.whole_driver objects.now object) }
+{
+    let mut drivers = Vec::new(alloc);
+    drivers.push(DriverInfo {
+        object,
+        low: 0,
+        width: object_width(objects, object),
+    })?;
+    Ok(Sequence::new(drivers))
+}
+
+// What a continuous assignment drives.
+fn driven(
+    alloc: Global,
+    scope: &Scope,
+    nodes: &[ExprNode],
+    driven: Driven,
+) -> Result<Option<Drivers>, ElabFault>
+    ensures { Gives (Coded.driven_by (scope_seen scope.now) nodes.now (driven_seen driven.entry))
+        result }
+{
+    match driven {
+        Driven::Net(number) => {
+            let object = ObjId::new(number);
+            Ok(Some(whole_driver(alloc, scope.objects, object)?))
+        }
+        Driven::Target(lv) => target_drivers(alloc, scope, nodes, lv),
+    }
+}
+
+// The value of a continuous assignment.
+fn code_drive(
+    alloc: Global,
+    ready: Ready,
+    around: &Surroundings,
+    numbers: DriverIds,
+    delay: &Option<Delay>,
+    e: &Expr,
+    coding: &mut Coding,
+) -> Result<(), NoMemory>
+    requires values { IsSound mode.Value (surroundings_seen around.now).scope
+        (ready_seen ready).values }
+    requires sound { IsSound mode.Value (surroundings_seen around.now).scope
+        (coding_seen coding.old).added.exprs }
+    requires unit { is_unit (surroundings_seen around.now).scope.precision
+        (surroundings_seen around.now).scope.unit ≡ true }
+    ensures coded { OnOk result (coding_seen coding.new
+        ≡ Coded.drive_coded (ready_seen ready.entry) (surroundings_seen around.now)
+        (option_map delay_tree delay.now) (expr_tree e.now)
+        (numbers, coding_seen coding.old)) }
+    ensures sound { OnOk result (IsSound mode.Value (surroundings_seen around.now).scope
+        (coding_seen coding.new).added.exprs) }
+{
+    let outcome = drive_code(alloc, around, &mut coding.added, numbers, delay, e);
+    put_code(alloc, ready, outcome, coding)
+}
+
+/// A continuous assignment.
+pub(crate) fn code_assignment(
+    alloc: Global,
+    ready: Ready,
+    around: &Surroundings,
+    delay: &Option<Delay>,
+    target: Driven,
+    e: &Expr,
+    coding: &mut Coding,
+) -> Result<(), NoMemory>
+    requires values { IsSound mode.Value (surroundings_seen around.now).scope
+        (ready_seen ready).values }
+    requires sound { IsSound mode.Value (surroundings_seen around.now).scope
+        (coding_seen coding.old).added.exprs }
+    requires unit { is_unit (surroundings_seen around.now).scope.precision
+        (surroundings_seen around.now).scope.unit ≡ true }
+    ensures coded { OnOk result (coding_seen coding.new
+        ≡ Coded.assignment_coded (ready_seen ready.entry) (surroundings_seen around.now)
+        (option_map delay_tree delay.now) (driven_seen target.entry) (expr_tree e.now)
+        (coding_seen coding.old)) }
+    ensures sound { OnOk result (IsSound mode.Value (surroundings_seen around.now).scope
+        (coding_seen coding.new).added.exprs) }
+{
+    let outcome = driven(alloc, around.scope, &coding.added.exprs, target);
+    let numbers = put_drivers(alloc, outcome, coding)?;
+    code_drive(alloc, ready, around, numbers, delay, e, coding)
+}
+
+/// A net or variable that an input drives: its driver, and the value that it takes.
+pub(crate) fn code_input_value(
+    alloc: Global,
+    ready: Ready,
+    around: &Surroundings,
+    inner: ObjId,
+    e: &Expr,
+    coding: &mut Coding,
+) -> Result<(), NoMemory>
+    requires values { IsSound mode.Value (surroundings_seen around.now).scope
+        (ready_seen ready).values }
+    requires sound { IsSound mode.Value (surroundings_seen around.now).scope
+        (coding_seen coding.old).added.exprs }
+    requires unit { is_unit (surroundings_seen around.now).scope.precision
+        (surroundings_seen around.now).scope.unit ≡ true }
+    ensures coded { OnOk result (coding_seen coding.new
+        ≡ Coded.drive_coded (ready_seen ready.entry) (surroundings_seen around.now) None
+        (expr_tree e.now) (Coded.with_drivers (
+          Some (Coded.whole_driver
+              (ready_seen ready.entry).objects inner),
+          coding_seen coding.old,
+        ))) }
+    ensures sound { OnOk result (IsSound mode.Value (surroundings_seen around.now).scope
+        (coding_seen coding.new).added.exprs) }
+{
+    let drivers = whole_driver(alloc, ready.objects, inner)?;
+    let numbers = add_drivers(alloc, Some(drivers), coding)?;
+    code_drive(alloc, ready, around, numbers, &None, e, coding)
 }

@@ -1,33 +1,30 @@
-ghost use Rattle.std.specs.Prelude.{◌≡◌, ◌<◌, ◌^◌, ◌↔◌, true, length, IsTrue};
-ghost use Rattle.std.specs.List.{list_any};
-ghost use Rattle.vh_nodes.specs.Fits.{is_unit};
+ghost use Rattle.std.specs.Prelude.{◌≡◌, ◌<◌, ◌^◌, ◌↔◌, [], true, length, map, slice_get, IfOk, IsTrue, OnOk};
+ghost use Rattle.std.specs.Option.{option_map};
 ghost use Rattle.vh_ast.specs.Views.{module_tree, source_tree};
 ghost use Rattle.vh_bind.specs.Nodes.{AreSound};
 ghost use Rattle.vh_design.specs.Handed;
 ghost use Rattle.vh_design.specs.Validity.{IsCounted};
-ghost use Rattle.vh_sites.specs.Sites;
-ghost use Rattle.vh_sites.specs.Views.{sites_seen};
-ghost use Rattle.vh_elab.specs.Coded;
+ghost use Rattle.vh_walk.specs.Order;
+ghost use Rattle.vh_walk.specs.Views.{IsSource, placed_seen, source_seen, walk_seen, walked_seen};
 ghost use Rattle.vh_elab.specs.Elaborated;
 ghost use Rattle.vh_elab.specs.Fitting;
-ghost use Rattle.vh_declare.specs.FirstPass;
-ghost use Rattle.vh_declare.specs.Views.{home_seen, known_seen};
-ghost use Rattle.vh_elab.specs.Views.{coding_seen, ready_seen, routines_seen, Elaborates, LesserOf, RefusesBy};
+ghost use Rattle.vh_elab.specs.Views.{Elaborates, coding_seen, ready_seen, values_seen};
 
-use crate::coding::Coding;
-use crate::merging::merged;
-use crate::routines::{Routines, routines_of};
-use crate::second_pass::{Ready, code_statements, code_values};
+use crate::coding::{Coding, Ready, only_values};
+use crate::routines::routines_of;
+use crate::second_pass::code_sites;
 use std::alloc::Global;
 use vh_ast::{Module, Source};
 use vh_base::{DesignFault, NoMemory, Place};
 use vh_bind::MOST_EXPRS;
-use vh_code::{Code, StmtInfo, StmtKind};
-use vh_declare::{Checked, Fault, Home, Known, first_pass, lesser};
+use vh_declare::Known;
 use vh_design::{Design, Parts};
-use vh_lower::{Added, LowerFault};
-use vh_nodes::{ExprNode, ObjectInfo, fits_node, is_unit};
-use vh_sites::{Site, module_sites};
+use vh_index::Index;
+use vh_logic::Vec4;
+use vh_modules::{named, top_of};
+use vh_nodes::{ExprKind, ExprNode, ObjectInfo, fits_node, is_unit};
+use vh_ports::{Ports, ports_of};
+use vh_walk::{Modules, Placed, Walk, Walked, instances_of};
 
 /// What comes of a source.
 #[derive(Drop)]
@@ -49,53 +46,6 @@ fn exprs_fit(exprs: &[ExprNode], objects: &[ObjectInfo], precision: u8) -> bool
         }
     }
     true
-}
-
-// Whether a statement comes with nets.
-fn comes_with_nets(kind: StmtKind) -> bool
-    ensures { result ≡ Coded.comes_with_nets kind }
-{
-    match kind {
-        StmtKind::Force | StmtKind::Release | StmtKind::AssignStmt | StmtKind::Deassign => true,
-        StmtKind::Assignment
-        | StmtKind::DelayControl
-        | StmtKind::EventControl
-        | StmtKind::Wait
-        | StmtKind::If
-        | StmtKind::IfElse
-        | StmtKind::Case
-        | StmtKind::For
-        | StmtKind::While
-        | StmtKind::Repeat
-        | StmtKind::Forever
-        | StmtKind::Fork
-        | StmtKind::TaskCall
-        | StmtKind::SysTaskCall
-        | StmtKind::EventStmt
-        | StmtKind::Disable => false,
-    }
-}
-
-fn any_with_nets(stmts: &[StmtInfo]) -> bool
-    ensures { result ≡ list_any (λ s. Coded.comes_with_nets s.kind) stmts.now }
-{
-    stmts.iter().any(|s| comes_with_nets(s.kind))
-}
-
-// No codes yet.
-fn no_codes(alloc: Global, exprs: Vec<ExprNode>) -> Coding
-    ensures { coding_seen result ≡ Elaborated.no_codes exprs.items }
-{
-    Coding {
-        added: Added {
-            exprs,
-            waits: Vec::new(alloc),
-            shows: Vec::new(alloc),
-            stmts: Vec::new(alloc),
-        },
-        codes: Vec::new(alloc),
-        bodies: Vec::new(alloc),
-    }
 }
 
 // May so many elements have numbers?
@@ -131,146 +81,6 @@ fn designed(parts: Parts) -> Result<Elaboration, NoMemory>
     }
 }
 
-// The design of all that was made.
-fn finished(
-    alloc: Global,
-    sites: &[Site],
-    objects: Vec<ObjectInfo>,
-    precision: u8,
-    values: Vec<Code>,
-    coding: Coding,
-) -> Result<Elaboration, NoMemory>
-    ensures { Elaborates
-        (Elaborated.finished objects.items precision (sites_seen sites.now) values.items
-        (coding_seen coding)) result }
-{
-    if any_with_nets(&coding.added.stmts) {
-        return Ok(Elaboration::Later);
-    }
-    let Coding {
-        added,
-        codes,
-        bodies,
-    } = coding;
-    designed(Parts {
-        objects,
-        exprs: added.exprs,
-        drivers: Vec::new(alloc),
-        codes: merged(alloc, sites, values, codes)?,
-        bodies,
-        waits: added.waits,
-        shows: added.shows,
-        stmts: added.stmts,
-        precision,
-    })
-}
-
-// What comes of a fault in statements.
-fn refusal(fault: LowerFault) -> Result<Elaboration, NoMemory>
-    ensures { RefusesBy fault result }
-{
-    match fault {
-        LowerFault::Refused(fault, place) => Ok(Elaboration::Refused(fault, place)),
-        LowerFault::PassedOver => Ok(Elaboration::Later),
-        LowerFault::NoMemory => Err(NoMemory),
-    }
-}
-
-// Where a first value has a fault, the statements may have a lesser one.
-fn or_lesser(fault: Fault, statements: Result<(), LowerFault>) -> Result<Elaboration, NoMemory>
-    ensures { LesserOf fault statements result }
-{
-    match statements {
-        Ok(()) => Ok(Elaboration::Refused(fault.0, fault.1)),
-        Err(LowerFault::Refused(g, q)) => {
-            let (fault, place) = lesser(fault, (g, q));
-            Ok(Elaboration::Refused(fault, place))
-        }
-        Err(LowerFault::PassedOver) => Ok(Elaboration::Later),
-        Err(LowerFault::NoMemory) => Err(NoMemory),
-    }
-}
-
-// The statements alone, of a module whose first values have a fault: all constants are worked out once
-// more, since the expressions so far aren't used behind a fault.
-fn statements_alone(
-    alloc: Global,
-    home: Home,
-    module: &Module,
-    sites: &[Site],
-    routines: &Routines,
-    fault: Fault,
-) -> Result<Elaboration, NoMemory>
-    requires home { home_seen home ≡ FirstPass.home_of (module_tree module.now) }
-    requires unit { is_unit home.precision home.unit ≡ true }
-    requires sound { let known = (FirstPass.checked (module_tree module.now)
-        (sites_seen sites.now)).known in
-        AreSound known.objects home.precision known.exprs }
-    ensures { let known = (FirstPass.checked (module_tree module.now)
-        (sites_seen sites.now)).known in
-        let ready = Elaborated.ready_of (home_seen home.entry) known (routines_seen routines.now) in
-        Elaborates (Elaborated.or_lesser fault (Coded.statements_coded ready (sites_seen sites.now) (Elaborated.no_codes known.exprs))) result }
-{
-    let Known {
-        names,
-        objects,
-        exprs,
-    } = first_pass(alloc, home, module, sites)?.known;
-    let mut coding = no_codes(alloc, exprs);
-    let ready = Ready {
-        home,
-        names: &names,
-        objects: &objects,
-        routines,
-    };
-    or_lesser(fault, code_statements(alloc, ready, sites, &mut coding))
-}
-
-// The second pass.
-fn second_pass(
-    alloc: Global,
-    home: Home,
-    module: &Module,
-    sites: &[Site],
-    known: Known,
-    routines: &Routines,
-) -> Result<Elaboration, NoMemory>
-    requires home { home_seen home ≡ FirstPass.home_of (module_tree module.now) }
-    requires known { known_seen known
-        ≡ (FirstPass.checked (module_tree module.now) (sites_seen sites.now)).known }
-    requires unit { is_unit home.precision home.unit ≡ true }
-    requires sound { AreSound (known_seen known).objects home.precision (known_seen known).exprs }
-    ensures { let ready = Elaborated.ready_of (home_seen home.entry) (known_seen known)
-        (routines_seen routines.now) in
-        Elaborates (Elaborated.second_pass ready (known_seen known).exprs (sites_seen sites.now)) result }
-{
-    let Known {
-        names,
-        objects,
-        exprs,
-    } = known;
-    let mut coding = no_codes(alloc, exprs);
-    let ready = Ready {
-        home,
-        names: &names,
-        objects: &objects,
-        routines,
-    };
-    match code_values(alloc, ready, sites, &mut coding) {
-        Ok(()) => {}
-        Err(LowerFault::Refused(f, p)) => {
-            return statements_alone(alloc, home, module, sites, routines, (f, p));
-        }
-        Err(other) => return refusal(other),
-    }
-    let values = coding.codes;
-    coding.codes = Vec::new(alloc);
-    match code_statements(alloc, ready, sites, &mut coding) {
-        Ok(()) => finished(alloc, sites, objects, home.precision, values, coding),
-        Err(fault) => refusal(fault),
-    }
-}
-
 // Whether the values of parameters are sound as expressions.
 #[tactic(auto, using(crate::proofs::FittingLemmas::sound_of))]
 fn are_sound(exprs: &[ExprNode], objects: &[ObjectInfo], precision: u8) -> bool
@@ -283,93 +93,281 @@ fn are_sound(exprs: &[ExprNode], objects: &[ObjectInfo], precision: u8) -> bool
     exprs_fit(exprs, objects, precision)
 }
 
-// Whether the second pass can take a module.
-fn is_taken(home: Home, known: &Known, routines: &Routines) -> bool
-    ensures value { result ≡ Elaborated.is_taken
-        (Elaborated.ready_of (home_seen home.entry) (known_seen known.now)
-        (routines_seen routines.now))
-        (known_seen known.now).exprs }
-    ensures unit { result ≡ true → is_unit home.entry.precision home.entry.unit ≡ true }
-    ensures sound { result ≡ true
-        → AreSound (known_seen known.now).objects home.entry.precision (known_seen known.now).exprs }
+// The greatest precision.
+const MOST_PRECISION: u8 = 17;
+
+fn lesser(a: u8, b: u8) -> u8
+    ensures { result ≡ Order.lesser_precision a b }
 {
-    if routines.gives_back || !is_unit(home.precision, home.unit) {
-        return false;
-    }
-    are_sound(&known.exprs, &known.objects, home.precision)
+    if b < a { b } else { a }
 }
 
-// A module without a fault in the first pass.
-fn passed_first(
+// The least precision of instances.
+fn least_precision(all: &[Placed]) -> u8
+    ensures { result ≡ Order.least_precision MOST_PRECISION (map placed_seen all.now) }
+{
+    let mut precision = MOST_PRECISION;
+    for placed in all {
+        precision = lesser(precision, placed.precision);
+    }
+    precision
+}
+
+fn value_in(kind: &ExprKind) -> Option<Vec4>
+    ensures { result ≡ Elaborated.value_in kind.now }
+{
+    match kind {
+        ExprKind::Literal(value) => Some(*value),
+        _ => None,
+    }
+}
+
+// The values of parameters, if all are some.
+fn values_of(alloc: Global, exprs: &[ExprNode]) -> Result<Option<Vec<Vec4>>, NoMemory>
+    ensures { IfOk result (λ o. values_seen o ≡ Elaborated.values_from [] exprs.now) }
+{
+    let mut values = Vec::new(alloc);
+    for node in exprs {
+        let Some(value) = value_in(&node.kind) else {
+            return Ok(None);
+        };
+        values.push(value)?;
+    }
+    Ok(Some(values))
+}
+
+fn has_ended(coding: &Coding) -> bool
+    ensures { result ≡ Elaborated.has_ended (coding_seen coding.now) }
+{
+    coding.fault.is_some() || coding.passed
+}
+
+// The second pass over an instance.
+fn code_instance(
     alloc: Global,
-    home: Home,
-    module: &Module,
-    sites: &[Site],
-    known: Known,
-) -> Result<Elaboration, NoMemory>
-    requires home { home_seen home ≡ FirstPass.home_of (module_tree module.now) }
-    requires known { known_seen known
-        ≡ (FirstPass.checked (module_tree module.now) (sites_seen sites.now)).known }
-    ensures { Elaborates (Elaborated.passed_first (home_seen home.entry) (known_seen known)
-        (sites_seen sites.now)) result }
+    modules: Modules,
+    ready: Ready,
+    placed: &Placed,
+    coding: &mut Coding,
+) -> Result<(), NoMemory>
+    requires source { IsSource modules }
+    requires values { AreSound (ready_seen ready).objects (ready_seen ready).precision
+        (ready_seen ready).values }
+    requires sound { AreSound (ready_seen ready).objects (ready_seen ready).precision
+        (coding_seen coding.old).added.exprs }
+    ensures coded { OnOk result (coding_seen coding.new
+        ≡ Elaborated.instance_made (source_seen modules.entry) (ready_seen ready.entry)
+        (placed_seen placed.now) (coding_seen coding.old)) }
+    ensures sound { OnOk result (AreSound (ready_seen ready.entry).objects
+        (ready_seen ready.entry).precision (coding_seen coding.new).added.exprs) }
 {
-    let routines = routines_of(alloc, sites)?;
-    if !is_taken(home, &known, &routines) {
-        return Ok(Elaboration::Later);
+    if !is_unit(ready.precision, placed.unit) {
+        coding.passed = true;
+        return Ok(());
     }
-    second_pass(alloc, home, module, sites, known, &routines)
+    code_sites(alloc, modules, ready, placed.unit, &placed.sites, coding)
 }
 
-// A module, by what it declares.
-fn sites_elaborated(alloc: Global, module: &Module, sites: &[Site]) -> Result<Elaboration, NoMemory>
-    ensures { Elaborates (Elaborated.sites_elaborated (module_tree module.now)
-        (sites_seen sites.now)) result }
+// The second pass, up to the first instance that has a fault.
+fn code_instances(
+    alloc: Global,
+    modules: Modules,
+    ready: Ready,
+    all: &[Placed],
+    coding: &mut Coding,
+) -> Result<(), NoMemory>
+    requires source { IsSource modules }
+    requires values { AreSound (ready_seen ready).objects (ready_seen ready).precision
+        (ready_seen ready).values }
+    requires sound { AreSound (ready_seen ready).objects (ready_seen ready).precision
+        (coding_seen coding.old).added.exprs }
+    ensures coded { OnOk result (coding_seen coding.new
+        ≡ Elaborated.instances_made (source_seen modules.entry) (ready_seen ready.entry)
+        (map placed_seen all.now) (coding_seen coding.old)) }
 {
-    let home = Home {
-        name: module.id.name.as_slice(),
-        unit: module.setting.unit,
-        precision: module.setting.precision,
+    for placed in all {
+        if has_ended(coding) {
+            return Ok(());
+        }
+        code_instance(alloc, modules, ready, placed, coding)?;
+    }
+    Ok(())
+}
+
+// All that is made over these values, where they are sound.
+fn made_over(
+    alloc: Global,
+    modules: Modules,
+    ready: Ready,
+    all: &[Placed],
+) -> Result<Option<Coding>, NoMemory>
+    requires source { IsSource modules }
+    ensures { IfOk result (λ o. option_map coding_seen o
+        ≡ Elaborated.made_over (source_seen modules.entry) (ready_seen ready.entry)
+        (map placed_seen all.now)) }
+{
+    let added = only_values(alloc, ready)?;
+    if ready.routines.gives_back || !are_sound(&added.exprs, ready.objects, ready.precision) {
+        return Ok(None);
+    }
+    let mut coding = Coding {
+        added,
+        drivers: Vec::new(alloc),
+        codes: Vec::new(alloc),
+        bodies: Vec::new(alloc),
+        fault: None,
+        passed: false,
     };
-    let Checked {
-        known,
+    code_instances(alloc, modules, ready, all, &mut coding)?;
+    Ok(Some(coding))
+}
+
+// What comes of it.
+fn finished(
+    objects: Vec<ObjectInfo>,
+    precision: u8,
+    coding: Coding,
+) -> Result<Elaboration, NoMemory>
+    ensures { Elaborates (Elaborated.finished objects.items precision (coding_seen coding)) result }
+{
+    let Coding {
+        added,
+        drivers,
+        codes,
+        bodies,
         fault,
         passed,
-        ..
-    } = first_pass(alloc, home, module, sites)?;
+    } = coding;
     if let Some((fault, place)) = fault {
         return Ok(Elaboration::Refused(fault, place));
     }
     if passed {
         return Ok(Elaboration::Later);
     }
-    passed_first(alloc, home, module, sites, known)
+    designed(Parts {
+        objects,
+        exprs: added.exprs,
+        drivers,
+        codes,
+        bodies,
+        waits: added.waits,
+        shows: added.shows,
+        stmts: added.stmts,
+        precision,
+    })
 }
 
-// A module.
-fn module_elaborated(alloc: Global, module: &Module) -> Result<Elaboration, NoMemory>
-    ensures { Elaborates (Elaborated.module_elaborated (module_tree module.now)
-        (Sites.module_sites (module_tree module.now))) result }
+fn finished_or_later(
+    objects: Vec<ObjectInfo>,
+    precision: u8,
+    coding: Option<Coding>,
+) -> Result<Elaboration, NoMemory>
+    ensures { Elaborates (Elaborated.finished_or_later objects.items precision
+        (option_map coding_seen coding)) result }
 {
-    match module_sites(alloc, module)? {
+    match coding {
         None => Ok(Elaboration::Later),
-        Some(sites) => sites_elaborated(alloc, module, &sites),
+        Some(coding) => finished(objects, precision, coding),
     }
 }
 
-/// The design of a source, or its least fault (IEEE 1364-2005, clause 12).
-pub fn elaborate(alloc: Global, source: &Source) -> Result<Elaboration, NoMemory>
-    ensures { Elaborates (Elaborated.elaborated (source_tree source.now)) result }
+// The second pass.
+fn second_pass(
+    alloc: Global,
+    modules: Modules,
+    top_name: &[u8],
+    walked: Walk,
+) -> Result<Elaboration, NoMemory>
+    requires source { IsSource modules }
+    ensures { Elaborates (Elaborated.second_pass (source_seen modules.entry) top_name.now
+        (walk_seen walked.entry)) result }
 {
-    match source.modules.as_slice() {
-        [] => Ok(Elaboration::Refused(
-            DesignFault::N9,
-            Place {
-                file: 1,
-                line: 1,
-                column: 1,
-            },
-        )),
-        [module] => module_elaborated(alloc, module),
-        [_, _, ..] => Ok(Elaboration::Later),
+    let Walk { placed, known, .. } = walked;
+    let Known {
+        names,
+        objects,
+        exprs,
+        genvars,
+        ..
+    } = known;
+    let Some(values) = values_of(alloc, &exprs)? else {
+        return Ok(Elaboration::Later);
+    };
+    let precision = least_precision(&placed);
+    let routines = routines_of(alloc, &placed)?;
+    let ready = Ready {
+        top_name,
+        precision,
+        names: &names,
+        objects: &objects,
+        values: &values,
+        routines: &routines,
+        genvars: &genvars,
+    };
+    let coding = made_over(alloc, modules, ready, &placed)?;
+    finished_or_later(objects, precision, coding)
+}
+
+// The ports of all modules.
+fn all_ports(alloc: Global, modules: &[Module]) -> Result<Vec<Ports<'_>>, NoMemory>
+    ensures { IfOk result (λ v. v.items ≡ modules.now) }
+{
+    let mut ports = Vec::new(alloc);
+    for module in modules {
+        ports.push(ports_of(alloc, module)?)?;
+    }
+    Ok(ports)
+}
+
+// What comes of a walk.
+fn after_walk(
+    alloc: Global,
+    modules: Modules,
+    top_name: &[u8],
+    walked: Walked,
+) -> Result<Elaboration, NoMemory>
+    requires source { IsSource modules }
+    ensures { Elaborates (Elaborated.after_walk (source_seen modules.entry) top_name.now
+        (walked_seen walked.entry)) result }
+{
+    match walked {
+        Walked::Later => Ok(Elaboration::Later),
+        Walked::Refused((fault, place)) => Ok(Elaboration::Refused(fault, place)),
+        Walked::Walked(walked) => second_pass(alloc, modules, top_name, walked),
+    }
+}
+
+// The design below a top.
+fn below<'a>(
+    alloc: Global,
+    all: &'a [Module],
+    index: &Index<'a>,
+    top: u32,
+) -> Result<Elaboration, NoMemory>
+    requires { index.now ≡ map (λ m. m.id.name) (map module_tree all.now) }
+    ensures { Elaborates (Elaborated.from_top (map module_tree all.now)
+        (slice_get (map module_tree all.now) top)) result }
+{
+    let ports = all_ports(alloc, all)?;
+    let Some(top) = ports.get(top as usize) else {
+        return Ok(Elaboration::Later);
+    };
+    let modules = Modules {
+        ports: &ports,
+        names: index,
+    };
+    let walked = instances_of(alloc, modules, top)?;
+    after_walk(alloc, modules, top.module().id.name.as_slice(), walked)
+}
+
+/// The design of a source, which begins at `first`, or its least fault (IEEE 1364-2005, clause 12).
+pub fn elaborate(alloc: Global, first: Place, source: &Source) -> Result<Elaboration, NoMemory>
+    ensures { Elaborates (Elaborated.elaborated first (source_tree source.now)) result }
+{
+    let all = source.modules.as_slice();
+    let index = named(alloc, all)?;
+    match top_of(alloc, first, &index, all)? {
+        Err((fault, place)) => Ok(Elaboration::Refused(fault, place)),
+        Ok(top) => below(alloc, all, &index, top),
     }
 }

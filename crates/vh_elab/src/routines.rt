@@ -1,7 +1,8 @@
-ghost use Rattle.std.specs.Prelude.{◌≡◌, ◌≤◌, ◌++◌, ◌∷◌, [], drop, length, IfOk, OnOk};
+ghost use Rattle.std.specs.Prelude.{◌≡◌, ◌++◌, ◌∷◌, [], length, map, IfOk, OnOk};
 ghost use Rattle.std.specs.List.{list_any};
-ghost use Rattle.vh_sites.specs.Views.{declared_seen, site_seen, sites_seen};
-ghost use Rattle.vh_elab.specs.Coded;
+ghost use Rattle.vh_sites.specs.Views.{all_seen, declared_seen, site_seen};
+ghost use Rattle.vh_elab.specs.Routines as spec;
+ghost use Rattle.vh_walk.specs.Views.{placed_seen};
 ghost use Rattle.vh_elab.specs.Views.{routines_seen};
 
 use std::alloc::Global;
@@ -9,8 +10,9 @@ use vh_ast::TaskDirection;
 use vh_base::{NoMemory, ObjId, Sequence};
 use vh_bind::Routine;
 use vh_bind_stmt::{Argument, Arguments};
-use vh_declare::{is_routine, next_number};
-use vh_sites::{CodeWord, Declared, Site};
+use vh_declare::is_routine;
+use vh_sites::{CodeWord, Declared, Site, Thing};
+use vh_walk::Placed;
 
 /// What is known of all tasks and functions, by the numbers of their bodies.
 #[derive(Drop)]
@@ -28,50 +30,49 @@ fn add_argument(
     arguments: &mut Vec<Argument>,
 ) -> Result<(), NoMemory>
     ensures { OnOk result (arguments.new.items
-        ≡ arguments.old.items ++ Coded.argument_in number (declared_seen declared.entry)) }
+        ≡ arguments.old.items ++ spec.argument_in number (declared_seen declared.entry)) }
 {
     match declared {
-        Declared::Argument(direction, _) => {
+        Declared::Typed(Thing::Argument(direction), _) => {
             let variable = ObjId::new(number);
             arguments.push(Argument {
                 variable,
                 direction,
             })?;
         }
-        Declared::Variable(_, _)
+        Declared::Typed(_, _)
         | Declared::Words(_, _)
         | Declared::Event
-        | Declared::Constant(_, _)
+        | Declared::Constant(_, _, _)
         | Declared::Code(_, _)
         | Declared::Block(_)
-        | Declared::Result(_) => {}
+        | Declared::Drives(_, _, _)
+        | Declared::Gate(_, _, _)
+        | Declared::Wire
+        | Declared::GenBlock(_, _)
+        | Declared::Loop(_)
+        | Declared::Genvar
+        | Declared::Child(_, _, _) => {}
     }
     Ok(())
 }
 
-// The arguments of a task or function, which begin with these sites.
-fn arguments_from(
-    alloc: Global,
-    scope: u32,
-    first: u32,
-    sites: &[Site],
-) -> Result<Vec<Argument>, NoMemory>
-    ensures { IfOk result (λ v. v.items ≡ Coded.arguments_from scope first (sites_seen sites.now)) }
+// The arguments of a task or function, behind which these sites stand.
+fn arguments_from(alloc: Global, scope: u32, sites: &[Site]) -> Result<Vec<Argument>, NoMemory>
+    ensures { IfOk result (λ v. v.items ≡ spec.arguments_from scope (all_seen sites.now)) }
 {
     let mut arguments = Vec::new(alloc);
-    let mut number = first;
     for site in sites {
         if site.scope != scope {
             return Ok(arguments);
         }
-        add_argument(number, site.declared, &mut arguments)?;
-        number = next_number(number)?;
+        add_argument(site.number, site.declared, &mut arguments)?;
     }
     Ok(arguments)
 }
 
 fn is_function(word: CodeWord) -> bool
-    ensures { result ≡ Coded.is_function word }
+    ensures { result ≡ spec.is_function word }
 {
     match word {
         CodeWord::Function => true,
@@ -81,12 +82,13 @@ fn is_function(word: CodeWord) -> bool
 
 // The variable of a function's result stands directly behind it.
 fn result_number(word: CodeWord, number: u32) -> Result<Option<ObjId>, NoMemory>
-    ensures { IfOk result (λ o. o ≡ Coded.result_number word number) }
+    ensures { IfOk result (λ o. o ≡ spec.result_number word number) }
 {
     if !is_function(word) {
         return Ok(None);
     }
-    Ok(Some(ObjId::new(next_number(number)?)))
+    let number = number.checked_add(1).ok_or(NoMemory)?;
+    Ok(Some(ObjId::new(number)))
 }
 
 fn count_of(arguments: &[Argument]) -> Result<u32, NoMemory>
@@ -103,7 +105,7 @@ fn add_routine(
     all: &mut Routines,
 ) -> Result<(), NoMemory>
     ensures { OnOk result (routines_seen all.new
-        ≡ Coded.with_routine word number arguments.items (routines_seen all.old)) }
+        ≡ spec.with_routine word number arguments.items (routines_seen all.old)) }
 {
     let more = gives_more(word, &arguments);
     all.gives_back = all.gives_back || more;
@@ -117,26 +119,16 @@ fn add_routine(
     Ok(())
 }
 
-// The sites behind one.
-fn behind<'a, 'b>(sites: &'a [Site<'b>], number: u32) -> &'a [Site<'b>]
-    requires { number ≤ length sites.now }
-    ensures { result.now ≡ drop number sites.now }
-{
-    &sites[number as usize..]
-}
-
-// The task or function that a site is.
-#[tactic(auto, using(crate::proofs::FittingLemmas::seen_drop))]
+// The task or function that a site is, behind which these stand.
 fn routine_site(
     alloc: Global,
-    sites: &[Site],
     number: u32,
     declared: Declared,
+    behind: &[Site],
     all: &mut Routines,
 ) -> Result<(), NoMemory>
-    requires { number ≤ length sites.now }
     ensures { OnOk result (routines_seen all.new
-        ≡ Coded.routine_declared (sites_seen sites.now) number (declared_seen declared.entry)
+        ≡ spec.routine_declared number (declared_seen declared.entry) (all_seen behind.now)
         (routines_seen all.old)) }
 {
     let Declared::Code(word, _) = declared else {
@@ -145,30 +137,38 @@ fn routine_site(
     if !is_routine(word) {
         return Ok(());
     }
-    let first = next_number(number)?;
-    let arguments = arguments_from(alloc, number, first, behind(sites, number))?;
+    let arguments = arguments_from(alloc, number, behind)?;
     add_routine(word, number, arguments, all)
 }
 
-/// The tasks and functions of a module.
-pub(crate) fn routines_of(alloc: Global, sites: &[Site]) -> Result<Routines, NoMemory>
-    ensures { IfOk result (λ r. routines_seen r ≡ Coded.routines_of (sites_seen sites.now)) }
+// Those of an instance.
+fn add_routines(alloc: Global, sites: &[Site], all: &mut Routines) -> Result<(), NoMemory>
+    ensures { OnOk result (routines_seen all.new
+        ≡ spec.routines_in (all_seen sites.now) (routines_seen all.old)) }
 {
-    let mut all = Routines {
+    for (place, site) in sites.iter().enumerate() {
+        routine_site(alloc, site.number, site.declared, &sites[place + 1..], all)?;
+    }
+    Ok(())
+}
+
+/// The tasks and functions of all instances.
+pub(crate) fn routines_of(alloc: Global, all: &[Placed]) -> Result<Routines, NoMemory>
+    ensures { IfOk result (λ r. routines_seen r ≡ spec.routines_of (map placed_seen all.now)) }
+{
+    let mut routines = Routines {
         routines: Vec::new(alloc),
         arguments: Vec::new(alloc),
         gives_back: false,
     };
-    let mut number = 1;
-    for site in sites {
-        routine_site(alloc, sites, number, site.declared, &mut all)?;
-        number = next_number(number)?;
+    for placed in all {
+        add_routines(alloc, &placed.sites, &mut routines)?;
     }
-    Ok(all)
+    Ok(routines)
 }
 
 fn is_given_back(direction: TaskDirection) -> bool
-    ensures { result ≡ Coded.is_given_back direction }
+    ensures { result ≡ spec.is_given_back direction }
 {
     match direction {
         TaskDirection::Input => false,
@@ -177,14 +177,14 @@ fn is_given_back(direction: TaskDirection) -> bool
 }
 
 fn any_given_back(arguments: &[Argument]) -> bool
-    ensures { result ≡ list_any (λ a. Coded.is_given_back a.direction) arguments.now }
+    ensures { result ≡ list_any (λ a. spec.is_given_back a.direction) arguments.now }
 {
     arguments.iter().any(|a| is_given_back(a.direction))
 }
 
 // Whether it is a function that gives more than its result.
 fn gives_more(word: CodeWord, arguments: &[Argument]) -> bool
-    ensures { result ≡ Coded.gives_more word arguments.now }
+    ensures { result ≡ spec.gives_more word arguments.now }
 {
     is_function(word) && any_given_back(arguments)
 }

@@ -1,301 +1,333 @@
-ghost use Rattle.std.specs.Prelude.{◌≡◌, true, length, OnOk};
+ghost use Rattle.std.specs.Prelude.{◌≡◌, map, true, IfOk, OnOk};
+ghost use Rattle.std.specs.Option.{option_map};
 ghost use Rattle.vh_nodes.specs.Fits.{is_unit};
-ghost use Rattle.vh_ast.specs.Views.{expr_tree, stmt_tree};
-ghost use Rattle.vh_bind.specs.Nodes.{AreSound};
-ghost use Rattle.vh_sites.specs.Views.{declared_seen, sites_seen};
+ghost use Rattle.vh_ast.specs.Views.{inst_tree, module_tree, stmt_tree};
+ghost use Rattle.vh_bind.specs.declared.scope.Mode.TheVariants as mode;
+ghost use Rattle.vh_bind.specs.Nodes.{AreSound, IsSound};
+ghost use Rattle.vh_bind_stmt.specs.Views.{surroundings_seen};
+ghost use Rattle.vh_modules.specs.Modules.{module_named};
+ghost use Rattle.vh_sites.specs.Views.{all_seen, declared_seen, site_seen};
+ghost use Rattle.vh_walk.specs.Views.{IsSource, source_seen};
 ghost use Rattle.vh_elab.specs.Coded;
-ghost use Rattle.vh_elab.specs.Views.{coding_seen, ready_seen, CodesTo};
+ghost use Rattle.vh_elab.specs.Connected;
+ghost use Rattle.vh_elab.specs.Elaborated;
+ghost use Rattle.vh_elab.specs.Views.{coding_seen, ready_seen};
 
-use crate::coding::{Coding, code_body, code_construct, code_value};
-use crate::routines::Routines;
+use crate::coding::{Coding, Ready, code_assignment, code_body, code_construct, code_value};
+use crate::connected::{code_ports, object_at};
+use crate::gates::code_gate;
 use std::alloc::Global;
-use vh_ast::{Expr, Stmt};
-use vh_base::ObjId;
+use vh_ast::{Id, Inst, Stmt};
+use vh_base::{NoMemory, ObjId};
 use vh_bind::Scope;
 use vh_bind_stmt::Surroundings;
-use vh_declare::{Home, around, next_number};
+use vh_declare::{around, genvars_in};
 use vh_flow::CodeKind;
-use vh_lower::LowerFault;
-use vh_nodes::ObjectInfo;
-use vh_scope::{Names, Top};
-use vh_sites::{CodeWord, Declared, Site};
+use vh_ports::Ports;
+use vh_scope::Top;
+use vh_sites::{CodeWord, Declared, Site, Thing};
+use vh_walk::Modules;
 
-/// A module of which all constants are known.
-#[derive(Clone, Copy)]
-pub(crate) struct Ready<'a> {
-    pub(crate) home: Home<'a>,
-    pub(crate) names: &'a Names,
-    pub(crate) objects: &'a [ObjectInfo],
-    pub(crate) routines: &'a Routines,
-}
-
-// A first value, where one is written.
-fn value_at(
+// The statement of a construct, a task or a function.
+fn code_statement(
     alloc: Global,
     ready: Ready,
-    number: u32,
-    scope: u32,
-    value: &Expr,
-    coding: &mut Coding,
-) -> Result<(), LowerFault>
-    requires sound { AreSound (ready_seen ready).objects (ready_seen ready).home.precision
-        (coding_seen coding.old).added.exprs }
-    requires unit { is_unit (ready_seen ready).home.precision (ready_seen ready).home.unit ≡ true }
-    ensures coded { CodesTo
-        (Coded.value_coded (Coded.surroundings_at (ready_seen ready.entry) scope) number
-        (expr_tree value.now) (coding_seen coding.old))
-        result (coding_seen coding.new) }
-    ensures sound { OnOk result
-        (AreSound (ready_seen ready.entry).objects (ready_seen ready.entry).home.precision
-        (coding_seen coding.new).added.exprs) }
-{
-    let around = around(alloc, ready.objects, ObjId::new(scope))?;
-    let scope = Scope {
-        names: ready.names,
-        around: &around,
-        top: Top {
-            id: ObjId::new(0),
-            name: ready.home.name,
-        },
-        genvars: &[],
-        objects: ready.objects,
-        exprs: &[],
-        routines: &ready.routines.routines,
-        unit: ready.home.unit,
-        precision: ready.home.precision,
-    };
-    let inside = Surroundings {
-        scope: &scope,
-        arguments: &ready.routines.arguments,
-    };
-    code_value(alloc, &inside, number, value, coding)
-}
-
-fn construct_at(
-    alloc: Global,
-    ready: Ready,
-    scope: u32,
-    kind: CodeKind,
-    stmt: &Stmt,
-    coding: &mut Coding,
-) -> Result<(), LowerFault>
-    requires sound { AreSound (ready_seen ready).objects (ready_seen ready).home.precision
-        (coding_seen coding.old).added.exprs }
-    requires unit { is_unit (ready_seen ready).home.precision (ready_seen ready).home.unit ≡ true }
-    ensures coded { CodesTo
-        (Coded.construct_coded (Coded.surroundings_at (ready_seen ready.entry) scope) kind
-        (stmt_tree stmt.now) (coding_seen coding.old))
-        result (coding_seen coding.new) }
-    ensures sound { OnOk result
-        (AreSound (ready_seen ready.entry).objects (ready_seen ready.entry).home.precision
-        (coding_seen coding.new).added.exprs) }
-{
-    let around = around(alloc, ready.objects, ObjId::new(scope))?;
-    let scope = Scope {
-        names: ready.names,
-        around: &around,
-        top: Top {
-            id: ObjId::new(0),
-            name: ready.home.name,
-        },
-        genvars: &[],
-        objects: ready.objects,
-        exprs: &[],
-        routines: &ready.routines.routines,
-        unit: ready.home.unit,
-        precision: ready.home.precision,
-    };
-    let inside = Surroundings {
-        scope: &scope,
-        arguments: &ready.routines.arguments,
-    };
-    code_construct(alloc, &inside, kind, stmt, coding)
-}
-
-fn body_at(
-    alloc: Global,
-    ready: Ready,
-    scope: u32,
-    stmt: &Stmt,
-    coding: &mut Coding,
-) -> Result<(), LowerFault>
-    requires sound { AreSound (ready_seen ready).objects (ready_seen ready).home.precision
-        (coding_seen coding.old).added.exprs }
-    requires unit { is_unit (ready_seen ready).home.precision (ready_seen ready).home.unit ≡ true }
-    ensures coded { CodesTo
-        (Coded.body_coded (Coded.surroundings_at (ready_seen ready.entry) scope)
-        (stmt_tree stmt.now) (coding_seen coding.old))
-        result (coding_seen coding.new) }
-    ensures sound { OnOk result
-        (AreSound (ready_seen ready.entry).objects (ready_seen ready.entry).home.precision
-        (coding_seen coding.new).added.exprs) }
-{
-    let around = around(alloc, ready.objects, ObjId::new(scope))?;
-    let scope = Scope {
-        names: ready.names,
-        around: &around,
-        top: Top {
-            id: ObjId::new(0),
-            name: ready.home.name,
-        },
-        genvars: &[],
-        objects: ready.objects,
-        exprs: &[],
-        routines: &ready.routines.routines,
-        unit: ready.home.unit,
-        precision: ready.home.precision,
-    };
-    let inside = Surroundings {
-        scope: &scope,
-        arguments: &ready.routines.arguments,
-    };
-    code_body(alloc, &inside, stmt, coding)
-}
-
-// The statement of a construct, a task or a function: the latter two have scopes of their own.
-fn statement_at(
-    alloc: Global,
-    ready: Ready,
-    number: u32,
-    scope: u32,
+    inside: &Surroundings,
     word: CodeWord,
     stmt: &Stmt,
     coding: &mut Coding,
-) -> Result<(), LowerFault>
-    requires sound { AreSound (ready_seen ready).objects (ready_seen ready).home.precision
+) -> Result<(), NoMemory>
+    requires values { IsSound mode.Value (surroundings_seen inside.now).scope
+        (ready_seen ready).values }
+    requires sound { IsSound mode.Value (surroundings_seen inside.now).scope
         (coding_seen coding.old).added.exprs }
-    requires unit { is_unit (ready_seen ready).home.precision (ready_seen ready).home.unit ≡ true }
-    ensures coded { CodesTo
-        (Coded.statement_coded (ready_seen ready.entry) number scope word (stmt_tree stmt.now)
-        (coding_seen coding.old))
-        result (coding_seen coding.new) }
-    ensures sound { OnOk result
-        (AreSound (ready_seen ready.entry).objects (ready_seen ready.entry).home.precision
+    requires unit { is_unit (surroundings_seen inside.now).scope.precision
+        (surroundings_seen inside.now).scope.unit ≡ true }
+    requires same { (surroundings_seen inside.now).scope.objects ≡ (ready_seen ready).objects }
+    ensures coded { OnOk result (coding_seen coding.new
+        ≡ Coded.statement_coded (ready_seen ready.entry) (surroundings_seen inside.now) word
+        (stmt_tree stmt.now) (coding_seen coding.old)) }
+    ensures sound { OnOk result (IsSound mode.Value (surroundings_seen inside.now).scope
         (coding_seen coding.new).added.exprs) }
 {
     match word {
-        CodeWord::Initial => construct_at(alloc, ready, scope, CodeKind::Initial, stmt, coding),
-        CodeWord::Always => construct_at(alloc, ready, scope, CodeKind::Always, stmt, coding),
-        CodeWord::Task | CodeWord::Function => body_at(alloc, ready, number, stmt, coding),
+        CodeWord::Initial => {
+            code_construct(alloc, ready, inside, CodeKind::Initial, stmt, coding)
+        }
+        CodeWord::Always => code_construct(alloc, ready, inside, CodeKind::Always, stmt, coding),
+        CodeWord::Task | CodeWord::Function => code_body(alloc, ready, inside, stmt, coding),
     }
 }
 
-// The first value of a site, where one is written.
-fn value_of(
+// The module of a name.
+fn module_named<'a, 'b>(modules: Modules<'a, 'b>, name: &[u8]) -> Option<&'b Ports<'a>>
+    requires { IsSource modules }
+    ensures { option_map (λ p. module_tree p.now) result
+        ≡ module_named (source_seen modules.entry) name.now }
+{
+    let number = modules.names.place(name)?;
+    modules.ports.get(number as usize)
+}
+
+// The ports of an instance, if its module and it are there.
+fn code_instance(
     alloc: Global,
     ready: Ready,
-    number: u32,
-    site: &Site,
+    inside: &Surroundings,
+    inst: &Inst,
+    ports: Option<&Ports>,
+    instance: Option<ObjId>,
     coding: &mut Coding,
-) -> Result<(), LowerFault>
-    requires sound { AreSound (ready_seen ready).objects (ready_seen ready).home.precision
+) -> Result<(), NoMemory>
+    requires values { IsSound mode.Value (surroundings_seen inside.now).scope
+        (ready_seen ready).values }
+    requires sound { IsSound mode.Value (surroundings_seen inside.now).scope
         (coding_seen coding.old).added.exprs }
-    requires unit { is_unit (ready_seen ready).home.precision (ready_seen ready).home.unit ≡ true }
-    ensures coded { CodesTo
-        (Coded.value_declared (Coded.surroundings_at
-        (ready_seen ready.entry) site.now.scope) number (declared_seen site.now.declared)
-        (coding_seen coding.old))
-        result (coding_seen coding.new) }
-    ensures sound { OnOk result
-        (AreSound (ready_seen ready.entry).objects (ready_seen ready.entry).home.precision
+    requires unit { is_unit (surroundings_seen inside.now).scope.precision
+        (surroundings_seen inside.now).scope.unit ≡ true }
+    requires same { (surroundings_seen inside.now).scope.objects ≡ (ready_seen ready).objects }
+    ensures coded { OnOk result (coding_seen coding.new
+        ≡ Elaborated.instance_coded (ready_seen ready.entry) (surroundings_seen inside.now)
+        (inst_tree inst.now) (option_map (λ p. module_tree p.now) ports.entry) instance
+        (coding_seen coding.old)) }
+    ensures sound { OnOk result (IsSound mode.Value (surroundings_seen inside.now).scope
         (coding_seen coding.new).added.exprs) }
 {
-    match site.declared {
-        Declared::Variable(_, Some(value)) => {
-            value_at(alloc, ready, number, site.scope, value, coding)
+    let Some(ports) = ports else {
+        return Ok(());
+    };
+    let Some(instance) = instance else {
+        return Ok(());
+    };
+    code_ports(alloc, ready, inside, ports, instance.number(), inst, coding)
+}
+
+// An instance.
+fn code_child(
+    alloc: Global,
+    modules: Modules,
+    ready: Ready,
+    inside: &Surroundings,
+    scope: u32,
+    module: &Id,
+    inst: &Inst,
+    coding: &mut Coding,
+) -> Result<(), NoMemory>
+    requires source { IsSource modules }
+    requires values { IsSound mode.Value (surroundings_seen inside.now).scope
+        (ready_seen ready).values }
+    requires sound { IsSound mode.Value (surroundings_seen inside.now).scope
+        (coding_seen coding.old).added.exprs }
+    requires unit { is_unit (surroundings_seen inside.now).scope.precision
+        (surroundings_seen inside.now).scope.unit ≡ true }
+    requires same { (surroundings_seen inside.now).scope.objects ≡ (ready_seen ready).objects }
+    ensures coded { OnOk result (coding_seen coding.new
+        ≡ Elaborated.child_coded (source_seen modules.entry) (ready_seen ready.entry)
+        (surroundings_seen inside.now) scope module.now (inst_tree inst.now)
+        (coding_seen coding.old)) }
+    ensures sound { OnOk result (IsSound mode.Value (surroundings_seen inside.now).scope
+        (coding_seen coding.new).added.exprs) }
+{
+    let ports = module_named(modules, module.name.as_slice());
+    let instance = object_at(ready, scope, inst.id.name.as_slice());
+    code_instance(alloc, ready, inside, inst, ports, instance, coding)
+}
+
+// A site, in its surroundings.
+fn code_declared(
+    alloc: Global,
+    modules: Modules,
+    ready: Ready,
+    inside: &Surroundings,
+    number: u32,
+    scope: u32,
+    declared: Declared,
+    coding: &mut Coding,
+) -> Result<(), NoMemory>
+    requires source { IsSource modules }
+    requires values { IsSound mode.Value (surroundings_seen inside.now).scope
+        (ready_seen ready).values }
+    requires sound { IsSound mode.Value (surroundings_seen inside.now).scope
+        (coding_seen coding.old).added.exprs }
+    requires unit { is_unit (surroundings_seen inside.now).scope.precision
+        (surroundings_seen inside.now).scope.unit ≡ true }
+    requires same { (surroundings_seen inside.now).scope.objects ≡ (ready_seen ready).objects }
+    ensures coded { OnOk result (coding_seen coding.new
+        ≡ Elaborated.declared_coded (source_seen modules.entry) (ready_seen ready.entry)
+        (surroundings_seen inside.now) number scope (declared_seen declared.entry)
+        (coding_seen coding.old)) }
+    ensures sound { OnOk result (IsSound mode.Value (surroundings_seen inside.now).scope
+        (coding_seen coding.new).added.exprs) }
+{
+    match declared {
+        Declared::Typed(Thing::Variable(Some(value)), _) => {
+            code_value(alloc, ready, inside, number, value, coding)
         }
-        Declared::Variable(_, None)
+        Declared::Code(word, stmt) => code_statement(alloc, ready, inside, word, stmt, coding),
+        Declared::Drives(delay, target, e) => {
+            code_assignment(alloc, ready, inside, delay, target, e, coding)
+        }
+        Declared::Gate(word, delay, gate) => {
+            code_gate(alloc, ready, inside, word, delay, gate, coding)
+        }
+        Declared::Child(module, _, inst) => {
+            code_child(alloc, modules, ready, inside, scope, module, inst, coding)
+        }
+        Declared::Typed(_, _)
         | Declared::Words(_, _)
         | Declared::Event
-        | Declared::Constant(_, _)
+        | Declared::Constant(_, _, _)
+        | Declared::Block(_)
+        | Declared::Wire
+        | Declared::GenBlock(_, _)
+        | Declared::Loop(_)
+        | Declared::Genvar => Ok(()),
+    }
+}
+
+// Whether the second pass makes something of a site.
+fn is_coded(declared: Declared) -> bool
+    ensures { result ≡ Elaborated.is_coded (declared_seen declared.entry) }
+{
+    match declared {
+        Declared::Typed(Thing::Variable(Some(_)), _)
         | Declared::Code(_, _)
-        | Declared::Block(_)
-        | Declared::Result(_)
-        | Declared::Argument(_, _) => Ok(()),
-    }
-}
-
-// The statement of a site, where it has one.
-fn statement_of(
-    alloc: Global,
-    ready: Ready,
-    number: u32,
-    site: &Site,
-    coding: &mut Coding,
-) -> Result<(), LowerFault>
-    requires sound { AreSound (ready_seen ready).objects (ready_seen ready).home.precision
-        (coding_seen coding.old).added.exprs }
-    requires unit { is_unit (ready_seen ready).home.precision (ready_seen ready).home.unit ≡ true }
-    ensures coded { CodesTo
-        (Coded.statement_declared (ready_seen ready.entry) number site.now.scope
-        (declared_seen site.now.declared) (coding_seen coding.old))
-        result (coding_seen coding.new) }
-    ensures sound { OnOk result
-        (AreSound (ready_seen ready.entry).objects (ready_seen ready.entry).home.precision
-        (coding_seen coding.new).added.exprs) }
-{
-    match site.declared {
-        Declared::Code(word, stmt) => {
-            statement_at(alloc, ready, number, site.scope, word, stmt, coding)
-        }
-        Declared::Variable(_, _)
+        | Declared::Drives(_, _, _)
+        | Declared::Gate(_, _, _)
+        | Declared::Child(_, _, _) => true,
+        Declared::Typed(_, _)
         | Declared::Words(_, _)
         | Declared::Event
-        | Declared::Constant(_, _)
+        | Declared::Constant(_, _, _)
         | Declared::Block(_)
-        | Declared::Result(_)
-        | Declared::Argument(_, _) => Ok(()),
+        | Declared::Wire
+        | Declared::GenBlock(_, _)
+        | Declared::Loop(_)
+        | Declared::Genvar => false,
     }
 }
 
-/// The processes of first values.
-pub(crate) fn code_values(
-    alloc: Global,
-    ready: Ready,
-    sites: &[Site],
-    coding: &mut Coding,
-) -> Result<(), LowerFault>
-    requires sound { AreSound (ready_seen ready).objects (ready_seen ready).home.precision
-        (coding_seen coding.old).added.exprs }
-    requires unit { is_unit (ready_seen ready).home.precision (ready_seen ready).home.unit ≡ true }
-    ensures coded { CodesTo
-        (Coded.values_coded (ready_seen ready.entry) (sites_seen sites.now)
-        (coding_seen coding.old))
-        result (coding_seen coding.new) }
-    ensures sound { OnOk result
-        (AreSound (ready_seen ready.entry).objects (ready_seen ready.entry).home.precision
-        (coding_seen coding.new).added.exprs) }
+// A task or function has its own scope.
+fn scope_of(number: u32, scope: u32, declared: Declared) -> u32
+    ensures { result ≡ Elaborated.scope_of number scope (declared_seen declared.entry) }
 {
-    let mut number = 1;
-    for site in sites {
-        value_of(alloc, ready, number, site, coding)?;
-        number = next_number(number)?;
+    match declared {
+        Declared::Code(CodeWord::Task | CodeWord::Function, _) => number,
+        _ => scope,
     }
-    Ok(())
 }
 
-/// Constructs, tasks and functions.
-pub(crate) fn code_statements(
+// What a site is, in a scope.
+fn code_in(
     alloc: Global,
+    modules: Modules,
     ready: Ready,
+    unit: u8,
+    inner: u32,
+    number: u32,
+    scope: u32,
+    declared: Declared,
+    coding: &mut Coding,
+) -> Result<(), NoMemory>
+    requires source { IsSource modules }
+    requires values { AreSound (ready_seen ready).objects (ready_seen ready).precision
+        (ready_seen ready).values }
+    requires sound { AreSound (ready_seen ready).objects (ready_seen ready).precision
+        (coding_seen coding.old).added.exprs }
+    requires unit { is_unit (ready_seen ready).precision unit ≡ true }
+    ensures coded { OnOk result (coding_seen coding.new
+        ≡ Elaborated.declared_coded (source_seen modules.entry) (ready_seen ready.entry)
+        (Coded.surroundings_at (ready_seen ready.entry) unit inner) number scope
+        (declared_seen declared.entry) (coding_seen coding.old)) }
+    ensures sound { OnOk result (AreSound (ready_seen ready.entry).objects
+        (ready_seen ready.entry).precision (coding_seen coding.new).added.exprs) }
+{
+    let around = around(alloc, ready.objects, ObjId::new(inner))?;
+    let genvars = genvars_in(alloc, ready.genvars, &around)?;
+    let inside = Scope {
+        names: ready.names,
+        around: &around,
+        top: Top {
+            id: ObjId::new(0),
+            name: ready.top_name,
+        },
+        genvars: &genvars,
+        objects: ready.objects,
+        exprs: &[],
+        routines: &ready.routines.routines,
+        unit,
+        precision: ready.precision,
+    };
+    let inside = Surroundings {
+        scope: &inside,
+        arguments: &ready.routines.arguments,
+    };
+    code_declared(
+        alloc, modules, ready, &inside, number, scope, declared, coding,
+    )
+}
+
+// A site, where it stands.
+fn code_site(
+    alloc: Global,
+    modules: Modules,
+    ready: Ready,
+    unit: u8,
+    site: &Site,
+    coding: &mut Coding,
+) -> Result<(), NoMemory>
+    requires source { IsSource modules }
+    requires values { AreSound (ready_seen ready).objects (ready_seen ready).precision
+        (ready_seen ready).values }
+    requires sound { AreSound (ready_seen ready).objects (ready_seen ready).precision
+        (coding_seen coding.old).added.exprs }
+    requires unit { is_unit (ready_seen ready).precision unit ≡ true }
+    ensures coded { OnOk result (coding_seen coding.new
+        ≡ Elaborated.site_coded (source_seen modules.entry) (ready_seen ready.entry) unit
+        (site_seen site.now) (coding_seen coding.old)) }
+    ensures sound { OnOk result (AreSound (ready_seen ready.entry).objects
+        (ready_seen ready.entry).precision (coding_seen coding.new).added.exprs) }
+{
+    if !is_coded(site.declared) {
+        return Ok(());
+    }
+    let inner = scope_of(site.number, site.scope, site.declared);
+    code_in(
+        alloc,
+        modules,
+        ready,
+        unit,
+        inner,
+        site.number,
+        site.scope,
+        site.declared,
+        coding,
+    )
+}
+
+/// The sites of an instance.
+pub(crate) fn code_sites(
+    alloc: Global,
+    modules: Modules,
+    ready: Ready,
+    unit: u8,
     sites: &[Site],
     coding: &mut Coding,
-) -> Result<(), LowerFault>
-    requires sound { AreSound (ready_seen ready).objects (ready_seen ready).home.precision
+) -> Result<(), NoMemory>
+    requires source { IsSource modules }
+    requires values { AreSound (ready_seen ready).objects (ready_seen ready).precision
+        (ready_seen ready).values }
+    requires sound { AreSound (ready_seen ready).objects (ready_seen ready).precision
         (coding_seen coding.old).added.exprs }
-    requires unit { is_unit (ready_seen ready).home.precision (ready_seen ready).home.unit ≡ true }
-    ensures coded { CodesTo
-        (Coded.statements_coded (ready_seen ready.entry) (sites_seen sites.now)
-        (coding_seen coding.old))
-        result (coding_seen coding.new) }
-    ensures sound { OnOk result
-        (AreSound (ready_seen ready.entry).objects (ready_seen ready.entry).home.precision
-        (coding_seen coding.new).added.exprs) }
+    requires unit { is_unit (ready_seen ready).precision unit ≡ true }
+    ensures coded { OnOk result (coding_seen coding.new
+        ≡ Elaborated.sites_coded (source_seen modules.entry) (ready_seen ready.entry) unit
+        (all_seen sites.now) (coding_seen coding.old)) }
+    ensures sound { OnOk result (AreSound (ready_seen ready.entry).objects
+        (ready_seen ready.entry).precision (coding_seen coding.new).added.exprs) }
 {
-    let mut number = 1;
     for site in sites {
-        statement_of(alloc, ready, number, site, coding)?;
-        number = next_number(number)?;
+        code_site(alloc, modules, ready, unit, site, coding)?;
     }
     Ok(())
 }

@@ -19,7 +19,7 @@ fn of_tokens(alloc: Global, tokens: &[Token]) -> Result<Elaboration, &'static st
     let Ok(source) = parse(alloc, tokens, after) else {
         return Err("no source");
     };
-    match elaborate(alloc, &source) {
+    match elaborate(alloc, after, &source) {
         Ok(elaboration) => Ok(elaboration),
         Err(_) => Err("no memory"),
     }
@@ -113,7 +113,7 @@ fn check_all(rt: &impl Abort, alloc: Global, rows: &[(&[u8], &str)]) -> Result<(
 }
 
 // Faults, with their places.
-static FAULTS: [(&[u8], &str); 38] = [
+static FAULTS: [(&[u8], &str); 40] = [
     (b"module m; initial a = 1; endmodule", "N1 1:19"),
     (b"module m; reg a; initial a = b; endmodule", "N1 1:30"),
     (b"module m; reg [w:0] a; endmodule", "N1 1:16"),
@@ -172,6 +172,11 @@ static FAULTS: [(&[u8], &str); 38] = [
     (b"module m; reg a; reg [a:0] b; endmodule", "N4 1:23"),
     (b"module m; parameter P = m.Q; endmodule", "N4 1:25"),
     (b"module m; reg [$time:0] a; endmodule", "N4 1:16"),
+    (b"module m; reg [nothing(1):0] a; endmodule", "N1 1:16"),
+    (
+        b"module m; function f; input x; f = x; endfunction reg [f(1):0] a; endmodule",
+        "N4 1:56",
+    ),
     (
         b"module m; function f; input x; f = x; endfunction parameter P = f(1); endmodule",
         "N4 1:65",
@@ -261,30 +266,10 @@ fn two_faults(rt: HostRuntime) -> Result<(), Fail> {
 }
 
 // What comes later.
-static LATER: [(&[u8], &str); 13] = [
-    (b"module m; wire w; endmodule", "later"),
-    (b"module m(a); input a; endmodule", "later"),
-    (b"module m; reg a; wire b = a; endmodule", "later"),
-    (b"module m; assign a = 1; endmodule", "later"),
-    (b"module m; genvar i; endmodule", "later"),
-    (b"module m; if (1) reg a; endmodule", "later"),
-    (b"module m; n u(); endmodule", "later"),
-    (b"module m; and (a, b, c); endmodule", "later"),
-    (b"module m; endmodule module n; endmodule", "later"),
-    (b"module m; reg a; initial force a = 1; endmodule", "later"),
-    (
-        b"module m; reg a; initial begin assign a = 1; deassign a; end endmodule",
-        "later",
-    ),
-    (
-        b"module m; reg a; function f; input x; output y; f = x; endfunction initial a = 1; endmodule",
-        "later",
-    ),
-    (
-        b"module m; parameter P = Q; parameter Q = P; endmodule",
-        "later",
-    ),
-];
+static LATER: [(&[u8], &str); 1] = [(
+    b"module m; reg a; function f; input x; output y; f = x; endfunction initial a = 1; endmodule",
+    "later",
+)];
 
 #[test]
 fn what_comes_later(rt: HostRuntime) -> Result<(), Fail> {
@@ -351,4 +336,211 @@ static MADE: [(&[u8], &str); 14] = [
 #[test]
 fn designs(rt: HostRuntime) -> Result<(), Fail> {
     check_all(&rt, rt.alloc(), &MADE)
+}
+
+// Faults of sources with nets, ports, instances and generate constructs.
+static TREE_FAULTS: [(&[u8], &str); 46] = [
+    (b"module m; m u(); endmodule", "N9 1:1"),
+    (
+        b"module a; b u(); endmodule module b; a u(); endmodule",
+        "N9 1:1",
+    ),
+    (b"module a; endmodule module b; endmodule", "N9 1:1"),
+    (b"module t; endmodule module a; a u(); endmodule", "N8 1:31"),
+    (
+        b"module t; s u(); endmodule module s; if (0) s v(); endmodule",
+        "N8 1:45",
+    ),
+    (
+        b"module t; s u(); endmodule module s; endmodule module s; endmodule",
+        "N2 1:55",
+    ),
+    (b"module t; s u(); endmodule", "N1 1:11"),
+    (
+        b"module t; s #(.Q(1)) u(); endmodule module s; parameter P = 1; endmodule",
+        "N1 1:16",
+    ),
+    (
+        b"module t; s #(.L(1)) u(); endmodule module s; localparam L = 1; endmodule",
+        "N1 1:16",
+    ),
+    (
+        b"module t; s #(1, 2) u(); endmodule module s; parameter P = 1; endmodule",
+        "N7 1:11",
+    ),
+    (
+        b"module t; s #(1, .P(2)) u(); endmodule module s; parameter P = 1, Q = 2; endmodule",
+        "N7 1:11",
+    ),
+    (
+        b"module t; s #(.P(1), .P(2)) u(); endmodule module s; parameter P = 1; endmodule",
+        "N7 1:22",
+    ),
+    (
+        b"module t; reg r; s #(r) u(); endmodule module s; parameter P = 1; endmodule",
+        "N4 1:22",
+    ),
+    (
+        b"module t; s #(64) u(); endmodule module s; parameter P = 1; reg [P:0] r; endmodule",
+        "N3 1:65",
+    ),
+    (
+        b"module t; s u(1); endmodule module s(a, b); input a, b; endmodule",
+        "N7 1:13",
+    ),
+    (
+        b"module t; s u(1, .b(1)); endmodule module s(a, b); input a, b; endmodule",
+        "N7 1:13",
+    ),
+    (
+        b"module t; s u(.a(1), .a(1)); endmodule module s(a, b); input a, b; endmodule",
+        "N7 1:22",
+    ),
+    (
+        b"module t; s u(.c(1)); endmodule module s(a, b); input a, b; endmodule",
+        "N1 1:16",
+    ),
+    (
+        b"module t; reg r; s u(r); endmodule module s(output q); endmodule",
+        "N5 1:22",
+    ),
+    (
+        b"module t; s u(1 + 1); endmodule module s(output q); endmodule",
+        "N5 1:15",
+    ),
+    (
+        b"module t; s u(.a(1)); endmodule module s(input reg a); endmodule",
+        "N5 1:15",
+    ),
+    (b"module t; reg r; assign r = 1; endmodule", "N5 1:25"),
+    (b"module t; wire w; initial w = 1; endmodule", "N5 1:27"),
+    (b"module t; wire w; assign w = q; endmodule", "N1 1:30"),
+    (
+        b"module t; reg r; wire [3:0] w; assign w[r] = 1; endmodule",
+        "N4 1:41",
+    ),
+    (
+        b"module t; wire [63:0] w; wire v; assign {w, v} = 1; endmodule",
+        "N3 1:41",
+    ),
+    (b"module t; and (a, b); endmodule", "N7 1:15"),
+    (b"module t; not (a, b, c); endmodule", "N7 1:15"),
+    (
+        b"module t; reg [1:0] r; and g1(x, 1'b1, 1'b0), g2(a, r, 1'b1); endmodule",
+        "N7 1:47",
+    ),
+    (b"module t; reg r; buf (r, 1'b1); endmodule", "N5 1:23"),
+    (b"module t(a); endmodule", "N1 1:10"),
+    (b"module t(a); input a; input b; endmodule", "N1 1:29"),
+    (b"module t(a, a); input a; endmodule", "N2 1:13"),
+    (b"module t(a); input a; input a; endmodule", "N2 1:29"),
+    (b"module t(q); output reg q; reg q; endmodule", "N2 1:32"),
+    (b"module t(q); output q; integer q; endmodule", "N2 1:32"),
+    (b"module t(q); output q; reg q [0:3]; endmodule", "N2 1:28"),
+    (
+        b"module t; parameter P = Q; parameter Q = P; endmodule",
+        "N4 1:21",
+    ),
+    (b"module t; parameter P = P; endmodule", "N4 1:21"),
+    (b"module t; parameter [P:0] P = 1; endmodule", "N4 1:27"),
+    (
+        b"module t; for (i = 0; i < 2; i = i + 1) reg a; endmodule",
+        "N1 1:16",
+    ),
+    (
+        b"module t; genvar i, j; for (i = 0; i < 2; j = i + 1) reg a; endmodule",
+        "N5 1:43",
+    ),
+    (
+        b"module t; genvar i; for (i = 0; i < 2; i = i) begin : g reg a; end endmodule",
+        "N2 1:55",
+    ),
+    (
+        b"module t; genvar i; for (i = 1'bx; i < 2; i = i + 1) reg a; endmodule",
+        "N4 1:30",
+    ),
+    (b"module t; reg r; if (r) reg a; endmodule", "N4 1:22"),
+    (
+        b"module t; if (0) reg a; else reg b; initial b = 1; endmodule",
+        "N1 1:45",
+    ),
+];
+
+#[test]
+fn faults_of_trees(rt: HostRuntime) -> Result<(), Fail> {
+    check_all(&rt, rt.alloc(), &TREE_FAULTS)
+}
+
+// Their designs.
+static TREES: [(&[u8], &str); 17] = [
+    (b"module m; wire w; endmodule", "m:1 w:1 |"),
+    (
+        b"module m; wire [3:0] a = 1, b; endmodule",
+        "m:1 a:4 :1 b:4 |C",
+    ),
+    (
+        b"module m; reg v; assign w = v; endmodule",
+        "m:1 v:1 w:1 :1 |C",
+    ),
+    (
+        b"module m; reg a, b; and (c, a, b), g(d, a, b); endmodule",
+        "m:1 a:1 b:1 c:1 d:1 |CC",
+    ),
+    (
+        b"module m(a, q); input [3:0] a; output q; reg q; endmodule",
+        "m:1 a:4 a:4 q:1 q:1 |",
+    ),
+    (
+        b"module m(q); output [3:0] q; reg signed q; endmodule",
+        "m:1 q:4s q:4s |",
+    ),
+    (
+        b"module s(input i, output o); assign o = i; endmodule module m; reg a; s u(a, b); s v(.o(c)); endmodule",
+        "m:1 a:1 b:1 c:1 u:1 i:1 i:1 o:1 o:1 :1 v:1 i:1 i:1 o:1 o:1 :1 |CCCCC",
+    ),
+    (
+        b"module s; parameter P = 1; reg [P:0] r; endmodule module m; s #(3) u(); s #(.P(7)) v(); s w(); endmodule",
+        "m:1 u:1 P:32s r:4 v:1 P:32s r:8 w:1 P:32s r:2 |",
+    ),
+    (
+        b"module s; t a(); endmodule module t; endmodule module m; s u(); s v(); reg r; endmodule",
+        "m:1 r:1 u:1 a:1 v:1 a:1 |",
+    ),
+    (
+        b"module m; parameter P = 1; if (P) begin : g reg a; end else begin : h reg b; end endmodule",
+        "m:1 P:32s g:1 a:1 |",
+    ),
+    (
+        b"module m; genvar i; for (i = 0; i < 2; i = i + 1) begin : g reg [i:0] r; end endmodule",
+        "m:1 g[0]:1 r:1 g[1]:1 r:2 |",
+    ),
+    (
+        b"module m; genvar i; for (i = -1; i < 0; i = i + 1) begin : g reg r; end endmodule",
+        "m:1 g[-1]:1 r:1 |",
+    ),
+    (
+        b"module m; if (0) reg a; if (1) reg b; endmodule",
+        "m:1 genblk2:1 b:1 |",
+    ),
+    (
+        b"module m; reg genblk1; if (1) reg b; endmodule",
+        "m:1 genblk1:1 genblk01:1 b:1 |",
+    ),
+    (
+        b"module m; if (0) reg a; else if (1) reg b; endmodule",
+        "m:1 genblk1:1 b:1 |",
+    ),
+    (
+        b"module m; if (1) begin : g not (a, w); end assign w = 1; endmodule",
+        "m:1 g:1 a:1 w:1 w:1 :1 |CC",
+    ),
+    (
+        b"module m; reg a; initial force a = 1; endmodule",
+        "m:1 a:1 :1 |C",
+    ),
+];
+
+#[test]
+fn trees(rt: HostRuntime) -> Result<(), Fail> {
+    check_all(&rt, rt.alloc(), &TREES)
 }

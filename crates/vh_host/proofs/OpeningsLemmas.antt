@@ -17,8 +17,9 @@ use Rattle.vh_kernel.specs.State.{State, IsBeforeAll, opening_agenda, world_befo
 use Rattle.vh_sense.specs.Follows.{followers}
 use Rattle.vh_sense.specs.Sensitivity.{Sensitivity, IsOpening as IsOpeningSense}
 use Rattle.vh_simulation.specs.Activity.{Activity, IsOpening, activity, first_entries, no_monitor}
+use Rattle.vh_simulation.specs.Follows.{no_serials}
 use Rattle.vh_store.specs.Contents.{Contents}
-use Rattle.vh_store.specs.Opening.{IsOpening as IsOpeningStore, opening_record, first_result, result_at}
+use Rattle.vh_store.specs.Opening.{IsOpening as IsOpeningStore, opening_wired, first_result, result_at}
 
 -- The results of the calls among expressions, of which the first has this number.
 abbrev with-result : ℕ → Option Vector → List (ℕ × Vector) → List (ℕ × Vector)
@@ -56,10 +57,11 @@ result-at n q (suc i) (e ∷ es) at =
 
 -- The store, the waits, and all of the state.
 abbrev store-before : Shape → Contents
-store-before d = record { records = map (opening_record d.exprs) d.objects; results = results-from 0 d.exprs; time = 0 }
+store-before d =
+    record { records = (opening_wired d).records; drivers = (opening_wired d).drivers; results = results-from 0 d.exprs; time = 0 }
 
 store-opens : (d : Shape) → IsOpeningStore d (store-before d)
-store-opens d = record { records = refl; results = λ e. result-at 0 e e d.exprs (omega arith); time = refl }
+store-opens d = record { records = refl; drivers = refl; results = λ e. result-at 0 e e d.exprs (omega arith); time = refl }
 
 abbrev sense-before : Shape → Sensitivity
 sense-before d = record { waits = d.waits; readers = map (followers d) (range_with_len 0 (length d.objects)); waiting = [] }
@@ -71,10 +73,10 @@ sense-opens d = record {
 }
 
 abbrev activity-before : Shape → Activity
-activity-before d = activity d (first_entries d).processes (store-before d) (sense-before d) (first_entries d).queue no_monitor
+activity-before d = activity d (first_entries d).processes (store-before d) (sense-before d) no_serials (first_entries d).queue no_monitor
 
 activity-opens : (d : Shape) → IsOpening d (activity-before d)
-activity-opens d = record { design = refl; entries = refl; store = store-opens d; sense = sense-opens d; monitor = refl }
+activity-opens d = record { design = refl; entries = refl; store = store-opens d; sense = sense-opens d; follows = refl; monitor = refl }
 
 abbrev state-before : Shape → List ScriptData → State
 state-before d scripts = record {

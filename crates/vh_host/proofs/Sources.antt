@@ -1,21 +1,17 @@
 -- The Verilog files of a call, as one source.
-use Rattle.std.proofs.Common.{◌≡◌, ◌≢◌, ◌∙◌, ◌<◌, ◌≤◌, ◌+◌, ◌^◌, ◌∷◌, [], ℕ, zero, suc, Bool, true, false, cond, List, length, get_or, drop, Option, Some, None, Result, Ok, Err, refl, sym, ap, subst, arith}
-use Rattle.std.specs.Prelude.{if◌then◌else◌, slice_get}
+use Rattle.std.proofs.Common.{◌≡◌, ◌≢◌, ◌∙◌, ◌<◌, ◌≤◌, ◌+◌, ◌^◌, ◌∷◌, [], ℕ, zero, suc, Bool, true, false, cond, List, length, get_or, drop, Option, Some, None, Err, refl, sym, ap, subst, arith}
+use Rattle.std.specs.Prelude.{if◌then◌else◌}
 use Rattle.std.proofs.lemmas.Bool.{ltb-false}
 use Rattle.std.proofs.lemmas.List.{at_drop_more}
 use Rattle.vh_base.specs.declared.faults.DesignFault.{DesignFault}
 use Rattle.vh_base.specs.declared.place.Place.{Place}
-use Rattle.vh_lex.specs.declared.conditional.Conditional.{Conditional}
 use Rattle.vh_lex.specs.declared.fault.LexFault.{LexFault}
 use Rattle.vh_lex.specs.declared.fault.LexFault.TheVariants.{Refused, NoMemory}
-use Rattle.vh_lex.specs.declared.token.Token as token
-use Rattle.vh_lex.specs.State.{State}
-use Rattle.vh_lex.specs.Spelling.{Stop}
-use Rattle.vh_lex.specs.Lexed.{Lexed, reading, refused, exhausted, file_read, files_after, files_read, lexed_by, answer_of, closed_by, end_of, IfReading, IsBegun}
+use Rattle.vh_lex.specs.Lexed.{Lexed, reading, refused, exhausted, file_read, files_after, answer_of}
 use Rattle.vh_lex.specs.Lexed as lexed
 use Rattle.vh_host.specs.declared.file.TextFile.{TextFile}
 use Rattle.vh_words.specs.Words.{is_design_word, is_script_word}
-use Rattle.vh_host.specs.Acceptance.{File, limit_of, is_too_long, first_too_long, design_files, tokens_answer, closed_answer, lexed_answer}
+use Rattle.vh_host.specs.Acceptance.{File, limit_of, is_too_long, first_too_long, design_files}
 use Rattle.vh_host.specs.declared.judging.Refusal.{Refusal}
 use Rattle.vh_host.specs.Judging.{Lexes, refusal_of}
 use Rattle.vh_host.specs.Reading.{file_seen, files_seen}
@@ -52,13 +48,6 @@ module _ (files : List TextFile) (i : ℕ) (d : TextFile) (before after : Lexed)
   next : files_after before (design_files (i + 1) (files_seen (get_or files i d ∷ drop (i + 1) files))) ≡ target
   next = sym (at_drop_more (λ xs. files_after before (design_files (i + 1) (files_seen xs))) files i d inside) ∙ is
 
-  -- It is no Verilog file.
-  pub files-other : is_design_word (get_or files i d).word.now ≡ false
-      → files_after before (design_files (i + 1 + 1) (files_seen (drop (i + 1) files))) ≡ target
-  files-other other =
-      sym (ap (λ (b : Bool). files_after before (if b then record { number = i + 1; bytes = (get_or files i d).bytes.items } ∷ design_files (i + 1 + 1) (files_seen (drop (i + 1) files)) else design_files (i + 1 + 1) (files_seen (drop (i + 1) files)))) other)
-      ∙ next
-
   -- It is read.
   pub files-more : (m : ℕ) (bytes : List ℕ) → m ≡ i + 1 → bytes ≡ (get_or files i d).bytes.items → is_design_word (get_or files i d).word.now ≡ true
       → after ≡ file_read (record { number = m; bytes = bytes }) before
@@ -94,42 +83,3 @@ file-stops new target files (Refused fault at) r is answer come =
     subst P (sym is) (files-refused new target files fault at (come (λ e. cc)) answer)
 file-stops new target files NoMemory r is answer come =
     let P : Refusal → Type 0 = λ x. Lexes {A = Bool} target (Err x) new in subst P (sym is) tt
-
--- After a file that was read there is one.
-begun-by : (p : Place) (r : Result State Stop) → answer_of (lexed_by p r) ≡ Ok tt → IsBegun (lexed_by p r)
-begun-by p (Ok s) h = tt
-begun-by p (Err stop) h = absurd (cc)
-
-begun-read : (f : lexed.File) (l : Lexed) → answer_of (file_read f l) ≡ Ok tt → IsBegun (file_read f l)
-begun-read f (reading first s) h = begun-by _ _ h
-begun-read f (refused fault at) h = absurd (cc)
-begun-read f exhausted h = absurd (cc)
-
-pub begun-more : (f : lexed.File) (before after : Lexed) → after ≡ file_read f before → answer_of after ≡ Ok tt → IsBegun after
-begun-more f before after made answer =
-    subst IsBegun (sym made) (begun-read f before (sym (ap answer_of made) ∙ answer))
-
--- What files come to that are refused at their end, and what they come to else.
-ended-by : (o : Option Conditional) (tokens : List token.Token) (after at : Place) (fault : DesignFault)
-    → closed_by o ≡ Err (Refused fault at) → closed_answer o tokens after ≡ Err (fault, at)
-ended-by None tokens after at fault h = absurd (cc)
-ended-by (Some c) tokens after at fault h = cc
-
-pub lexed-ended : (l : Lexed) (fault : DesignFault) (at : Place) → end_of l ≡ Err (Refused fault at) → lexed_answer l ≡ Err (fault, at)
-lexed-ended (reading first s) fault at h = ended-by (slice_get s.conditionals 0) s.made.tokens s.place at fault h
-lexed-ended (refused f p) fault at h = cc
-lexed-ended exhausted fault at h = absurd (cc)
-
-closed-so : (o : Option Conditional) (tokens : List token.Token) (after : Place)
-    → closed_by o ≡ Ok tt → closed_answer o tokens after ≡ tokens_answer tokens after
-closed-so None tokens after h = refl
-closed-so (Some c) tokens after h = absurd (cc)
-
-pub lexed-closed : (l : Lexed) (tokens : List token.Token) (after : Place) → end_of l ≡ Ok tt
-    → IfReading l (λ first s. tokens ≡ s.made.tokens) → IfReading l (λ first s. s.place ≡ after)
-    → lexed_answer l ≡ tokens_answer tokens after
-lexed-closed (reading first s) tokens after h are at =
-    closed-so (slice_get s.conditionals 0) s.made.tokens s.place h
-    ∙ ap (λ (ts : List token.Token). tokens_answer ts s.place) (sym are) ∙ ap (tokens_answer tokens) at
-lexed-closed (refused f p) tokens after h are at = absurd (cc)
-lexed-closed exhausted tokens after h are at = absurd (cc)

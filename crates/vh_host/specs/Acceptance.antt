@@ -65,6 +65,11 @@ design_files n (file ∷ files) =
 abbrev pub DesignRefusal : Type 0
 DesignRefusal = DesignFault × Place
 
+-- Where the Verilog files begin; the first of these files has the number n.
+abbrev pub begin_from : ℕ → List File → Place
+begin_from n [] = place 0 1 1
+begin_from n (file ∷ files) = if is_design_word file.word then place n 1 1 else begin_from (n + 1) files
+
 -- The design of a source, its least fault, or S3 where it has what comes later.
 abbrev pub by_elaboration : Elaborated → Result Shape DesignRefusal
 by_elaboration (made d) = Ok d
@@ -72,26 +77,27 @@ by_elaboration (elab.refused f) = Err f
 by_elaboration later = Err (fault.S3, place 1 1 1)
 
 -- What tokens mean: the first fault of the grammar, with the place behind the last byte where no token is left; or what
--- comes of their source.
-abbrev pub tokens_answer : List lexed.Token → Place → Result Shape DesignRefusal
-tokens_answer tokens after =
-    with_ok (placed tokens after (source_answer (map token_seen tokens))) (λ parsed. by_elaboration (elaborated parsed.0))
+-- comes of their source, which begins at `begin`.
+unfoldable pub tokens_answer : Place → List lexed.Token → Place → Result Shape DesignRefusal
+tokens_answer begin tokens after =
+    with_ok (placed tokens after (source_answer (map token_seen tokens)))
+    (λ parsed. by_elaboration (elaborated begin parsed.0))
 
 -- The same of the tokens of whole files: the outermost conditional that is open behind the last file is L2.
-abbrev pub closed_answer : Option Conditional → List lexed.Token → Place → Result Shape DesignRefusal
-closed_answer (Some opened) tokens after = Err (fault.L2, opened.place)
-closed_answer None tokens after = tokens_answer tokens after
+abbrev pub closed_answer : Place → Option Conditional → List lexed.Token → Place → Result Shape DesignRefusal
+closed_answer begin (Some opened) tokens after = Err (fault.L2, opened.place)
+closed_answer begin None tokens after = tokens_answer begin tokens after
 
 -- The same of what files come to: a lexical fault comes before every other.
-abbrev pub lexed_answer : Lexed → Result Shape DesignRefusal
-lexed_answer (reading first s) = closed_answer (slice_get s.conditionals 0) s.made.tokens s.place
-lexed_answer (refused lexical at) = Err (lexical, at)
+abbrev pub lexed_answer : Place → Lexed → Result Shape DesignRefusal
+lexed_answer begin (reading first s) = closed_answer begin (slice_get s.conditionals 0) s.made.tokens s.place
+lexed_answer begin (refused lexical at) = Err (lexical, at)
 -- want of memory is nothing that files come to
-lexed_answer exhausted = tokens_answer [] (place 1 1 1)
+lexed_answer begin exhausted = tokens_answer begin [] (place 1 1 1)
 
 -- The design of the Verilog files among these, which are one source in word order; or their first fault.
 abbrev pub design_answer : List File → Result Shape DesignRefusal
-design_answer files = lexed_answer (files_read (design_files 1 files))
+design_answer files = lexed_answer (begin_from 1 files) (files_read (design_files 1 files))
 
 -- A script before others, or the refusal of the file of this number, which isn't one of the first scripts.
 abbrev pub script_then : ℕ → Option ScriptData → Result (List ScriptData) Status → Result (List ScriptData) Status

@@ -1,6 +1,8 @@
 ghost use Rattle.std.specs.Prelude.{◌≡◌, ◌≤◌, None, length, IfOk};
 ghost use Rattle.vh_lex.specs.Lexed.{files_after, nothing_read, IfReading};
-ghost use Rattle.vh_host.specs.Acceptance.{design_answer, design_files, tokens_answer, first_too_long};
+ghost use Rattle.vh_base.specs.declared.faults.DesignFault.TheVariants.{S3};
+ghost use Rattle.vh_host.specs.declared.judging.Refusal.TheVariants as to;
+ghost use Rattle.vh_host.specs.Acceptance.{begin_from, design_answer, design_files, first_too_long, place, tokens_answer};
 ghost use Rattle.vh_host.specs.Reading.{files_seen};
 ghost use Rattle.vh_host.specs.Judging.{Designs, Lexes, Begins};
 
@@ -26,7 +28,7 @@ pub fn read_design(alloc: Global, files: &[TextFile<'_>]) -> Result<Design, Refu
     let is_begun = lex_files(alloc, &mut lexer, files)?;
     lexer.end()?;
     let after = place_after(&lexer, is_begun);
-    parsed(alloc, lexer.tokens().as_slice(), after)
+    parsed(alloc, lexer.tokens().as_slice(), begin_of(files), after)
 }
 
 // Reads the Verilog files among these, and tells whether there is one.
@@ -65,25 +67,54 @@ fn place_after(lexer: &Lexer, is_begun: bool) -> Place
     }
 }
 
-// The design of tokens, behind which this place is.
-fn parsed(alloc: Global, tokens: &[Token], after: Place) -> Result<Design, Refusal>
-    ensures { Designs (tokens_answer tokens.now after) result }
+// The place of the first byte of the Verilog files.
+fn begin_of(files: &[TextFile<'_>]) -> Place
+    requires few { length files.now ≤ 8 }
+    ensures { result ≡ begin_from 1 (files_seen files.now) }
+{
+    let mut number: u32 = 1;
+    for file in files {
+        if is_design_word(file.word) {
+            return Place {
+                file: number,
+                line: 1,
+                column: 1,
+            };
+        }
+        number += 1;
+    }
+    Place {
+        file: 0,
+        line: 1,
+        column: 1,
+    }
+}
+
+// Where what comes later is told.
+fn later() -> Refusal
+    ensures { result ≡ to.Design S3 (place 1 1 1) }
+{
+    let place = Place {
+        file: 1,
+        line: 1,
+        column: 1,
+    };
+    Refusal::Design(DesignFault::S3, place)
+}
+
+// The design of tokens, which begin at one place, and behind which another one is.
+#[tactic(auto, unfolding(crate::specs::Acceptance::tokens_answer))]
+fn parsed(alloc: Global, tokens: &[Token], begin: Place, after: Place) -> Result<Design, Refusal>
+    ensures { Designs (tokens_answer begin tokens.now after) result }
 {
     let source = match parse(alloc, tokens, after) {
         Ok(source) => source,
         Err(ParseFault::Refused(fault, place)) => return Err(Refusal::Design(fault, place)),
         Err(ParseFault::NoMemory) => return Err(Refusal::NoMemory),
     };
-    match elaborate(alloc, &source)? {
+    match elaborate(alloc, begin, &source)? {
         Elaboration::Made(design) => Ok(design),
         Elaboration::Refused(fault, place) => Err(Refusal::Design(fault, place)),
-        Elaboration::Later => {
-            let place = Place {
-                file: 1,
-                line: 1,
-                column: 1,
-            };
-            Err(Refusal::Design(DesignFault::S3, place))
-        }
+        Elaboration::Later => Err(later()),
     }
 }

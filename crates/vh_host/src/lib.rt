@@ -16,11 +16,7 @@ mod judging;
 mod plain;
 mod reading;
 mod report;
-#[cfg(test)]
-mod script_tests;
 mod status;
-#[cfg(test)]
-mod tests;
 mod transcript;
 mod write;
 

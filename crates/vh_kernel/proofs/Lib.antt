@@ -8,12 +8,12 @@ mod OccurrencesLemmas
 pub mod StepLemmas
 -- The step and its table are one.
 pub mod TableLemmas
--- Serials rise behind each label of a process and each entry that is picked.
-pub mod SerialsLemmas
--- What isn't said does nothing, and changes in order.
-mod ProcessesLemmas
--- Serials rise, and each is given once.
+-- What holds of the queue behind each label of a process and each entry that is picked.
+pub mod KeepsLemmas
+-- What holds of the queue in every state: serials rise, and each is given once.
 pub mod SoundLemmas
+-- And what is noted of follow entries tells which stand.
+mod NotedLemmas
 -- A run is one list of labels.
 pub mod RunLemmas
 -- The state after is a function of the state before and the label.

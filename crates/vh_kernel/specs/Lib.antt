@@ -14,6 +14,8 @@ pub mod Statements
 pub mod Step
 -- The step as a table: a row for each label; and the laws that the two are one.
 pub mod Table
+-- What is noted of follow entries in every state of a run.
+pub mod Noted
 -- The transcript's lines.
 pub mod Line
 -- Runs under an order of choice, and their text.

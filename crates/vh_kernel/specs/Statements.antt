@@ -34,8 +34,7 @@ next_on next.Stops p cs = top.Leave cause.Stop ∷ top.Process p ∷ cs
 abbrev pub after_next : Next → ℕ → State → State
 after_next n p s = record s { control = next_on n p s.control }
 
--- The next label of a process that was on top of control. Where it has none, or one of which isn't said yet what it does,
--- nothing is done. (own)
+-- The next label of a process that was on top of control. Where it has none, nothing is done. (own)
 abbrev pub performed_outcome : Result Performed (Option Fault) → ℕ → State → Outcome
 performed_outcome (Err None) p s = silently s
 performed_outcome (Err (Some f)) p s = Err f

@@ -1,4 +1,5 @@
 ghost use Rattle.vh_kernel.specs.Table.{StepsByTable, TableBySteps, OpensSound, StaysSound, OneStateAfter};
+ghost use Rattle.vh_kernel.specs.Noted.{OpensNoted, StaysNoted, TellsStanding, StandsOnce};
 ghost use Rattle.vh_kernel.specs.Run.{OneRun};
 
 /// The laws of the machine's step, of every state and every choice. It does nothing: its
@@ -14,6 +15,13 @@ pub fn step_laws()
     ensures stays { StaysSound }
     // so that the state after is a function of the state before and the label.
     ensures one_after { OneStateAfter }
+
+    // Of each force and each procedural assign one follow entry stands at most, and the serial that
+    // was noted last tells whether it does.
+    ensures opens_noted { OpensNoted }
+    ensures stays_noted { StaysNoted }
+    ensures tells_standing { TellsStanding }
+    ensures stands_once { StandsOnce }
 
     // Under an order of choice there is one run, but for the numbers of new handles.
     ensures one_run { OneRun }

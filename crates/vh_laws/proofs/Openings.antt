@@ -9,12 +9,13 @@ use Rattle.vh_kernel.specs.Settle.{settled}
 use Rattle.vh_kernel.specs.State.{State, opening_agenda, world_before}
 use Rattle.vh_proc.specs.Processes.{Queued}
 use Rattle.vh_simulation.specs.Activity.{Activity, activity, first_entries, no_monitor}
-use Rattle.vh_store.specs.Opening.{opening_record}
+use Rattle.vh_simulation.specs.Follows.{no_serials}
+use Rattle.vh_store.specs.Opening.{opening_wired}
 
 abbrev activity_of : Shape → Queued → Activity
 activity_of d b =
-    activity d b.processes (record { records = map (opening_record d.exprs) d.objects; results = []; time = 0 })
-    (record { waits = []; readers = []; waiting = [] }) b.queue no_monitor
+    activity d b.processes (record { records = (opening_wired d).records; drivers = (opening_wired d).drivers; results = []; time = 0 })
+    (record { waits = []; readers = []; waiting = [] }) no_serials b.queue no_monitor
 
 abbrev opening_by : Shape → List ScriptData → State
 opening_by d scripts = settled (record {

@@ -34,8 +34,6 @@ mod reader;
 mod scale;
 mod setting;
 mod table;
-#[cfg(test)]
-mod tests;
 mod text;
 mod token;
 

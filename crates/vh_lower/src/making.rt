@@ -1,4 +1,4 @@
-ghost use Rattle.std.specs.Prelude.{◌≡◌, length, true, IfOk, OnOk};
+ghost use Rattle.std.specs.Prelude.{◌≡◌, ◌<◌, ◌≤◌, length, true, IfOk, OnOk};
 ghost use Rattle.vh_nodes.specs.Fits.{is_unit};
 ghost use Rattle.vh_ast.specs.Views.{delay_tree, expr_tree, lv_tree};
 ghost use Rattle.vh_bind.specs.declared.scope.Mode.TheVariants as mode;
@@ -18,7 +18,7 @@ use vh_bind_stmt::{Surroundings, add_calls, bind_delay, bind_output, bind_target
 use vh_code::{Delay as Wait, Operation, ShowCall, StmtInfo, StmtKind, Targets, Terms, WaitInfo};
 
 /// A value, with the calls that it makes.
-pub(crate) fn value_of(
+pub fn value_of(
     alloc: Global,
     around: &Surroundings,
     added: &mut Added,
@@ -33,6 +33,9 @@ pub(crate) fn value_of(
         result operations.new.items (added_seen added.new) }
     ensures sound { OnOk result
         (IsSound mode.Value (surroundings_seen around.now).scope (added_seen added.new).exprs) }
+    ensures below { IfOk result (λ e. e < length (added_seen added.new).exprs) }
+    ensures grows { OnOk result
+        (length (added_seen added.old).exprs ≤ length (added_seen added.new).exprs) }
 {
     let from = added.exprs.len();
     let Some(value) = bind_expr(alloc, &mut added.exprs, around.scope, e)? else {
@@ -68,7 +71,7 @@ pub(crate) fn targets_of(
 }
 
 /// A delay, with the calls that it makes.
-pub(crate) fn delay_of(
+pub fn delay_of(
     alloc: Global,
     around: &Surroundings,
     added: &mut Added,
@@ -163,11 +166,7 @@ pub(crate) fn with_wait(added: &mut Added, terms: Terms) -> Result<WaitId, Lower
 }
 
 /// A wait for what the expressions from one on read.
-pub(crate) fn reading_from(
-    alloc: Global,
-    added: &mut Added,
-    from: usize,
-) -> Result<WaitId, LowerFault>
+pub fn reading_from(alloc: Global, added: &mut Added, from: usize) -> Result<WaitId, LowerFault>
     ensures made { Makes (reading_from from (added_seen added.old)) result (added_seen added.new) }
     ensures exprs { (added_seen added.new).exprs ≡ (added_seen added.old).exprs }
 {

@@ -5,8 +5,10 @@ ghost use Rattle.vh_ast.specs.Views.{delay_tree, expr_tree};
 ghost use Rattle.vh_bind.specs.declared.scope.Mode.TheVariants as mode;
 ghost use Rattle.vh_bind.specs.Nodes.{IsSound};
 ghost use Rattle.vh_bind_stmt.specs.Views.{surroundings_seen};
+ghost use Rattle.vh_flow.specs.declared.code_kind.CodeKind.TheVariants as of;
 ghost use Rattle.vh_flow.specs.Places.{is_closed};
 ghost use Rattle.vh_flow.specs.Views.{flow_tree};
+ghost use Rattle.vh_lower.specs.Labels;
 ghost use Rattle.vh_lower.specs.Making.{Makes};
 ghost use Rattle.vh_lower.specs.Processes.{plain_label, plain_labels, plain_code, initial_labels, initial_code, drive_at, drive_behind, drive_labels, drive_code};
 ghost use Rattle.vh_lower.specs.Views.{added_seen, flows_seen};
@@ -242,4 +244,22 @@ pub fn drive_code(
     ensures closed { IfOk result (λ c. is_closed c ≡ true) }
 {
     laid_assignment(alloc, around, added, drivers, delay, value)
+}
+
+/// The code of a process that drives so, behind some labels.
+pub fn driving_code(
+    alloc: Global,
+    drivers: DriverIds,
+    value: ExprId,
+    delay: Option<Wait>,
+    wait: WaitId,
+    operations: Vec<Operation>,
+) -> Result<Code, NoMemory>
+    ensures { IfOk result (λ c. c
+        ≡ plain_code of.Assign (Labels.and_then operations.items
+        (drive_at drivers value delay wait))) }
+{
+    let drive = drive_at(alloc, drivers, value, delay, wait)?;
+    let operations = and_then(operations, drive)?;
+    plain_code(alloc, CodeKind::Assign, operations)
 }

@@ -17,8 +17,6 @@ mod made;
 mod name;
 mod parse;
 mod targets;
-#[cfg(test)]
-mod tests;
 mod word;
 
 pub use expr::{Standing, calls_in, expression, list, path};

@@ -64,15 +64,17 @@ inserted-last {X} f a (suc m) =
     next = omega arith
 
 -- One process more of those of a design.
-abbrev beginning : Control → Process
-beginning t = record { thread = t; parent = None; left = 0; held = None; entry = None }
+abbrev beginning : List (ℕ × ℕ) → Control → Process
+beginning us t = record { thread = t; parent = None; left = 0; held = None; entry = None; updates = us }
 
-pub one-more : (d : Shape) (k : ℕ) (t : Control) (es fs : List (ℕ × Process))
-    → es ≡ map (λ k. (k, opening_process d k)) (range_with_len 0 k) → t ≡ process_of d k → fs ≡ insert_entry nat_cmp es k (beginning t)
+pub one-more : (d : Shape) (k : ℕ) (t : Control) (us : List (ℕ × ℕ)) (es fs : List (ℕ × Process))
+    → es ≡ map (λ k. (k, opening_process d k)) (range_with_len 0 k) → t ≡ process_of d k → us ≡ []
+    → fs ≡ insert_entry nat_cmp es k (beginning us t)
     → fs ≡ map (λ k. (k, opening_process d k)) (range_with_len 0 (k + 1))
-one-more d k t es fs so_far begins more =
+one-more d k t us es fs so_far begins none more =
     more
-    ∙ ap (λ (u : Control). insert_entry nat_cmp es k (beginning u)) begins
+    ∙ ap (λ (vs : List (ℕ × ℕ)). insert_entry nat_cmp es k (beginning vs t)) none
+    ∙ ap (λ (u : Control). insert_entry nat_cmp es k (beginning [] u)) begins
     ∙ ap (λ (gs : List (ℕ × Process)). insert_entry nat_cmp gs k (opening_process d k)) so_far
     ∙ ap (λ (n : ℕ). insert_entry nat_cmp (map (λ k. (k, opening_process d k)) (range_with_len 0 k)) n (opening_process d n)) same
     ∙ inserted-last (opening_process d) 0 k

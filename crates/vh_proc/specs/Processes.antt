@@ -57,7 +57,7 @@ abbrev pub scheduled : Processes → Sensitivity → Events → Scheduled
 scheduled ps w q = record { processes = ps; sense = w; queue = q }
 
 -- What a label comes to: the world after it, what it changed, forced or released in order, and what the process does
--- next; or a fault in its place; or, of a label that isn't said yet, nothing.
+-- next; or a fault in its place; or, of a process without a label, nothing.
 pub record Step : Type 0 where
   pub world : World
   pub made : List Made
@@ -81,7 +81,8 @@ without_process p ps = record ps { all = remove_entry (is_at (nat_cmp p)) ps.all
 
 -- The processes of a design before all, each at its beginning. (9.9)
 abbrev pub opening_process : Shape → ℕ → Process
-opening_process d k = record { thread = process_of d k; parent = None; left = 0; held = None; entry = None }
+opening_process d k =
+    record { thread = process_of d k; parent = None; left = 0; held = None; entry = None; updates = [] }
 
 abbrev pub opening : Shape → Processes
 opening d = record {
@@ -135,7 +136,7 @@ resumed p b = with_ok (evaluated_now p b.queue) (λ q. Ok (queued (noted p b.que
 -- Branches of a fork begin in order, each a process of the next number with an entry. (9.8.2)
 abbrev pub branch : ℕ → Process → ℕ → ℕ → Process
 branch p t serial place =
-    record { thread = branch_of place t.thread; parent = Some p; left = 0; held = None; entry = Some serial }
+    record { thread = branch_of place t.thread; parent = Some p; left = 0; held = None; entry = Some serial; updates = [] }
 
 abbrev pub with_branch : ℕ → Process → Processes → Processes
 with_branch k t ps = record { all = insert_entry nat_cmp ps.all k t; next = k + 1 }

@@ -1,7 +1,7 @@
 -- What a label of a process does, a row for each kind in the order of the statements' table. (IEEE 1364-2005, clauses
 -- 9 and 10; the faults are own)
 use Rattle.std.specs.Prelude.{ℕ, List, [], ◌∷◌, length, Bool, true, false, if◌then◌else◌, Option, Some, None, unwrap_or, Result, Ok, Err}
-use Rattle.std.specs.Option.{option_map}
+use Rattle.std.specs.Option.{option_map, is_some}
 use Rattle.vh_base.specs.Checks.{with_ok}
 use Rattle.vh_base.specs.declared.faults.Fault.{Fault}
 use Rattle.vh_code.specs.declared.code.Goes.{Goes}
@@ -98,12 +98,12 @@ single_step d p t i single.Finish w = alone d p t i w
 single_step d p t i single.Stop w = alone d p t i w
 single_step d p t i (single.Trigger event) w = alone d p t i w
 single_step d p t i (single.Disable target) w = disabling d target p i.next w
-single_step d p t i (single.Force object e) w = Err None
-single_step d p t i (single.Release object) w = Err None
-single_step d p t i (single.Procedural object e) w = Err None
-single_step d p t i (single.Deassign object) w = Err None
+single_step d p t i (single.Force object e) w = alone d p t i w
+single_step d p t i (single.Release object) w = alone d p t i w
+single_step d p t i (single.Procedural object e) w = alone d p t i w
+single_step d p t i (single.Deassign object) w = alone d p t i w
 
--- A label, a row for each kind. What forces, procedural assigns and nets do isn't said yet.
+-- A label, a row for each kind.
 abbrev pub step_at : Shape → ℕ → Process → Instruction → Operation → World → Outcome
 step_at d p t i (op.Assign e targets) w = alone d p t i w
 step_at d p t i (op.Hold e width delay) w = alone d p t i w
@@ -120,7 +120,7 @@ step_at d p t i (op.Leave l) w = alone d p t i w
 step_at d p t i (op.SysCall call) w = alone d p t i w
 step_at d p t i (op.SysFunc call) w = alone d p t i w
 step_at d p t i (op.Single it) w = single_step d p t i it w
-step_at d p t i (op.Drive it) w = Err None
+step_at d p t i (op.Drive it) w = alone d p t i w
 step_at d p t i (op.Initial object e) w = initializing d p t i w
 
 -- The next label of a process.
@@ -135,40 +135,9 @@ step_of_process d p (Some t) w = step_in d p t (next_of d t.thread) w
 abbrev pub step_of : Shape → ℕ → World → Outcome
 step_of d p w = step_of_process d p (process_at p w.processes) w
 
--- Is it said what the label does? What forces, procedural assigns and nets do isn't yet.
-abbrev pub is_single_said : Single → Bool
-is_single_said (single.Show show) = true
-is_single_said single.Finish = true
-is_single_said single.Stop = true
-is_single_said (single.Trigger event) = true
-is_single_said (single.Disable target) = true
-is_single_said (single.Force object e) = false
-is_single_said (single.Release object) = false
-is_single_said (single.Procedural object e) = false
-is_single_said (single.Deassign object) = false
+-- Has a process a next label?
+abbrev pub has_next : Shape → Process → Bool
+has_next d t = is_some (next_of d t.thread)
 
-abbrev pub is_operation_said : Operation → Bool
-is_operation_said (op.Assign e targets) = true
-is_operation_said (op.Hold e width delay) = true
-is_operation_said (op.Store targets) = true
-is_operation_said (op.Schedule s) = true
-is_operation_said (op.Pause it) = true
-is_operation_said (op.Test condition otherwise) = true
-is_operation_said (op.Case c) = true
-is_operation_said (op.Loop it) = true
-is_operation_said (op.Fork places) = true
-is_operation_said op.End = true
-is_operation_said (op.Enter routine inputs) = true
-is_operation_said (op.Leave l) = true
-is_operation_said (op.SysCall call) = true
-is_operation_said (op.SysFunc call) = true
-is_operation_said (op.Single it) = is_single_said it
-is_operation_said (op.Drive it) = false
-is_operation_said (op.Initial object e) = true
-
--- Of a process that has a next label.
-abbrev pub is_next_said : Shape → Process → Bool
-is_next_said d t = unwrap_or (option_map (λ i. is_operation_said i.operation) (next_of d t.thread)) false
-
-abbrev pub is_said : Shape → ℕ → Processes → Bool
-is_said d p ps = unwrap_or (option_map (is_next_said d) (process_at p ps)) false
+abbrev pub has_label : Shape → ℕ → Processes → Bool
+has_label d p ps = unwrap_or (option_map (has_next d) (process_at p ps)) false

@@ -9,7 +9,7 @@ use std::alloc::Global;
 use vh_base::{Fault, MOST_NUMBERS, ProcId};
 use vh_design::{Design, Goes};
 use vh_queue::{Queue, Region, Work};
-use vh_turn::{Process, StepFault, add_entry};
+use vh_turn::{Process, StepFault, Updates, add_entry};
 
 impl Threads {
     // A branch of a fork begins at a place of the code, with the next number and an entry.
@@ -41,6 +41,7 @@ impl Threads {
             left: 0,
             held: None,
             entry: Some(serial),
+            updates: Updates::new(alloc),
         };
         keep(&mut self.all, self.next, process)?;
         self.next += 1;

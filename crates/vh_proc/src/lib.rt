@@ -5,8 +5,7 @@
 //! from the numbers of processes to what each has still to do and waits for. [`Threads::step`]
 //! performs the next label of one, by `step_of` of `specs/Steps.antt`, which has a row for each
 //! kind of label; a fault comes in its place exactly where the row says so, and want of memory is
-//! the one free answer. What nets, forces and procedural assigns do isn't said yet, and no such
-//! label may come next.
+//! the one free answer.
 //!
 //! It stands on `vh_turn` for labels that touch no other process, on `vh_thread` for where a
 //! process goes on, and on `vh_sense` and `vh_queue` for what it waits for.

@@ -5,7 +5,7 @@ ghost use Rattle.vh_design.specs.Shape.{Shape};
 ghost use Rattle.vh_design.specs.Validity.{IsValid};
 ghost use Rattle.vh_thread.specs.Control.{next_of};
 ghost use Rattle.vh_proc.specs.Processes.{AllRun, process_at, changed, arrived_in, gone_on, with_left, one_less, opening, noted, resumed, queued, world_of, step_with};
-ghost use Rattle.vh_proc.specs.Steps.{is_operation_said, is_said, step_of, alone, after_fork};
+ghost use Rattle.vh_proc.specs.Steps.{has_label, step_of, single_step, alone, after_fork};
 ghost use Rattle.vh_turn.specs.Turns.{is_own};
 ghost use Rattle.vh_turn.specs.Own.{FailsBy};
 
@@ -20,7 +20,7 @@ use vh_queue::{Queue, Region, Work};
 use vh_sense::Sense;
 use vh_store::Store;
 use vh_thread::Thread;
-use vh_turn::{Next, Process, Room, StepFault, add_entry, turn};
+use vh_turn::{Next, Process, Room, StepFault, Updates, add_entry, turn};
 
 /// The processes of a simulation, which contracts see as `Processes`.
 #[derive(Drop)]
@@ -68,20 +68,6 @@ pub(crate) fn keep(
     Ok(())
 }
 
-// Is it said what a label does?
-fn is_operation_said(operation: &Operation) -> bool
-    ensures { result ≡ is_operation_said operation.now }
-{
-    !matches!(
-        operation,
-        Operation::Drive(_)
-            | Operation::Single(Single::Force { .. })
-            | Operation::Single(Single::Release(_))
-            | Operation::Single(Single::Procedural { .. })
-            | Operation::Single(Single::Deassign(_))
-    )
-}
-
 // What a process does behind a fork with these branches.
 fn after_fork(places: &[u32]) -> Next
     ensures { result ≡ after_fork places.now }
@@ -107,6 +93,7 @@ impl Threads {
                 left: 0,
                 held: None,
                 entry: None,
+                updates: Updates::new(alloc),
             };
             keep(&mut all, k, process)?;
         }
@@ -227,18 +214,55 @@ impl Threads {
         })
     }
 
-    /// Has a process a next label, and is it one that [`Threads::step`] performs?
-    pub fn is_said(&self, d: &Design, p: ProcId) -> bool
+    // A statement with one label that goes on at once.
+    fn single(
+        &mut self,
+        alloc: Global,
+        d: &Design,
+        s: &mut Store,
+        sense: &mut Sense,
+        q: &mut Queue,
+        p: ProcId,
+        i: &Instruction,
+        it: Single,
+    ) -> Result<Stepped, StepFault>
+        requires runs { AllRun d.now self.old }
+        requires there { IfSome (process_at p self.old) (λ t. next_of d.now t.thread ≡ Some i.now) }
+        requires known { IsSome (process_at p self.old) }
+        requires valid { IsValid d.now }
+        requires is { i.now.operation ≡ Operation.Single it }
+        requires waits { (sense.old).waits ≡ (d.now).waits }
+        requires now { (s.old).time ≡ (q.old).time }
+        ensures done { IfSome (process_at p self.old) (λ t. IfOk result
+            (λ r. single_step d.now p t i.now it (world_of self.old s.old sense.old q.old)
+            ≡ Ok (step_with (world_of self.new s.new sense.new q.new) r.made r.next))) }
+        ensures fails { IfSome (process_at p self.old) (λ t.
+            IfErr result (FailsBy (single_step d.now p t i.now it
+            (world_of self.old s.old sense.old q.old)))) }
+        ensures time { (s.new).time ≡ (s.old).time }
+        ensures kept { (sense.new).waits ≡ (sense.old).waits }
+        ensures still { (q.new).time ≡ (q.old).time }
+        ensures runs { OnOk result (AllRun d.now self.new) }
+    {
+        match it {
+            Single::Disable(target) => {
+                self.arrive(d, p);
+                let next = self.disable(alloc, d, sense, q, p, i.next, target)?;
+                Ok(quietly(alloc, next))
+            }
+            _ => self.alone(alloc, d, s, sense, q, p, i),
+        }
+    }
+
+    /// Has a process a next label?
+    pub fn has_label(&self, d: &Design, p: ProcId) -> bool
         requires { AllRun d.now self.now }
-        ensures { result ≡ is_said d.now p self.now }
+        ensures { result ≡ has_label d.now p self.now }
     {
         let Some(process) = self.all.get(&p.number()) else {
             return false;
         };
-        match process.thread.next(d) {
-            Some(i) => is_operation_said(&i.operation),
-            None => false,
-        }
+        process.thread.next(d).is_some()
     }
 
     /// Performs the next label of a process.
@@ -252,7 +276,7 @@ impl Threads {
         p: ProcId,
     ) -> Result<Stepped, StepFault>
         requires runs { AllRun d.now self.old }
-        requires said { is_said d.now p self.old ≡ true }
+        requires there { has_label d.now p self.old ≡ true }
         requires waits { (sense.old).waits ≡ (d.now).waits }
         requires now { (s.old).time ≡ (q.old).time }
         ensures done { IfOk result (λ r. step_of d.now p (world_of self.old s.old sense.old q.old)
@@ -286,11 +310,7 @@ impl Threads {
                 self.all.remove(&p.number());
                 Ok(stepped)
             }
-            Operation::Single(Single::Disable(target)) => {
-                self.arrive(d, p);
-                let next = self.disable(alloc, d, sense, q, p, i.next, *target)?;
-                Ok(quietly(alloc, next))
-            }
+            Operation::Single(it) => self.single(alloc, d, s, sense, q, p, i, *it),
             _ => self.alone(alloc, d, s, sense, q, p, i),
         }
     }

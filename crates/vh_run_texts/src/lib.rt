@@ -11,9 +11,15 @@ mod expressions;
 #[cfg(test)]
 mod forks;
 #[cfg(test)]
+mod hierarchy;
+#[cfg(test)]
 mod orders;
 #[cfg(test)]
 mod rows;
+#[cfg(test)]
+mod runs;
+#[cfg(test)]
+mod scripts;
 #[cfg(test)]
 mod shows;
 #[cfg(test)]

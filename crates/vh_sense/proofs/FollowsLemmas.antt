@@ -11,7 +11,8 @@ use Rattle.std.proofs.lemmas.Option.{slice_get_within, get_or_from_slice_get}
 use Rattle.std.specs.BTreeMap.Range.{range_contains}
 use Rattle.std.specs.BTreeSet.{BTreeSet, insert_key, keys_between}
 use Rattle.std.specs.Cmp.{nat_cmp_is}
-use Rattle.std.specs.List.{fold, find, filter_map, flat_map, cons_option, list_all, range_with_len}
+use Rattle.std.specs.List.{fold, find, filter_map, flat_map, cons_option, list_all, range_with_len, AllByRecursion}
+use Rattle.std.specs.List.Sorted.{IsStrictlySortedBy}
 use Rattle.std.specs.Option.{option_map}
 use Rattle.std.specs.Ordering.{nat_cmp, bool_cmp, ordering_then, match_ordering, is_lt}
 use Rattle.std.specs.declared.cmp.Ordering.{Ordering}
@@ -226,3 +227,18 @@ no_follow after s none = rw (find_behind after s.keys, none) refl
 pub a_follow : (after : Option Follow) (s : BTreeSet Key) (k : Key) (rest : List Key) → keys_between (cmp-value).it (behind after) Unbounded s ≡ k ∷ rest
     → Some (follow_at k) ≡ first_behind after (follows_in s)
 a_follow after s k rest some = rw (find_behind after s.keys, some) refl
+
+-- The statements of keys in order are in order.
+all_less : (k : Key) (ks : List Key) → AllByRecursion (λ j. (cmp-value).it k j ≡ Less) ks
+    → AllByRecursion (λ f. follow_cmp (follow_at k) f ≡ Less) (map follow_at ks)
+all_less k [] all = tt
+all_less k (j ∷ ks) all = (sym (same_order k j) ∙ all.0, all_less k ks all.1)
+
+pub follows_sorted : (ks : List Key) → IsStrictlySortedBy (cmp-value).it ks → IsStrictlySortedBy follow_cmp (map follow_at ks)
+unfolding IsStrictlySortedBy
+follows_sorted [] sorted = tt
+follows_sorted (k ∷ ks) sorted = (all_less k ks sorted.0, follows_sorted ks sorted.1)
+
+pub none_sorted : IsStrictlySortedBy follow_cmp []
+unfolding IsStrictlySortedBy
+none_sorted = tt

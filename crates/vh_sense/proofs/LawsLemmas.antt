@@ -1,5 +1,5 @@
 -- Lemmas on `specs/Laws.antt`: what is found first in a rising list stands in front of what is found later.
-use Rattle.std.proofs.Common.{◌≡◌, ◌≢◌, ◌∙◌, ◌<◌, ℕ, Bool, true, false, not, ◌&&◌, ◌||◌, ◌==◌, cond, nat_lt, List, [], ◌∷◌, filter, Option, Some, None, refl, sym, ap, subst, arith}
+use Rattle.std.proofs.Common.{◌≡◌, ◌∙◌, ℕ, Bool, true, false, ◌&&◌, ◌||◌, cond, List, [], ◌∷◌, filter, Option, Some, None, refl, sym, ap, subst, arith}
 use Rattle.std.proofs.lemmas.Bool.{eq-eqb, ne_eqb, ltb-true}
 use Rattle.std.proofs.lemmas.Cmp.{nat_cmp_total, eq_by_cmp_equiv, then_total, on_total, back_total}
 use Rattle.std.proofs.lemmas.List.Kept.{IsStrictlySortedBy-filter}
@@ -9,26 +9,24 @@ use Rattle.std.proofs.lemmas.Map.Lookups.{btree_set_from_contains, exact_unsigne
 use Rattle.std.proofs.lemmas.Map.Made.{is_some-lookup}
 use Rattle.std.proofs.lemmas.Map.Views.{tells_apart}
 use Rattle.std.specs.BTreeMap.{is_at}
-use Rattle.std.specs.BTreeSet.{BTreeSet, contains, insert_key}
+use Rattle.std.specs.BTreeSet.{contains, insert_key}
 use Rattle.std.specs.Cmp.{IsTotalOrder, bool_cmp_total}
 use Rattle.std.specs.List.{find, fold, list_any, AllByRecursion}
 use Rattle.std.specs.List.Sorted.{IsStrictlySortedBy}
 use Rattle.std.specs.Map.{keys_of, lookup, remove_entry}
 use Rattle.std.specs.Option.{is_some}
-use Rattle.std.specs.Ordering.{nat_cmp, bool_cmp, eq_by_cmp, is_lt, is_eq, ordering_reverse, match_ordering, then_cmp, on, flip_args}
+use Rattle.std.specs.Ordering.{nat_cmp, is_lt, is_eq, ordering_reverse, match_ordering}
 use Rattle.std.specs.declared.cmp.Ordering.{Ordering}
 use Rattle.std.specs.declared.cmp.Ordering.TheVariants.{Less, Equal, Greater}
 use Rattle.vh_code.specs.declared.change.Change.{Change}
-use Rattle.vh_code.specs.declared.wait.WaitInfo.{WaitInfo}
-use Rattle.vh_design.specs.Shape.{Shape}
 use Rattle.vh_sense.specs.declared.follow.Follow.{Follow}
 use Rattle.vh_sense.specs.Waits.{is_met_at}
 use Rattle.vh_sense.specs.Reads.{reads}
 use Rattle.vh_sense.specs.Follows.{follow_cmp, statements, followers, is_behind, first_behind}
-use Rattle.vh_sense.specs.Sensitivity.{Sensitivity, wait_of, wakes, woken, is_above, next_woken, without_wait}
-use Rattle.vh_sense.specs.Laws.{IsRising, woken_above, followers_behind, WasMet, WakesWhoIsMet, LeavesWhoIsNotMet, LeavesOthers, WakesInTurn, WakesToTheEnd, FollowsInTurn, FollowsToTheEnd}
+use Rattle.vh_sense.specs.Sensitivity.{Sensitivity, wait_of, wakes, woken, is_above, without_wait}
+use Rattle.vh_sense.specs.Laws.{IsRising, woken_above, those_behind, WasMet, WakesWhoIsMet, LeavesWhoIsNotMet, LeavesOthers, WakesInTurn, WakesToTheEnd, FollowsInTurn, FollowsToTheEnd}
 use Rattle.vh_sense.proofs.ViewsLemmas.{at_is}
-use Rattle.vh_sense.proofs.SensitivityLemmas.{met_waits, less_is, passes, set_of}
+use Rattle.vh_sense.proofs.SensitivityLemmas.{less_is, passes, set_of}
 
 -- Does a key stand behind another, where there is another?
 abbrev past : {K : Type 0} → (K → K → Ordering) → Option K → K → Bool
@@ -280,12 +278,19 @@ behind_past : (after : Option Follow) (f : Follow) → is_behind after f ≡ pas
 behind_past None f = refl
 behind_past (Some a) f = refl
 
+pub behind_in_turn : (fs : List Follow) (after : Option Follow) (f : Follow) → IsStrictlySortedBy follow_cmp fs → first_behind after fs ≡ Some f
+    → those_behind after fs ≡ f ∷ those_behind (Some f) fs
+behind_in_turn fs after f sorted found =
+    filter_same (is_behind after) (past follow_cmp after) fs (behind_past after)
+    ∙ in_turn follow_total fs after f sorted (sym (find_same (is_behind after) (past follow_cmp after) fs (behind_past after)) ∙ found)
+    ∙ ap (λ (t : List Follow). f ∷ t) (filter_same (past follow_cmp (Some f)) (is_behind (Some f)) fs (λ g. sym (behind_past (Some f) g)))
+
+pub behind_to_the_end : (fs : List Follow) (after : Option Follow) → first_behind after fs ≡ None → those_behind after fs ≡ []
+behind_to_the_end fs after found = none_left (is_behind after) fs found
+
 pub follows_in_turn : FollowsInTurn
 follows_in_turn d o after f found =
-    filter_same (is_behind after) (past follow_cmp after) (followers d o) (behind_past after)
-    ∙ in_turn follow_total (followers d o) after f (sorted_rising (filter (λ (g : Follow). reads d.exprs o g.expr) (statements d)) [] no_statements)
-    (sym (find_same (is_behind after) (past follow_cmp after) (followers d o) (behind_past after)) ∙ found)
-    ∙ ap (λ (t : List Follow). f ∷ t) (filter_same (past follow_cmp (Some f)) (is_behind (Some f)) (followers d o) (λ g. sym (behind_past (Some f) g)))
+    behind_in_turn (followers d o) after f (sorted_rising (filter (λ (g : Follow). reads d.exprs o g.expr) (statements d)) [] no_statements) found
 
 pub follows_to_the_end : FollowsToTheEnd
-follows_to_the_end d o after found = none_left (is_behind after) (followers d o) found
+follows_to_the_end d o after found = behind_to_the_end (followers d o) after found

@@ -1,6 +1,5 @@
 -- Lemmas on `specs/Sensitivity.antt`: the least process that is found among those that wait on the object is the least of all.
-use Rattle.std.proofs.Common.{◌≡◌, ◌∙◌, ◌≤◌, ◌<◌, ℕ, Bool, true, false, ◌&&◌, ◌||◌, ◌==◌, cond, nat_lt, List, [], ◌∷◌, map, filter, length, slice_index_or, Option, Some, None, slice_get, refl, sym, ap, inl, inr, arith}
-use Rattle.std.proofs.lemmas.Bool.{eqb-true}
+use Rattle.std.proofs.Common.{◌≡◌, ◌∙◌, ◌≤◌, ◌<◌, ℕ, Bool, true, false, ◌&&◌, ◌||◌, ◌==◌, cond, nat_lt, List, [], ◌∷◌, map, filter, length, slice_index_or, Option, Some, None, slice_get, refl, sym, ap, subst, arith}
 use Rattle.std.proofs.lemmas.Cmp.{nat_cmp_total, eq_by_cmp_equiv}
 use Rattle.std.proofs.lemmas.List.Kept.{IsStrictlySortedBy-filter}
 use Rattle.std.proofs.lemmas.Map.Lookups.{btree_set_from_contains, exact_unsigned}
@@ -22,16 +21,15 @@ use Rattle.std.specs.declared.ops.Bound.TheVariants.{Unbounded}
 use Rattle.vh_code.specs.declared.change.Change.{Change}
 use Rattle.vh_code.specs.declared.wait.Term.{Term}
 use Rattle.vh_code.specs.declared.wait.WaitInfo.{WaitInfo}
-use Rattle.vh_sense.specs.Waits.{object_of, is_met_by, meets, is_met, met_by, is_met_at}
+use Rattle.vh_sense.specs.Waits.{object_of, is_met_by, meets, met_by, is_met_at}
 use Rattle.vh_sense.specs.declared.follow.Follow.{Follow}
 use Rattle.vh_sense.specs.declared.follow.Key.{Key}
 use Rattle.vh_sense.specs.contracts.follow.KeyOrd.TheImpl.{cmp-value}
-use Rattle.vh_sense.specs.Follows.{first_behind}
+use Rattle.vh_sense.specs.Follows.{follow_cmp, first_behind}
 use Rattle.vh_sense.specs.Sensitivity.{Sensitivity, is_above, next_woken, with_wait, readers_of, next_follow}
 use Rattle.vh_sense.specs.Views.{names, wait_names, names_at, is_in, watches, above, behind, Holds, follow_at, follows_in, set_at}
-use Rattle.vh_sense.proofs.FollowsLemmas.{no_follow, a_follow}
+use Rattle.vh_sense.proofs.FollowsLemmas.{no_follow, a_follow, follows_sorted}
 use Rattle.vh_sense.proofs.ViewsLemmas.{readers_are}
-use Rattle.vh_nodes.proofs.FitsLemmas.{and_left, and_right}
 
 -- A change that meets a wait is of an object that the wait names.
 terms_met : (c : Change) (ts : List Term) → list_any (meets c) ts ≡ true → names ts c.object.id ≡ true
@@ -198,6 +196,19 @@ pub follow_some : (now : Sensitivity) (waits : List WaitInfo) (sets given : List
 follow_some now waits sets given es o s c after from keys k rest is same there within at bound between some =
     a_follow after s k rest (ap (λ (b : Bound Key). keys_between (cmp-value).it b Unbounded s) (sym bound) ∙ sym between ∙ some)
     ∙ ap (λ (fs : List Follow). first_behind after fs) (readers_there now waits sets given es o c.object.id s is same there within at)
+
+pub follow_sorted : (now : Sensitivity) (waits : List WaitInfo) (sets given : List (BTreeSet Key)) (es : List (ℕ × ℕ)) (o id : ℕ) (s : BTreeSet Key)
+    → seen waits (map follows_in sets) es ≡ now → given ≡ sets → s ≡ slice_index_or given o s → o < length given → o ≡ id
+    → IsStrictlySortedBy (cmp-value).it s.keys → IsStrictlySortedBy follow_cmp (readers_of id now)
+follow_sorted now waits sets given es o id s is same there within at sorted =
+    subst (IsStrictlySortedBy follow_cmp) (readers_there now waits sets given es o id s is same there within at) (follows_sorted s.keys sorted)
+
+pub none_follow_there : (now : Sensitivity) (waits : List WaitInfo) (sets given : List (BTreeSet Key)) (es : List (ℕ × ℕ)) (o id : ℕ)
+    → seen waits (map follows_in sets) es ≡ now → given ≡ sets → length given ≤ o → o ≡ id → readers_of id now ≡ []
+none_follow_there now waits sets given es o id is same past at =
+    let size : length given ≡ length sets = ap length same in
+    sym (ap (λ (n : Sensitivity). readers_of id n) is) ∙ readers_are sets id
+    ∙ ap set_at (slice_get_past sets id (omega (arith, size, past, at)))
 
 pub wait_is : (now : Sensitivity) (waits : List WaitInfo) (readers : List (List Follow)) (es without after_that : List (ℕ × ℕ)) (p q w v : ℕ)
     → seen waits readers es ≡ now → without ≡ remove_entry (is_at (nat_cmp q)) es → after_that ≡ insert_entry nat_cmp without q v → q ≡ p → v ≡ w

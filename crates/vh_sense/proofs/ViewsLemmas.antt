@@ -8,7 +8,7 @@ use Rattle.std.proofs.lemmas.Option.{slice_get_within, get_or_from_slice_get, sl
 use Rattle.std.specs.BTreeMap.{is_at}
 use Rattle.std.specs.BTreeSet.{BTreeSet, insert_key}
 use Rattle.std.specs.Cmp.{nat_cmp_is}
-use Rattle.std.specs.List.{list_any, list_all}
+use Rattle.std.specs.List.{list_all}
 use Rattle.std.specs.List.Sorted.{IsStrictlySortedBy}
 use Rattle.std.specs.Map.{keys_of, lookup}
 use Rattle.std.specs.Ordering.{nat_cmp, is_eq}
@@ -23,12 +23,11 @@ use Rattle.vh_code.specs.declared.wait.WaitInfo.{WaitInfo}
 use Rattle.vh_code.specs.Codes.{fits_term, fits_wait}
 use Rattle.vh_design.specs.Shape.{Shape}
 use Rattle.vh_design.specs.Validity.{IsValid}
-use Rattle.vh_sense.specs.declared.follow.Follow.{Follow}
 use Rattle.vh_sense.specs.declared.follow.Key.{Key}
 use Rattle.vh_sense.specs.contracts.follow.KeyOrd.TheImpl.{cmp-value}
 use Rattle.vh_sense.specs.Waits.{object_of}
 use Rattle.vh_sense.specs.Follows.{follow_cmp}
-use Rattle.vh_sense.specs.Views.{names, wait_names, names_at, is_in, watches, AllEmpty, set_to, SetsTo, Holds, follow_at, follows_in, set_at, follows_at, noted}
+use Rattle.vh_sense.specs.Views.{names, wait_names, names_at, is_in, AllEmpty, set_to, SetsTo, Holds, follow_at, follows_in, follows_at, noted}
 use Rattle.vh_sense.proofs.FollowsLemmas.{map-insert_key, same_order}
 
 -- A term names its object; so do some terms, and one more.

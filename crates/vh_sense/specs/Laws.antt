@@ -8,7 +8,7 @@ use Rattle.vh_design.specs.Shape.{Shape}
 use Rattle.vh_sense.specs.declared.follow.Follow.{Follow}
 use Rattle.vh_sense.specs.Waits.{is_met_at}
 use Rattle.vh_sense.specs.Follows.{followers, is_behind, first_behind}
-use Rattle.vh_sense.specs.Sensitivity.{Sensitivity, wait_of, woken, is_above, next_woken, with_wait, without_wait}
+use Rattle.vh_sense.specs.Sensitivity.{Sensitivity, wait_of, woken, is_above, next_woken, without_wait}
 
 -- The processes that wait stand by rising number; each call says so.
 abbrev pub IsRising : Sensitivity → Type 0
@@ -18,8 +18,11 @@ IsRising s = IsStrictlySortedBy nat_cmp (keys_of s.waiting)
 abbrev pub woken_above : Option ℕ → Sensitivity → Change → List ℕ
 woken_above after s c = filter (is_above after) (woken s c)
 
+abbrev pub those_behind : Option Follow → List Follow → List Follow
+those_behind after fs = filter (is_behind after) fs
+
 abbrev pub followers_behind : Option Follow → Shape → ℕ → List Follow
-followers_behind after d o = filter (is_behind after) (followers d o)
+followers_behind after d o = those_behind after (followers d o)
 
 -- What was woken waited, for what the change meets, and waits for nothing any more.
 pub record WasMet (p : ℕ) (c : Change) (s : Sensitivity) : Type 0 where

@@ -2,7 +2,8 @@ ghost use Rattle.std.specs.Prelude.{◌≡◌, ◌<◌, ◌==◌, ℕ, [], false
 ghost use Rattle.std.specs.List.Sorted.{IsStrictlySortedBy};
 ghost use Rattle.std.specs.Map.{keys_of};
 ghost use Rattle.std.specs.Ordering.{nat_cmp};
-ghost use Rattle.vh_sense.specs.Sensitivity.{IsOpening, with_wait, without_wait, woken, next_woken, after_woken, next_follow};
+ghost use Rattle.vh_sense.specs.Follows.{follow_cmp};
+ghost use Rattle.vh_sense.specs.Sensitivity.{IsOpening, with_wait, without_wait, woken, next_woken, after_woken, readers_of, next_follow};
 ghost use Rattle.vh_sense.specs.Views.{behind, watches};
 
 use crate::follow::{Follow, Key};
@@ -122,7 +123,8 @@ impl Sense {
     /// whose expression reads the changed object or a word of it (IEEE 1364-2005, 9.3). It takes the
     /// logarithm of how many do.
     pub fn next_follow(&self, c: &Change, after: Option<Follow>) -> Option<Follow>
-        ensures { result ≡ next_follow self.now c.now after }
+        ensures follow { result ≡ next_follow self.now c.now after }
+        ensures rising { IsStrictlySortedBy follow_cmp (readers_of c.now.object.id self.now) }
     {
         let readers = self.readers.get(c.object.id.number() as usize)?;
         let key = readers.range((behind(after), Bound::Unbounded)).next()?;

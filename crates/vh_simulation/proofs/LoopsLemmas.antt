@@ -13,8 +13,12 @@ use Rattle.vh_design.specs.Shape.{Shape}
 use Rattle.vh_logic.specs.Vector.{Vector}
 use Rattle.vh_proc.specs.Processes.{Processes, Queued, Scheduled, queued, scheduled, resumed}
 use Rattle.vh_queue.specs.Events.{is_full}
+use Rattle.vh_sense.specs.declared.follow.Follow.{Follow}
+use Rattle.vh_sense.specs.Laws.{those_behind}
 use Rattle.vh_sense.specs.Sensitivity.{is_above, without_wait}
 use Rattle.vh_simulation.specs.Activity.{evaluations}
+use Rattle.vh_simulation.specs.Follows.{Followed, one_followed, all_followed}
+use Rattle.vh_store.specs.Contents.{Contents}
 use Rattle.vh_simulation.specs.Entries.{Agenda, woken_one, all_woken, entered_by, all_entered}
 use Rattle.vh_simulation.specs.Labels.{are_same}
 use Rattle.vh_turn.specs.declared.fault.StepFault.{StepFault}
@@ -37,11 +41,11 @@ pub none-woken : (all : List ℕ) (o : Scheduled) → all ≡ [] → all_woken a
 unfolding all_woken
 none-woken all o is = ap (λ (qs : List ℕ). all_woken qs o) is
 
-pub next-entered : (d : Shape) (m : Made) (ms all : List Made) (a b : Agenda) → all ≡ m ∷ ms → entered_by d m.change a ≡ Ok b
-    → all_entered d ms b ≡ all_entered d all a
+pub next-entered : (d : Shape) (s : Contents) (m : Made) (ms all : List Made) (a b : Agenda) → all ≡ m ∷ ms → entered_by d s m.change a ≡ Ok b
+    → all_entered d s ms b ≡ all_entered d s all a
 unfolding all_entered
-next-entered d m ms all a b is done =
-    sym (ap (λ (r : Result Agenda (Option Fault)). with_ok r (all_entered d ms)) done) ∙ ap (λ (ns : List Made). all_entered d ns a) (sym is)
+next-entered d s m ms all a b is done =
+    sym (ap (λ (r : Result Agenda (Option Fault)). with_ok r (all_entered d s ms)) done) ∙ ap (λ (ns : List Made). all_entered d s ns a) (sym is)
 
 -- All that are woken are above none.
 pub above-none : (ps : List ℕ) → filter (is_above None) ps ≡ ps
@@ -93,3 +97,25 @@ fails-woken p ps all o step.NoMemory is fails = tt
 pub next-same : (vs ws : List Vector) (i : ℕ) (x y : Vector) → i < length vs → i < length ws
     → are_same (drop i vs) (drop i ws) ≡ (is_same_value (get_or vs i x) (get_or ws i y) && are_same (drop (i + 1) vs) (drop (i + 1) ws))
 next-same vs ws i x y in_vs in_ws = rw (next-drop vs i x in_vs, next-drop ws i y in_ws) refl
+
+-- One turn over what follows a change.
+pub next-followed : (s : Contents) (f : Follow) (fs all : List Follow) (b c : Followed) → all ≡ f ∷ fs → one_followed s f b ≡ Ok c
+    → all_followed s fs c ≡ all_followed s all b
+unfolding all_followed
+next-followed s f fs all b c is done =
+    sym (ap (λ (r : Result Followed (Option Fault)). with_ok r (all_followed s fs)) done) ∙ ap (λ (gs : List Follow). all_followed s gs b) (sym is)
+
+pub none-followed : (s : Contents) (all : List Follow) (b : Followed) → all ≡ [] → all_followed s all b ≡ Ok b
+unfolding all_followed
+none-followed s all b is = ap (λ (gs : List Follow). all_followed s gs b) is
+
+pub fails-followed : (s : Contents) (f : Follow) (fs all : List Follow) (b : Followed) (e : StepFault) → all ≡ f ∷ fs
+    → FailsBy (one_followed s f b) e → FailsBy (all_followed s all b) e
+unfolding all_followed
+fails-followed s f fs all b (step.Run g) is fails =
+    ap (λ (gs : List Follow). all_followed s gs b) is ∙ ap (λ (r : Result Followed (Option Fault)). with_ok r (all_followed s fs)) fails
+fails-followed s f fs all b step.NoMemory is fails = tt
+
+pub behind-none : (fs : List Follow) → those_behind None fs ≡ fs
+behind-none [] = refl
+behind-none (f ∷ fs) = ap (λ (gs : List Follow). f ∷ gs) (behind-none fs)

@@ -8,21 +8,24 @@ use Rattle.vh_queue.specs.declared.work.Work.TheVariants as work
 use Rattle.vh_queue.specs.Events.{Events, no_events, added}
 use Rattle.vh_sense.specs.Sensitivity.{Sensitivity, IsOpening as IsOpeningSense}
 use Rattle.vh_simulation.specs.declared.monitor.Monitor.{Monitor}
+use Rattle.vh_simulation.specs.Follows.{Serials, no_serials}
 use Rattle.vh_store.specs.Contents.{Contents}
 use Rattle.vh_store.specs.Opening.{IsOpening as IsOpeningStore}
 
--- The design; its processes; the values of its objects, with the present time; who waits on what; the event queue, whose
--- time is the present time; and the monitor.
+-- The design; its processes; the values of its objects, with the present time; who waits on what; the last follow
+-- entries; the event queue, whose time is the present time; and the monitor.
 pub record Activity : Type 0 where
   pub design : Shape
   pub processes : Processes
   pub store : Contents
   pub sense : Sensitivity
+  pub follows : Serials
   pub queue : Events
   pub monitor : Monitor
 
-abbrev pub activity : Shape → Processes → Contents → Sensitivity → Events → Monitor → Activity
-activity d ps s w q m = record { design = d; processes = ps; store = s; sense = w; queue = q; monitor = m }
+abbrev pub activity : Shape → Processes → Contents → Sensitivity → Serials → Events → Monitor → Activity
+activity d ps s w n q m =
+    record { design = d; processes = ps; store = s; sense = w; follows = n; queue = q; monitor = m }
 
 -- No monitor is on.
 abbrev pub no_monitor : Monitor
@@ -42,12 +45,13 @@ is_crowded d = nat_lt MOST_ENTRIES (length d.codes)
 abbrev pub first_entries : Shape → Queued
 first_entries d = if is_crowded d then queued (opening d) no_events else evaluations (length d.codes) (opening d)
 
--- A design before all: time is 0, every digit of every variable is x, and nobody waits.
+-- A design before all: time is 0, every digit of every variable is x, nobody waits, and nothing was followed.
 pub record IsOpening (d : Shape) (a : Activity) : Type 0 where
   pub design : a.design ≡ d
   pub entries : queued a.processes a.queue ≡ first_entries d
   pub store : IsOpeningStore d a.store
   pub sense : IsOpeningSense d a.sense
+  pub follows : a.follows ≡ no_serials
   pub monitor : a.monitor ≡ no_monitor
 
 -- What it keeps: each process runs codes that are there, the waits are those of the design, and the store has the time of
@@ -61,8 +65,9 @@ pub record IsSound (a : Activity) : Type 0 where
 abbrev pub stopped_at : Shape → ℕ → Activity
 stopped_at d time = activity d
     (record { all = []; next = 0 })
-    (record { records = []; results = []; time = time })
+    (record { records = []; drivers = []; results = []; time = time })
     (record { waits = []; readers = []; waiting = [] })
+    no_serials
     (record { entries = []; next = 1; time = time })
     no_monitor
 

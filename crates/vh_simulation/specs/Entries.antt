@@ -1,5 +1,5 @@
--- Which entries changes add: for each change in turn those of the processes that it wakes, and the monitor's. (IEEE
--- 1364-2005, 11.4 and 17.1.3; their order is own)
+-- Which entries changes add: for each change in turn those of the processes that it wakes, of what follows it, and the
+-- monitor's. (IEEE 1364-2005, 9.3, 11.4 and 17.1.3; their order is own)
 use Rattle.std.specs.Prelude.{ℕ, List, [], ◌∷◌, Bool, true, false, if◌then◌else◌, Option, Some, None, Result, Ok}
 use Rattle.vh_base.specs.Checks.{with_ok}
 use Rattle.vh_base.specs.declared.faults.Fault.{Fault}
@@ -11,8 +11,10 @@ use Rattle.vh_proc.specs.Processes.{Processes, Scheduled, scheduled, queued, res
 use Rattle.vh_queue.specs.declared.region.Region.TheVariants as region
 use Rattle.vh_queue.specs.declared.work.Work.TheVariants as work
 use Rattle.vh_queue.specs.Events.{Events}
-use Rattle.vh_sense.specs.Sensitivity.{Sensitivity, woken, without_wait}
+use Rattle.vh_sense.specs.Sensitivity.{Sensitivity, woken, without_wait, readers_of}
 use Rattle.vh_simulation.specs.declared.monitor.Monitor.{Monitor}
+use Rattle.vh_simulation.specs.Follows.{Serials, Followed, followed, all_followed}
+use Rattle.vh_store.specs.Contents.{Contents}
 use Rattle.vh_turn.specs.Own.{with_entry}
 
 -- A process that is woken waits for nothing any more, and gets an evaluation entry, now. (11.4)
@@ -28,6 +30,10 @@ all_woken (p ∷ ps) o = with_ok (woken_one p o) (all_woken ps)
 -- So does each process that waits on the change, in process order.
 abbrev pub waking : Change → Scheduled → Result Scheduled (Option Fault)
 waking c o = all_woken (woken o.sense c) o
+
+-- So does what follows the object: by rising object, a force before an assign, each that is in place. (9.3; the order is own)
+abbrev pub following : Contents → Sensitivity → Change → Followed → Result Followed (Option Fault)
+following s w c b = all_followed s (readers_of c.object.id w) b
 
 -- The monitor gets an entry, now, unless one stands. (17.1.3)
 pub record Watched : Type 0 where
@@ -55,23 +61,26 @@ monitored d c w = if list_reads d w.monitor.call c.object.id then monitor_entere
 pub record Agenda : Type 0 where
   pub processes : Processes
   pub sense : Sensitivity
+  pub follows : Serials
   pub queue : Events
   pub monitor : Monitor
 
-abbrev pub agenda : Processes → Sensitivity → Events → Monitor → Agenda
-agenda ps w q m = record { processes = ps; sense = w; queue = q; monitor = m }
+abbrev pub agenda : Processes → Sensitivity → Serials → Events → Monitor → Agenda
+agenda ps w n q m = record { processes = ps; sense = w; follows = n; queue = q; monitor = m }
 
-abbrev pub entered : Shape → Change → Agenda → Result Agenda (Option Fault)
-entered d c a =
+-- A change, with the values that objects have behind its label.
+abbrev pub entered : Shape → Contents → Change → Agenda → Result Agenda (Option Fault)
+entered d s c a =
     with_ok (waking c (scheduled a.processes a.sense a.queue)) (λ o.
-    with_ok (monitored d c (watched a.monitor o.queue)) (λ w.
-    Ok (agenda o.processes o.sense w.queue w.monitor)))
+    with_ok (following s o.sense c (followed a.follows o.queue)) (λ f.
+    with_ok (monitored d c (watched a.monitor f.queue)) (λ w.
+    Ok (agenda o.processes o.sense f.serials w.queue w.monitor))))
 
 -- What was written with the value that it had before is no change.
-abbrev pub entered_by : Shape → Option Change → Agenda → Result Agenda (Option Fault)
-entered_by d None a = Ok a
-entered_by d (Some c) a = entered d c a
+abbrev pub entered_by : Shape → Contents → Option Change → Agenda → Result Agenda (Option Fault)
+entered_by d s None a = Ok a
+entered_by d s (Some c) a = entered d s c a
 
-unfoldable pub all_entered : Shape → List Made → Agenda → Result Agenda (Option Fault)
-all_entered d [] a = Ok a
-all_entered d (m ∷ ms) a = with_ok (entered_by d m.change a) (all_entered d ms)
+unfoldable pub all_entered : Shape → Contents → List Made → Agenda → Result Agenda (Option Fault)
+all_entered d s [] a = Ok a
+all_entered d s (m ∷ ms) a = with_ok (entered_by d s m.change a) (all_entered d s ms)

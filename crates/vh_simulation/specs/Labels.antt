@@ -1,8 +1,9 @@
 -- What labels of processes come to, and what entries that are picked do. (IEEE 1364-2005, clauses 9, 11.4 and 17.1)
 use Rattle.std.specs.Prelude.{◌≡◌, ⊤, ℕ, List, [], ◌∷◌, Bool, true, false, not, ◌||◌, ◌&&◌, if◌then◌else◌, Option, Some, None, Result, Ok, Err, slice_get}
 use Rattle.std.specs.List.{flat_map}
-use Rattle.vh_assign.specs.Assigned.{is_same_value, with_pieces, made_in_turn}
+use Rattle.vh_assign.specs.Assigned.{is_same_value, with_pieces, made_in_turn, made_by_driver, made_by_put}
 use Rattle.vh_assign.specs.declared.piece.Piece.{Piece}
+use Rattle.vh_assign.specs.Layers.{with_follow, follow_made}
 use Rattle.vh_assign.specs.Values.{value_alone}
 use Rattle.vh_base.specs.Checks.{with_ok}
 use Rattle.vh_base.specs.declared.faults.Fault.{Fault}
@@ -26,7 +27,7 @@ use Rattle.vh_simulation.specs.Activity.{Activity, stopped}
 use Rattle.vh_simulation.specs.Clock.{asks_time}
 use Rattle.vh_simulation.specs.declared.monitor.Monitor.{Monitor}
 use Rattle.vh_simulation.specs.Entries.{Agenda, agenda, Watched, watched, monitor_entered, all_entered}
-use Rattle.vh_store.specs.Contents.{Contents}
+use Rattle.vh_store.specs.Contents.{Contents, put_at, with_driven}
 use Rattle.vh_turn.specs.declared.fault.StepFault.{StepFault}
 use Rattle.vh_turn.specs.declared.fault.StepFault.TheVariants as step
 use Rattle.vh_turn.specs.declared.next.Next.{Next}
@@ -50,13 +51,14 @@ abbrev pub with_world : World → Activity → Activity
 with_world w a = record a { processes = w.processes; store = w.store; sense = w.sense; queue = w.queue }
 
 abbrev pub agenda_of : Activity → Agenda
-agenda_of a = agenda a.processes a.sense a.queue a.monitor
+agenda_of a = agenda a.processes a.sense a.follows a.queue a.monitor
 
 abbrev pub with_agenda : Agenda → Activity → Activity
-with_agenda g a = record a { processes = g.processes; sense = g.sense; queue = g.queue; monitor = g.monitor }
+with_agenda g a =
+    record a { processes = g.processes; sense = g.sense; follows = g.follows; queue = g.queue; monitor = g.monitor }
 
 abbrev pub with_entries : List Made → Activity → Result Activity (Option Fault)
-with_entries ms a = with_ok (all_entered a.design ms (agenda_of a)) (λ g. Ok (with_agenda g a))
+with_entries ms a = with_ok (all_entered a.design a.store ms (agenda_of a)) (λ g. Ok (with_agenda g a))
 
 abbrev pub with_watched : Watched → Activity → Activity
 with_watched w a = record a { monitor = w.monitor; queue = w.queue }
@@ -118,6 +120,25 @@ updated p a =
     let ms = made_in_turn (p ∷ []) a.store in
     with_ok (with_entries ms (record a { store = with_pieces (p ∷ []) a.store })) (λ b. Ok (came ms None b))
 
+-- A driver takes a value. (6.1)
+abbrev pub driven : ℕ → Vector → Activity → Outcome
+driven x v a =
+    let ms = made_by_driver x v a.store in
+    with_ok (with_entries ms (record a { store = with_driven x v a.store })) (λ b. Ok (came ms None b))
+
+-- A follow entry: the force of an object, or its assign, as it is then in place, takes the present value of its
+-- expression. (9.3)
+abbrev pub followed_up : Bool → ℕ → Activity → Outcome
+followed_up force o a =
+    let ms = follow_made force a.design o a.store in
+    with_ok (with_entries ms (record a { store = with_follow force a.design o a.store })) (λ b. Ok (came ms None b))
+
+-- An application's put without a force. (27.32)
+abbrev pub putting : Object → Vector → Activity → Outcome
+putting o v a =
+    let ms = made_by_put o v a.store in
+    with_ok (with_entries ms (record a { store = put_at o v a.store })) (λ b. Ok (came ms None b))
+
 -- The values that a monitor compares: of its list's arguments without `$time`. (17.1.3)
 abbrev pub compared : Shape → Contents → ShowArg → List Vector
 compared d s arg.Empty = []
@@ -151,27 +172,17 @@ monitor_shown (Some n) d s m =
 abbrev pub with_monitor : Option (List ℕ) × Monitor → Activity → Came
 with_monitor r a = came [] r.0 (record a { monitor = r.1 })
 
--- An entry that was picked does its work, a row for each kind. An evaluation puts its process on control, and a call its callback, which is the
--- machine's; what drivers, follows and puts do isn't said yet.
+-- An entry that was picked does its work, a row for each kind. An evaluation puts its process on control, and a call its
+-- callback, which is the machine's.
 abbrev pub worked : Work → Activity → Outcome
 worked (work.Evaluate p) a = Ok (came [] None a)
-worked (work.Drive driver value) a = Err None
+worked (work.Drive driver value) a = driven driver value a
 worked (work.Assign object low value) a = updated (update object low value) a
-worked (work.Follow object force) a = Err None
-worked (work.Put object value) a = Err None
+worked (work.Follow object force) a = followed_up force object a
+worked (work.Put object value) a = putting object value a
 worked (work.Strobe n) a = Ok (came [] (Some (shown_text a.design a.store n)) a)
 worked work.MonitorShow a = Ok (with_monitor (monitor_shown a.monitor.call a.design a.store a.monitor) a)
 worked (work.Call callback) a = Ok (came [] None a)
-
-abbrev pub is_said : Work → Bool
-is_said (work.Evaluate p) = true
-is_said (work.Drive driver value) = false
-is_said (work.Assign object low value) = true
-is_said (work.Follow object force) = false
-is_said (work.Put object value) = false
-is_said (work.Strobe n) = true
-is_said work.MonitorShow = true
-is_said (work.Call callback) = true
 
 -- Time goes on.
 abbrev pub at_time : ℕ → Activity → Activity

@@ -2,6 +2,8 @@
 pub mod Activity
 -- Which expressions read the present time
 pub mod Clock
+-- Which follow entries a change adds
+pub mod Follows
 -- Which entries changes add
 pub mod Entries
 -- What labels of processes and entries that are picked come to

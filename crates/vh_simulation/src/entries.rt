@@ -4,6 +4,7 @@ ghost use Rattle.vh_proc.specs.Processes.{AllRun, scheduled};
 ghost use Rattle.vh_simulation.specs.Entries.{waking, watched, monitor_entered, monitored, list_reads, agenda, entered, entered_by, all_entered};
 ghost use Rattle.vh_turn.specs.Own.{FailsBy};
 
+use crate::follows::{Follows, follow};
 use crate::monitor::Monitor;
 use vh_base::{ObjId, ShowId};
 use vh_design::{Change, Design, Made};
@@ -11,6 +12,7 @@ use vh_display::reads;
 use vh_proc::{StepFault, Threads};
 use vh_queue::{Queue, Region, Work};
 use vh_sense::Sense;
+use vh_store::Store;
 use vh_turn::add_entry;
 
 // Each process that waits on the change goes on, by an entry, in process order.
@@ -77,17 +79,19 @@ fn note(d: &Design, q: &mut Queue, monitor: &mut Monitor, c: &Change) -> Result<
 // The entries that a change adds.
 fn enter(
     d: &Design,
+    s: &Store,
     threads: &mut Threads,
     sense: &mut Sense,
+    follows: &mut Follows,
     q: &mut Queue,
     monitor: &mut Monitor,
     change: &Option<Change>,
 ) -> Result<(), StepFault>
-    ensures done { OnOk result (entered_by d.now change.now
-        (agenda threads.old sense.old q.old monitor.old)
-        ≡ Ok (agenda threads.new sense.new q.new monitor.new)) }
-    ensures fails { IfErr result (FailsBy (entered_by d.now change.now
-        (agenda threads.old sense.old q.old monitor.old))) }
+    ensures done { OnOk result (entered_by d.now s.now change.now
+        (agenda threads.old sense.old follows.old q.old monitor.old)
+        ≡ Ok (agenda threads.new sense.new follows.new q.new monitor.new)) }
+    ensures fails { IfErr result (FailsBy (entered_by d.now s.now change.now
+        (agenda threads.old sense.old follows.old q.old monitor.old))) }
     ensures waits { (sense.new).waits ≡ (sense.old).waits }
     ensures now { (q.new).time ≡ (q.old).time }
     ensures runs { (d : Shape) → AllRun d threads.old → OnOk result (AllRun d threads.new) }
@@ -96,6 +100,7 @@ fn enter(
         return Ok(());
     };
     wake(threads, sense, q, c)?;
+    follow(s, sense, follows, q, c)?;
     note(d, q, monitor, c)
 }
 
@@ -103,23 +108,25 @@ fn enter(
 #[tactic(auto, unfolding(crate::specs::Entries::all_entered))]
 pub(crate) fn enter_all(
     d: &Design,
+    s: &Store,
     threads: &mut Threads,
     sense: &mut Sense,
+    follows: &mut Follows,
     q: &mut Queue,
     monitor: &mut Monitor,
     made: &[Made],
 ) -> Result<(), StepFault>
-    ensures done { OnOk result (all_entered d.now made.now
-        (agenda threads.old sense.old q.old monitor.old)
-        ≡ Ok (agenda threads.new sense.new q.new monitor.new)) }
-    ensures fails { IfErr result (FailsBy (all_entered d.now made.now
-        (agenda threads.old sense.old q.old monitor.old))) }
+    ensures done { OnOk result (all_entered d.now s.now made.now
+        (agenda threads.old sense.old follows.old q.old monitor.old)
+        ≡ Ok (agenda threads.new sense.new follows.new q.new monitor.new)) }
+    ensures fails { IfErr result (FailsBy (all_entered d.now s.now made.now
+        (agenda threads.old sense.old follows.old q.old monitor.old))) }
     ensures waits { (sense.new).waits ≡ (sense.old).waits }
     ensures now { (q.new).time ≡ (q.old).time }
     ensures runs { (d : Shape) → AllRun d threads.old → OnOk result (AllRun d threads.new) }
 {
     for it in made {
-        enter(d, threads, sense, q, monitor, &it.change)?;
+        enter(d, s, threads, sense, follows, q, monitor, &it.change)?;
     }
     Ok(())
 }

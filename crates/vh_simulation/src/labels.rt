@@ -2,10 +2,10 @@ ghost use Rattle.std.specs.Prelude.{◌≡◌, [], true, length, slice_get, Ok, 
 ghost use Rattle.std.specs.List.{flat_map, list_all};
 ghost use Rattle.vh_code.specs.Codes.{fits_arg};
 ghost use Rattle.vh_display.specs.Calls.{shown_text};
-ghost use Rattle.vh_proc.specs.Steps.{is_said as is_next_said};
+ghost use Rattle.vh_proc.specs.Steps.{has_label};
 ghost use Rattle.vh_assign.specs.Assigned.{is_same_value};
 ghost use Rattle.vh_simulation.specs.Entries.{watched, monitor_entered};
-ghost use Rattle.vh_simulation.specs.Labels.{IsOver, came, performed, updated, worked, is_said, monitor_of, displaying, displayed, monitor_shown, compared, all_compared, are_same};
+ghost use Rattle.vh_simulation.specs.Labels.{IsOver, came, performed, updated, driven, followed_up, putting, worked, monitor_of, displaying, displayed, monitor_shown, compared, all_compared, are_same};
 ghost use Rattle.vh_turn.specs.Own.{FailsBy, with_entry};
 
 use crate::clock::asks_time;
@@ -13,8 +13,8 @@ use crate::entries::{enter_all, enter_monitor};
 use crate::monitor::{Monitor, Values};
 use crate::simulation::Simulation;
 use std::alloc::Global;
-use vh_assign::{Piece, take_pieces, value_alone};
-use vh_base::{Bytes, NoMemory, ProcId, Sequence, ShowId};
+use vh_assign::{Piece, follow_object, take_driver, take_pieces, take_put, value_alone};
+use vh_base::{Bytes, DriverId, NoMemory, ObjId, Object, ProcId, Sequence, ShowId};
 use vh_design::{Design, ShowArg, ShowTask};
 use vh_display::show;
 use vh_logic::{Digit, Vec4, case_equal};
@@ -224,7 +224,7 @@ fn show_monitor(
 impl Simulation {
     /// Performs the next label of a process.
     pub fn perform(&mut self, alloc: Global, p: ProcId) -> Result<Performed, StepFault>
-        requires said { is_next_said (self.old).design p (self.old).processes ≡ true }
+        requires there { has_label (self.old).design p (self.old).processes ≡ true }
         ensures done { IfOk result (λ r. performed p self.old
             ≡ Ok (record { came = came r.came.made r.came.shown self.new; next = r.next })) }
         ensures fails { IfErr result (FailsBy (performed p self.old)) }
@@ -246,8 +246,10 @@ impl Simulation {
         let made = stepped.made.as_slice();
         enter_all(
             d,
+            &self.store,
             &mut self.threads,
             &mut self.sense,
+            &mut self.follows,
             &mut self.queue,
             &mut self.monitor,
             made,
@@ -285,8 +287,100 @@ impl Simulation {
         take_pieces(&mut self.store, &[piece], &mut made)?;
         enter_all(
             &self.design,
+            &self.store,
             &mut self.threads,
             &mut self.sense,
+            &mut self.follows,
+            &mut self.queue,
+            &mut self.monitor,
+            made.as_slice(),
+        )?;
+        self.is_broken = false;
+        Ok(Came {
+            made: Sequence::new(made),
+            shown: None,
+        })
+    }
+
+    // A driver takes a value.
+    fn drive(&mut self, alloc: Global, x: DriverId, v: &Vec4) -> Result<Came, StepFault>
+        ensures done { IfOk result (λ r. driven x v.now self.old
+            ≡ Ok (came r.made r.shown self.new)) }
+        ensures fails { IfErr result (FailsBy (driven x v.now self.old)) }
+        ensures over { IfErr result (λ e. IsOver e self.old self.new) }
+    {
+        if self.is_broken {
+            return Err(StepFault::NoMemory);
+        }
+        self.is_broken = true;
+        let mut made = Vec::new(alloc);
+        take_driver(&mut self.store, x, v, &mut made)?;
+        enter_all(
+            &self.design,
+            &self.store,
+            &mut self.threads,
+            &mut self.sense,
+            &mut self.follows,
+            &mut self.queue,
+            &mut self.monitor,
+            made.as_slice(),
+        )?;
+        self.is_broken = false;
+        Ok(Came {
+            made: Sequence::new(made),
+            shown: None,
+        })
+    }
+
+    // A force or a procedural assign is followed.
+    fn follow_up(&mut self, alloc: Global, force: bool, o: ObjId) -> Result<Came, StepFault>
+        ensures done { IfOk result (λ r. followed_up force o self.old
+            ≡ Ok (came r.made r.shown self.new)) }
+        ensures fails { IfErr result (FailsBy (followed_up force o self.old)) }
+        ensures over { IfErr result (λ e. IsOver e self.old self.new) }
+    {
+        if self.is_broken {
+            return Err(StepFault::NoMemory);
+        }
+        self.is_broken = true;
+        let mut made = Vec::new(alloc);
+        follow_object(&self.design, &mut self.store, force, o, &mut made)?;
+        enter_all(
+            &self.design,
+            &self.store,
+            &mut self.threads,
+            &mut self.sense,
+            &mut self.follows,
+            &mut self.queue,
+            &mut self.monitor,
+            made.as_slice(),
+        )?;
+        self.is_broken = false;
+        Ok(Came {
+            made: Sequence::new(made),
+            shown: None,
+        })
+    }
+
+    // An application's put.
+    fn put(&mut self, alloc: Global, o: Object, v: &Vec4) -> Result<Came, StepFault>
+        ensures done { IfOk result (λ r. putting o v.now self.old
+            ≡ Ok (came r.made r.shown self.new)) }
+        ensures fails { IfErr result (FailsBy (putting o v.now self.old)) }
+        ensures over { IfErr result (λ e. IsOver e self.old self.new) }
+    {
+        if self.is_broken {
+            return Err(StepFault::NoMemory);
+        }
+        self.is_broken = true;
+        let mut made = Vec::new(alloc);
+        take_put(&mut self.store, o, v, &mut made)?;
+        enter_all(
+            &self.design,
+            &self.store,
+            &mut self.threads,
+            &mut self.sense,
+            &mut self.follows,
             &mut self.queue,
             &mut self.monitor,
             made.as_slice(),
@@ -300,7 +394,6 @@ impl Simulation {
 
     /// Does what an entry that was picked does, beside what it puts on control.
     pub fn work(&mut self, alloc: Global, work: &Work) -> Result<Came, StepFault>
-        requires said { is_said work.now ≡ true }
         ensures done { IfOk result (λ r. worked work.now self.old
             ≡ Ok (came r.made r.shown self.new)) }
         ensures fails { IfErr result (FailsBy (worked work.now self.old)) }
@@ -318,6 +411,7 @@ impl Simulation {
                     value: *value,
                 },
             ),
+            Work::Drive(x, v) => self.drive(alloc, *x, v),
             Work::Strobe(n) => {
                 let shown = text_of(alloc, &self.design, &self.store, *n)?;
                 Ok(showing(alloc, Some(shown)))
@@ -326,11 +420,9 @@ impl Simulation {
                 let shown = show_monitor(alloc, &self.design, &self.store, &mut self.monitor)?;
                 Ok(showing(alloc, shown))
             }
-            Work::Evaluate(_)
-            | Work::Call(_)
-            | Work::Drive(..)
-            | Work::Follow { .. }
-            | Work::Put(..) => Ok(showing(alloc, None)),
+            Work::Follow { object, force } => self.follow_up(alloc, *force, *object),
+            Work::Put(o, v) => self.put(alloc, *o, v),
+            Work::Evaluate(_) | Work::Call(_) => Ok(showing(alloc, None)),
         }
     }
 }

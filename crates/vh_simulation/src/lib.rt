@@ -13,11 +13,18 @@
 
 mod clock;
 mod entries;
+mod follows;
 mod labels;
 mod monitor;
 mod simulation;
 
+pub use follows::Follows;
 pub use labels::{Came, Performed};
 pub use monitor::Monitor;
 pub use simulation::Simulation;
 pub use vh_proc::{MadeList, Next, StepFault};
+
+#[cfg(test)]
+mod forces;
+#[cfg(test)]
+mod tests;

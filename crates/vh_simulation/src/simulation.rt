@@ -2,11 +2,12 @@ ghost use Rattle.std.specs.Prelude.{◌≡◌, ◌<◌, ◌≤◌, length, slice
 ghost use Rattle.vh_base.specs.declared.limits.TheConstants.{MOST_ENTRIES};
 ghost use Rattle.vh_design.specs.Shape.{Shape};
 ghost use Rattle.vh_proc.specs.Processes.{AllRun, queued};
-ghost use Rattle.vh_proc.specs.Steps.{is_said as is_next_said};
+ghost use Rattle.vh_proc.specs.Steps.{has_label};
 ghost use Rattle.vh_queue.specs.Events.{no_events, eligible, without, cleared, next_region, activated_next, least_time};
 ghost use Rattle.vh_simulation.specs.Activity.{IsOpening, evaluations, stopped};
 ghost use Rattle.vh_simulation.specs.Labels.{at_next_time};
 
+use crate::follows::Follows;
 use crate::monitor::Monitor;
 use std::alloc::Global;
 use std::marker::Model;
@@ -25,6 +26,7 @@ pub struct Simulation {
     pub(crate) threads: Threads,
     pub(crate) store: Store,
     pub(crate) sense: Sense,
+    pub(crate) follows: Follows,
     pub(crate) queue: Queue,
     pub(crate) monitor: Monitor,
     // whether a label wasn't brought to its end: nothing but the design and the time is seen
@@ -38,10 +40,10 @@ impl Model for Simulation {
     ghost Value = { Activity };
 
     ghost view = { λ s. if s.is_broken then stopped_at s.design s.queue.time
-        else activity s.design s.threads s.store s.sense s.queue s.monitor };
+        else activity s.design s.threads s.store s.sense s.follows s.queue s.monitor };
 
     ghost invariant = { λ s. s.is_broken ≡ false →
-        IsSound (activity s.design s.threads s.store s.sense s.queue s.monitor) };
+        IsSound (activity s.design s.threads s.store s.sense s.follows s.queue s.monitor) };
 }
 
 // An evaluation of each of so many processes.
@@ -82,6 +84,7 @@ impl Simulation {
             threads,
             store,
             sense,
+            follows: Follows::new(alloc),
             queue,
             monitor: Monitor {
                 call: None,
@@ -174,10 +177,10 @@ impl Simulation {
         self.is_broken = true;
     }
 
-    /// Has a process a next label, and is it one that [`Simulation::perform`] performs?
-    pub fn is_said(&self, p: ProcId) -> bool
-        ensures { result ≡ is_next_said (self.now).design p (self.now).processes }
+    /// Has a process a next label?
+    pub fn has_label(&self, p: ProcId) -> bool
+        ensures { result ≡ has_label (self.now).design p (self.now).processes }
     {
-        !self.is_broken && self.threads.is_said(&self.design, p)
+        !self.is_broken && self.threads.has_label(&self.design, p)
     }
 }

@@ -1,28 +1,27 @@
 ghost use Rattle.std.specs.Prelude.{◌≡◌, map, OnOk};
 ghost use Rattle.vh_ast.specs.Statements;
 ghost use Rattle.vh_ast.specs.Views.{citem_tree, decl_tree, stmt_tree};
-ghost use Rattle.vh_sites.specs.Sites.{next_number, block_sites, stmt_sites, stmts_sites, citems_sites};
+ghost use Rattle.vh_sites.specs.Sites.{block_sites, stmt_sites, stmts_sites, citems_sites};
 ghost use Rattle.vh_sites.specs.Views.{sites_seen};
 
 use crate::decls::add_decls;
-use crate::site::{Declared, Site, add_site, next_number};
+use crate::site::{Declared, Listing, add_named};
 use vh_ast::{BlockWord, Citem, Decl, Id, Stmt, StmtForm};
 use vh_base::NoMemory;
 
-// A named block, of this number, and what it declares.
+// A named block, and what it declares.
 fn add_block<'a>(
     scope: u32,
-    number: u32,
     word: BlockWord,
     id: &'a Id,
     decls: &'a [Decl],
-    sites: &mut Vec<Site<'a>>,
+    sites: &mut Listing<'a>,
 ) -> Result<(), NoMemory>
-    requires { number ≡ next_number (sites_seen sites.old.items) }
-    ensures { OnOk result (sites_seen sites.new.items ≡
-        block_sites scope word id.now (map decl_tree decls.now) (sites_seen sites.old.items)) }
+    ensures { OnOk result (sites_seen sites.new ≡
+        block_sites scope word id.now (map decl_tree decls.now) (sites_seen sites.old)) }
 {
-    add_site(scope, id, Declared::Block(word), sites)?;
+    let number = sites.next;
+    add_named(scope, id, Declared::Block(word), sites)?;
     add_decls(number, decls, sites)
 }
 
@@ -31,10 +30,10 @@ fn add_block<'a>(
 pub(crate) fn add_stmt<'a>(
     scope: u32,
     stmt: &'a Stmt,
-    sites: &mut Vec<Site<'a>>,
+    sites: &mut Listing<'a>,
 ) -> Result<(), NoMemory>
-    ensures { OnOk result (sites_seen sites.new.items ≡
-        stmt_sites scope (stmt_tree stmt.now) (sites_seen sites.old.items)) }
+    ensures { OnOk result (sites_seen sites.new ≡
+        stmt_sites scope (stmt_tree stmt.now) (sites_seen sites.old)) }
 {
     match &stmt.form {
         StmtForm::Simple(_) => Ok(()),
@@ -60,8 +59,8 @@ pub(crate) fn add_stmt<'a>(
         } => match id {
             None => add_stmts(scope, stmts.as_slice(), sites),
             Some(id) => {
-                let inside = next_number(sites)?;
-                add_block(scope, inside, *word, id, decls.as_slice(), sites)?;
+                let inside = sites.next;
+                add_block(scope, *word, id, decls.as_slice(), sites)?;
                 add_stmts(inside, stmts.as_slice(), sites)
             }
         },
@@ -70,9 +69,9 @@ pub(crate) fn add_stmt<'a>(
 
 // Those of statements in a row.
 #[cycle(stmts)]
-fn add_stmts<'a>(scope: u32, stmts: &'a [Stmt], sites: &mut Vec<Site<'a>>) -> Result<(), NoMemory>
-    ensures { OnOk result (sites_seen sites.new.items ≡
-        stmts_sites scope (Statements.stmts (map stmt_tree stmts.now)) (sites_seen sites.old.items)) }
+fn add_stmts<'a>(scope: u32, stmts: &'a [Stmt], sites: &mut Listing<'a>) -> Result<(), NoMemory>
+    ensures { OnOk result (sites_seen sites.new ≡
+        stmts_sites scope (Statements.stmts (map stmt_tree stmts.now)) (sites_seen sites.old)) }
 {
     for stmt in stmts {
         add_stmt(scope, stmt, sites)?;
@@ -85,10 +84,10 @@ fn add_stmts<'a>(scope: u32, stmts: &'a [Stmt], sites: &mut Vec<Site<'a>>) -> Re
 fn add_citems<'a>(
     scope: u32,
     citems: &'a [Citem<Stmt>],
-    sites: &mut Vec<Site<'a>>,
+    sites: &mut Listing<'a>,
 ) -> Result<(), NoMemory>
-    ensures { OnOk result (sites_seen sites.new.items ≡
-        citems_sites scope (Statements.citems (map citem_tree citems.now)) (sites_seen sites.old.items)) }
+    ensures { OnOk result (sites_seen sites.new ≡
+        citems_sites scope (Statements.citems (map citem_tree citems.now)) (sites_seen sites.old)) }
 {
     for citem in citems {
         add_stmt(scope, &citem.body, sites)?;

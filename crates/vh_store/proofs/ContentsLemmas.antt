@@ -1,29 +1,42 @@
 -- Lemmas on `specs/Contents.antt`: one record among many, an answer that no call waits for, and when two values are
 -- the same.
-use Rattle.std.proofs.Common.{◌≡◌, ◌∙◌, ◌≤◌, ℕ, List, [], ◌∷◌, map, length, take, ◌+◌, ◌++◌, Bool, true, false, cond, Option, Some, None, slice_get, slice_set, refl, ap, arith}
-use Rattle.std.proofs.lemmas.List.{map-set, map-append, take_more}
+use Rattle.std.proofs.Common.{◌≡◌, ◌∙◌, ◌≤◌, ℕ, List, [], ◌∷◌, map, length, take, ◌+◌, ◌++◌, Bool, true, false, cond, ◌&&◌, ◌==◌, Option, Some, None, slice_get, slice_set, refl, ap, sym, drop, arith}
+use Rattle.std.specs.List.{fold}
+use Rattle.std.proofs.lemmas.List.{at_drop_more, map-set, map-append, take_more}
+use Rattle.std.proofs.lemmas.Bool.Decides.{nat_tests}
 use Rattle.std.proofs.lemmas.Option.{slice_get-map, slice_get_past, slice_get_within, get_or_from_slice_get}
 use Rattle.vh_nodes.proofs.FitsLemmas.{and_left, and_right}
 use Rattle.std.specs.Map.{lookup, set_value}
 use Rattle.vh_logic.specs.declared.digits.Digit.{Digit}
 use Rattle.vh_logic.specs.declared.digits.Digit.TheVariants.{Zero, One, X, Z}
 use Rattle.vh_logic.specs.Digit.{is_same, test_digit}
-use Rattle.vh_logic.specs.Vector.{Vector, width_of, all_places}
 use Rattle.vh_logic.specs.Compare.{case_equality}
+use Rattle.vh_logic.specs.Vector.{Vector, width_of, all_places}
+use Rattle.vh_nodes.specs.Fits.{same_sign}
 use Rattle.vh_store.specs.declared.record.Record.{Record as Kept}
-use Rattle.vh_store.specs.Contents.{Assigned, Record, with_record}
+use Rattle.vh_store.specs.Contents.{Record, with_record, same_value}
+use Rattle.vh_nodes.specs.declared.driver.DriverInfo.{DriverInfo}
+use Rattle.vh_store.specs.Opening.{count_in, count_at, Wired, wired}
 use Rattle.vh_store.specs.Views.{record_of}
 
 -- The record of a number becomes another.
-pub put_record : (rs : List Kept) (o : ℕ) (r new : Kept) (change : Assigned → Assigned) → slice_get rs o ≡ Some r
-    → record_of new ≡ record (record_of r) { base = change (record_of r).base }
+pub put_record : (rs : List Kept) (o : ℕ) (r new : Kept) (change : Record → Record) → slice_get rs o ≡ Some r
+    → record_of new ≡ change (record_of r)
     → map record_of (slice_set rs o new) ≡ with_record (slice_get (map record_of rs) o) o change (map record_of rs)
 put_record rs o r new change found is =
     rw (slice_get-map record_of rs o, found) (map-set record_of rs o new ∙ ap (λ (t : Record). slice_set (map record_of rs) o t) is)
 
-pub no_record : (rs : List Kept) (o : ℕ) (change : Assigned → Assigned) → length rs ≤ o
+pub no_record : (rs : List Kept) (o : ℕ) (change : Record → Record) → length rs ≤ o
     → map record_of rs ≡ with_record (slice_get (map record_of rs) o) o change (map record_of rs)
 no_record rs o change past = rw (slice_get-map record_of rs o, slice_get_past rs o past) refl
+
+-- How many drivers the net at a number has.
+pub some_count : (rs : List Kept) (o : ℕ) (r : Kept) → slice_get rs o ≡ Some r
+    → count_in (record_of r).base ≡ count_at (slice_get (map record_of rs) o)
+some_count rs o r found = rw (slice_get-map record_of rs o, found) refl
+
+pub no_count : (rs : List Kept) (o : ℕ) → length rs ≤ o → 0 ≡ count_at (slice_get (map record_of rs) o)
+no_count rs o past = rw (slice_get-map record_of rs o, slice_get_past rs o past) refl
 
 -- A key that isn't there keeps the entries as they are.
 absent_by : {X : Type 0} (b : Bool) (x : X) (o : Option X) → cond b (Some x) o ≡ None → b ≡ false
@@ -78,12 +91,12 @@ unfolding all_places
 all_same [] = refl
 all_same (d ∷ ds) = rw (same_itself d, all_same ds) refl
 
+abbrev of_parts : List Digit → Bool → Vector
+of_parts ds s = record { digits = ds; signed = s }
+
 test_one : (b : Bool) → test_digit b ≡ One → b ≡ true
 test_one true h = refl
 test_one false h = cc
-
-abbrev of_parts : List Digit → Bool → Vector
-of_parts ds s = record { digits = ds; signed = s }
 
 -- Two values of one width and sign are the same where they compare as the same.
 pub same_values : (a b : Vector) → width_of a ≡ width_of b → a.signed ≡ b.signed → case_equality a b ≡ One → a ≡ b
@@ -94,9 +107,48 @@ same_values a b len sign one =
 pub equal_to_itself : (a : Vector) → case_equality a a ≡ One
 equal_to_itself a = rw (all_same a.digits) refl
 
+sign_is : (a b : Bool) → same_sign a b ≡ true → a ≡ b
+sign_is true true h = refl
+sign_is false false h = refl
+sign_is true false h = cc
+sign_is false true h = cc
+
+sign_itself : (a : Bool) → same_sign a a ≡ true
+sign_itself true = refl
+sign_itself false = refl
+
+width_is : (m n : ℕ) → (m == n) ≡ true → m ≡ n
+width_is m n h = grind (arith, nat_tests)
+
+width_itself : (n : ℕ) → (n == n) ≡ true
+width_itself n = grind (arith, nat_tests)
+
+-- The test of two values says whether they are one.
+pub value_is : (a b : Vector) → same_value a b ≡ true → a ≡ b
+value_is a b h =
+    let w = width_of a == width_of b in
+    let g = same_sign a.signed b.signed in
+    let ds = all_places is_same a.digits b.digits in
+    let len = width_is (width_of a) (width_of b) (and_left w g (and_left (w && g) ds h)) in
+    let sign = sign_is a.signed b.signed (and_right w g (and_left (w && g) ds h)) in
+    ap (λ (ds : List Digit). of_parts ds a.signed) (same_digits a.digits b.digits len (and_right (w && g) ds h))
+    ∙ ap (λ (s : Bool). of_parts b.digits s) sign
+
+pub value_itself : (a : Vector) → same_value a a ≡ true
+value_itself a = rw (width_itself (width_of a), sign_itself a.signed, all_same a.digits) refl
+
 -- One element more, and its image.
 pub one_more : {A B : Type 0} (f : A → B) (xs : List A) (i : ℕ) (x : A) (ys : List B) → slice_get xs i ≡ Some x
     → ys ≡ map f (take i xs) → ys ++ f x ∷ [] ≡ map f (take (i + 1) xs)
 one_more f xs i x ys there is =
     rw (take_more xs i x (slice_get_within xs i x there), get_or_from_slice_get xs i x x there, map-append f (take i xs) (x ∷ []))
     (ap (λ t. t ++ f x ∷ []) is)
+
+-- One driver more has come to its net.
+pub wired_more : (w v all : Wired) (xs : List DriverInfo) (i : ℕ) (x : DriverInfo) → slice_get xs i ≡ Some x
+    → wired w x ≡ v → fold wired w (drop i xs) ≡ all → fold wired v (drop (i + 1) xs) ≡ all
+wired_more w v all xs i x there is before =
+    ap (λ (u : Wired). fold wired u (drop (i + 1) xs)) (sym is)
+    ∙ ap (λ (y : DriverInfo). fold wired w (y ∷ drop (i + 1) xs)) (sym (get_or_from_slice_get xs i x x there))
+    ∙ sym (at_drop_more (fold wired w) xs i x (slice_get_within xs i x there))
+    ∙ before

@@ -1,1 +1,4 @@
 pub mod ContentsLemmas
+pub mod JoinLemmas
+pub mod LawsLemmas
+pub mod OpeningLemmas

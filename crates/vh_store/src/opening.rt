@@ -1,16 +1,20 @@
-ghost use Rattle.std.specs.Prelude.{◌≡◌, ◌≤◌, ℕ, map, IfOk, slice_get};
+ghost use Rattle.std.specs.Prelude.{◌≡◌, ◌≤◌, ℕ, [], map, IfOk, slice_get};
+ghost use Rattle.std.specs.List.{fold};
 ghost use Rattle.std.specs.BTreeMap.{get};
 ghost use Rattle.std.specs.Ordering.{nat_cmp};
 ghost use Rattle.vh_logic.specs.declared.vector.TheConstants.{MAX_WIDTH};
 ghost use Rattle.vh_design.specs.Validity.{IsThere};
-ghost use Rattle.vh_store.specs.Opening.{unknown, literal_at, constant_in, first_value, opening_record, is_call, first_result, result_at};
-ghost use Rattle.vh_store.specs.Views.{record_of};
+ghost use Rattle.vh_store.specs.Opening.{unknown, undriven, table_of, literal_at, constant_in, first_value, opening_base, opening_record, with_one_driver, count_at, wired, is_call, first_result, result_at};
+ghost use Rattle.vh_store.specs.Contents.{with_record};
+ghost use Rattle.vh_store.specs.Views.{assigned_of, record_of};
 
+use crate::net::Net;
 use crate::record::{Base, Record};
+use crate::store::DriverPlace;
 use std::alloc::Global;
 use std::collections::BTreeMap;
-use vh_base::{ExprId, NoMemory, ObjId};
-use vh_design::{Design, Detail, ExprKind, ObjectInfo, lowest_of};
+use vh_base::{DriverId, ExprId, NoMemory, ObjId};
+use vh_design::{Design, Detail, DriverInfo, ExprKind, NetType, ObjectInfo, lowest_of};
 use vh_logic::{Digit, Vec4, resize};
 
 // x at each digit of an object.
@@ -49,24 +53,57 @@ fn first_value(d: &Design, object: &ObjectInfo) -> Vec4
     }
 }
 
-fn opening_record(alloc: Global, d: &Design, object: &ObjectInfo) -> Result<Record, NoMemory>
-    requires there { IsThere d.now (object.now).detail }
-    requires least { 1 ≤ (object.now).width }
-    requires most { (object.now).width ≤ MAX_WIDTH }
-    ensures { IfOk result (λ r. record_of r ≡ opening_record (d.now).exprs object.now) }
+// z at each digit of a net.
+fn undriven(object: &ObjectInfo) -> Vec4
+    requires least { 1 ≤ object.now.width }
+    requires most { object.now.width ≤ MAX_WIDTH }
+    ensures { result ≡ undriven object.now }
 {
-    let base = if object.kind.is_memory() {
+    Vec4::filled(object.width, Digit::Z, object.signed)
+}
+
+// The type of a net.
+fn table_of(detail: &Detail) -> NetType
+    ensures { result ≡ table_of detail.now }
+{
+    match detail {
+        Detail::Net(table) => *table,
+        _ => NetType::Wire,
+    }
+}
+
+// What was assigned to an object before all.
+fn opening_base(alloc: Global, d: &Design, object: &ObjectInfo) -> Result<Base, NoMemory>
+    requires there { IsThere d.now object.now.detail }
+    requires least { 1 ≤ object.now.width }
+    requires most { object.now.width ≤ MAX_WIDTH }
+    ensures { IfOk result (λ b. assigned_of b ≡ opening_base d.now.exprs object.now) }
+{
+    if object.kind.is_memory() {
         let words = vec![in alloc; unknown(object); object.words as usize]?;
-        Base::Words(lowest_of(&object.detail), words)
-    } else {
-        Base::Value(first_value(d, object))
-    };
-    Ok(Record { base })
+        return Ok(Base::Words(lowest_of(&object.detail), words));
+    }
+    if object.kind.is_net() {
+        let net = Net::new(alloc, table_of(&object.detail), undriven(object));
+        return Ok(Base::Net(net));
+    }
+    Ok(Base::Value(first_value(d, object)))
+}
+
+fn opening_record(alloc: Global, d: &Design, object: &ObjectInfo) -> Result<Record, NoMemory>
+    requires there { IsThere d.now object.now.detail }
+    requires least { 1 ≤ object.now.width }
+    requires most { object.now.width ≤ MAX_WIDTH }
+    ensures { IfOk result (λ r. record_of r ≡ opening_record d.now.exprs object.now) }
+{
+    let base = opening_base(alloc, d, object)?;
+    Ok(Record::plain(base))
 }
 
 // What each object holds before all.
 pub(crate) fn opening_records(alloc: Global, d: &Design) -> Result<Vec<Record>, NoMemory>
-    ensures { IfOk result (λ rs. map record_of rs.items ≡ map (opening_record (d.now).exprs) (d.now).objects) }
+    ensures { IfOk result
+        (λ rs. map record_of rs.items ≡ map (opening_record d.now.exprs) d.now.objects) }
 {
     let count = d.counts().objects;
     let mut records = Vec::with_capacity(alloc, count as usize)?;
@@ -75,6 +112,46 @@ pub(crate) fn opening_records(alloc: Global, d: &Design) -> Result<Vec<Record>, 
         records.push(record)?;
     }
     Ok(records)
+}
+
+// A driver comes to its net, where that is there; answers its place.
+fn connect_one(records: &mut [Record], x: &DriverInfo) -> Result<u32, NoMemory>
+    requires least { 1 ≤ x.now.width }
+    requires most { x.now.width ≤ MAX_WIDTH }
+    ensures place { IfOk result
+        (λ i. i ≡ count_at (slice_get (map record_of records.old) x.now.object)) }
+    ensures records { let rs = map record_of records.old in IfOk result
+        (λ i. map record_of records.new
+        ≡ with_record (slice_get rs x.now.object) x.now.object (with_one_driver x.now) rs) }
+{
+    let number = x.object.number() as usize;
+    if number < records.len() {
+        let index = records[number].connect(x)?;
+        return Ok(index);
+    }
+    Ok(0)
+}
+
+// Each driver comes to its net, in order; answers their places.
+pub(crate) fn connect(
+    alloc: Global,
+    d: &Design,
+    records: &mut [Record],
+) -> Result<Vec<DriverPlace>, NoMemory>
+    ensures { IfOk result (λ ps. record { records = map record_of records.new; drivers = ps.items }
+        ≡ fold wired (record { records = map record_of records.old; drivers = [] }) d.now.drivers) }
+{
+    let count = d.counts().drivers;
+    let mut places = Vec::with_capacity(alloc, count as usize)?;
+    for x in 0..count {
+        let driver = d.driver(DriverId::new(x));
+        let index = connect_one(records, driver)?;
+        places.push(DriverPlace {
+            object: driver.object,
+            index,
+        })?;
+    }
+    Ok(places)
 }
 
 // Whether a call stands at an expression.

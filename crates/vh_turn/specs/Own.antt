@@ -1,16 +1,18 @@
 -- A process of the simulation with what its labels read and change. (IEEE 1364-2005, 9 and 11.4; the faults are own)
-use Rattle.std.specs.Prelude.{◌≡◌, ⊤, ℕ, Bool, true, List, [], Option, Some, Result, Ok, Err}
+use Rattle.std.specs.Prelude.{◌≡◌, ⊤, ℕ, Bool, true, List, [], Option, Some, None, Result, Ok, Err}
 use Rattle.vh_base.specs.Checks.{unless, with_some}
 use Rattle.vh_base.specs.declared.faults.Fault.{Fault}
 use Rattle.vh_base.specs.declared.faults.Fault.TheVariants as fault
 use Rattle.vh_code.specs.declared.change.Made.{Made}
 use Rattle.vh_code.specs.declared.code.Goes.{Goes}
+use Rattle.vh_code.specs.declared.target.Delay.{Delay}
 use Rattle.vh_design.specs.Shape.{Shape}
 use Rattle.vh_store.specs.Contents.{Contents}
 use Rattle.vh_sense.specs.Sensitivity.{Sensitivity}
 use Rattle.vh_queue.specs.declared.region.Region.{Region}
 use Rattle.vh_queue.specs.declared.work.Work.{Work}
 use Rattle.vh_queue.specs.Events.{Events, added, is_full}
+use Rattle.vh_assign.specs.Values.{time_after}
 use Rattle.vh_thread.specs.Control.{goes_on, arrived}
 use Rattle.vh_turn.specs.declared.next.Next.{Next}
 use Rattle.vh_turn.specs.declared.process.Process.{Process}
@@ -53,6 +55,11 @@ gone d goes o = record o { process = going d goes o.process }
 -- A time above the last one is F2. (own)
 abbrev pub in_time : {X : Type 0} → Option ℕ → (ℕ → Result X (Option Fault)) → Result X (Option Fault)
 in_time time rest = with_some time (Some fault.F2) rest
+
+-- When the updates of an assignment come. (9.2.2 and 6.1.3)
+abbrev pub update_time : Shape → Contents → Option Delay → Option ℕ
+update_time d s None = Some s.time
+update_time d s (Some delay) = time_after d s delay
 
 -- One entry more; more than there may be is F3. (own)
 abbrev pub with_entry : ℕ → Region → Work → Events → Result Events (Option Fault)

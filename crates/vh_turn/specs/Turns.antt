@@ -23,6 +23,7 @@ use Rattle.vh_code.specs.declared.operation.Arm.{Arm}
 use Rattle.vh_code.specs.declared.operation.CaseKind.{CaseKind}
 use Rattle.vh_code.specs.declared.operation.CaseKind.TheVariants as compares
 use Rattle.vh_code.specs.declared.operation.CaseTest.{CaseTest}
+use Rattle.vh_code.specs.declared.operation.Drive.{Drive}
 use Rattle.vh_code.specs.declared.operation.Leave.{Leave}
 use Rattle.vh_code.specs.declared.operation.Loop.{Loop}
 use Rattle.vh_code.specs.declared.operation.Loop.TheVariants as turn
@@ -36,7 +37,7 @@ use Rattle.vh_code.specs.declared.operation.Single.TheVariants as single
 use Rattle.vh_code.specs.declared.target.Delay.{Delay}
 use Rattle.vh_code.specs.declared.target.Input.{Input}
 use Rattle.vh_design.specs.Shape.{Shape}
-use Rattle.vh_store.specs.Contents.{Contents, shown, with_result}
+use Rattle.vh_store.specs.Contents.{Contents, shown, with_result, released, deassigned}
 use Rattle.vh_sense.specs.Sensitivity.{with_wait}
 use Rattle.vh_queue.specs.declared.region.Region.TheVariants as region
 use Rattle.vh_queue.specs.declared.work.Work.TheVariants as work
@@ -46,12 +47,14 @@ use Rattle.vh_assign.specs.declared.piece.Piece.{Piece}
 use Rattle.vh_assign.specs.Values.{value_alone, integer_alone, right_side, time_after}
 use Rattle.vh_assign.specs.Pieces.{digits_of, pieces_of, pieces_in, pieces_out}
 use Rattle.vh_assign.specs.Assigned.{with_pieces, made_in_turn}
+use Rattle.vh_assign.specs.Layers.{with_force, force_made, release_made, with_assign, shown_made}
 use Rattle.vh_thread.specs.declared.call.TheConstants.{MOST_CALLS}
 use Rattle.vh_thread.specs.Control.{called, repeating, repeat_turned, has_turn, depth_of}
 use Rattle.vh_turn.specs.declared.next.Next.{Next}
 use Rattle.vh_turn.specs.declared.next.Next.TheVariants as next
 use Rattle.vh_turn.specs.declared.process.Process.{Process}
-use Rattle.vh_turn.specs.Own.{Own, Outcome, turn_with, quietly, going, gone, arriving, in_time, with_entry}
+use Rattle.vh_turn.specs.Own.{Own, Outcome, turn_with, quietly, going, gone, arriving, in_time, with_entry, update_time}
+use Rattle.vh_turn.specs.Drives.{driving, digits_driven, all_driven}
 
 -- Objects take what a label assigns, in order. (9.2)
 abbrev pub assigning : List Piece → Own → Outcome
@@ -80,10 +83,6 @@ abbrev pub held_by : Process → ℕ → Vector
 held_by t width = resized (unwrap_or t.held (filled 1 X false)) width false
 
 -- A nonblocking assignment: an update of each piece, in order. (9.2.2)
-abbrev pub update_time : Shape → Contents → Option Delay → Option ℕ
-update_time d s None = Some s.time
-update_time d s (Some delay) = time_after d s delay
-
 unfoldable pub with_updates : ℕ → List Piece → Events → Result Events (Option Fault)
 with_updates time [] q = Ok q
 with_updates time (p ∷ ps) q =
@@ -163,35 +162,46 @@ triggered o = record { object = record { id = o; word = None }; old = filled 1 X
 abbrev pub made_of : Change → Made
 made_of c = record { object = c.object; change = Some c; layer = layer.Plain }
 
--- Statements with one label that goes on at once; a `disable`, a force and their like aren't said here. (9.7.3, 17)
+-- Statements with one label that goes on at once, a row for each; a `disable` isn't said here. (9.3, 9.7.3, 17)
 abbrev pub single_next : Single → Option Next
 single_next (single.Show show) = Some (next.Shows show)
 single_next single.Finish = Some next.Finishes
 single_next single.Stop = Some next.Stops
 single_next (single.Trigger event) = Some next.On
 single_next (single.Disable target) = None
-single_next (single.Force object e) = None
-single_next (single.Release object) = None
-single_next (single.Procedural object e) = None
-single_next (single.Deassign object) = None
+single_next (single.Force object e) = Some next.On
+single_next (single.Release object) = Some next.On
+single_next (single.Procedural object e) = Some next.On
+single_next (single.Deassign object) = Some next.On
 
-abbrev pub single_made : Single → Option Change
-single_made (single.Show show) = None
-single_made single.Finish = None
-single_made single.Stop = None
-single_made (single.Trigger event) = Some (triggered event)
-single_made (single.Disable target) = None
-single_made (single.Force object e) = None
-single_made (single.Release object) = None
-single_made (single.Procedural object e) = None
-single_made (single.Deassign object) = None
+-- What they do to the values of objects;
+abbrev pub single_store : Shape → Single → Contents → Contents
+single_store d (single.Show show) s = s
+single_store d single.Finish s = s
+single_store d single.Stop s = s
+single_store d (single.Trigger event) s = s
+single_store d (single.Disable target) s = s
+single_store d (single.Force object e) s = with_force d object e s
+single_store d (single.Release object) s = released object s
+single_store d (single.Procedural object e) s = with_assign d object e s
+single_store d (single.Deassign object) s = deassigned object s
 
-abbrev pub listed : Option Change → List Made
-listed None = []
-listed (Some c) = made_of c ∷ []
+-- and what they change, force or release.
+abbrev pub single_made : Shape → Single → Contents → List Made
+single_made d (single.Show show) s = []
+single_made d single.Finish s = []
+single_made d single.Stop s = []
+single_made d (single.Trigger event) s = made_of (triggered event) ∷ []
+single_made d (single.Disable target) s = []
+single_made d (single.Force object e) s = force_made d object e s
+single_made d (single.Release object) s = release_made object s
+single_made d (single.Procedural object e) s = shown_made object s (with_assign d object e s)
+single_made d (single.Deassign object) s = shown_made object s (deassigned object s)
 
-abbrev pub single_turn : Single → Own → Outcome
-single_turn it o = with_some (single_next it) None (λ n. Ok (turn_with o (listed (single_made it)) n))
+abbrev pub single_turn : Shape → Single → Own → Outcome
+single_turn d it o =
+    with_some (single_next it) None (λ n.
+    Ok (turn_with (record o { store = single_store d it o.store }) (single_made d it o.store) n))
 
 -- A declared initial value: its process ends with the assignment. (6.2.1)
 abbrev pub initializing : Shape → ℕ → ℕ → Own → Outcome
@@ -199,7 +209,15 @@ initializing d object e o =
     let ps = pieces_in d o.store (record { variable = object; value = e } ∷ []) in
     Ok (turn_with (record o { store = with_pieces ps o.store }) (made_in_turn ps o.store) next.Ends)
 
--- A label, a row for each kind. The beginning and the end of branches, and what nets do, aren't said here.
+-- A continuous assignment: its drivers take its value, and it waits. (6.1)
+abbrev pub driving_all : Shape → ℕ → Drive → Own → Outcome
+driving_all d p it o =
+    let v = right_side d o.store it.value (digits_driven d.drivers it.drivers) in
+    let time = update_time d o.store it.delay in
+    with_ok (all_driven d.drivers o.store time it.drivers v (driving o.process.updates o.queue)) (λ b.
+    waiting p it.wait (record o { process = record o.process { updates = b.updates }; queue = b.queue }))
+
+-- A label, a row for each kind. The beginning and the end of branches aren't said here.
 abbrev pub turn_at : Shape → ℕ → Instruction → Operation → Own → Outcome
 turn_at d p i (op.Assign e targets) o = assigning (right_pieces d o.store e targets) (gone d i.next o)
 turn_at d p i (op.Hold e width delay) o =
@@ -219,8 +237,8 @@ turn_at d p i (op.Enter routine inputs) o = entering d routine inputs o
 turn_at d p i (op.Leave l) o = leaving d l (gone d i.next o)
 turn_at d p i (op.SysCall call) o = quietly (next.Calls call) (gone d i.next o)
 turn_at d p i (op.SysFunc call) o = quietly (next.Calls call) (gone d i.next o)
-turn_at d p i (op.Single it) o = single_turn it (gone d i.next o)
-turn_at d p i (op.Drive it) o = Err None
+turn_at d p i (op.Single it) o = single_turn d it (gone d i.next o)
+turn_at d p i (op.Drive it) o = driving_all d p it (gone d i.next o)
 turn_at d p i (op.Initial object e) o = initializing d object e o
 
 abbrev pub turn_of : Shape → ℕ → Instruction → Own → Outcome
@@ -243,5 +261,5 @@ is_own (op.Leave l) = true
 is_own (op.SysCall call) = true
 is_own (op.SysFunc call) = true
 is_own (op.Single it) = is_some (single_next it)
-is_own (op.Drive it) = false
+is_own (op.Drive it) = true
 is_own (op.Initial object e) = true

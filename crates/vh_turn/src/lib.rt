@@ -13,14 +13,19 @@
 
 mod assigns;
 mod choices;
+mod drives;
 mod fault;
+mod laws;
 mod next;
 mod process;
 mod rows;
+mod updates;
 mod waits;
 
 pub use fault::StepFault;
+pub use laws::turn_laws;
 pub use next::Next;
 pub use process::{Process, Room};
 pub use rows::turn;
+pub use updates::Updates;
 pub use waits::add_entry;

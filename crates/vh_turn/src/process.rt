@@ -1,3 +1,4 @@
+use crate::updates::Updates;
 use vh_assign::Piece;
 use vh_base::{ProcId, Serial};
 use vh_design::Made;
@@ -17,6 +18,8 @@ pub struct Process {
     pub held: Option<Vec4>,
     /// The serial of its last evaluation entry.
     pub entry: Option<Serial>,
+    /// The last updates of its drivers, where it is a continuous assignment.
+    pub updates: Updates,
 }
 
 /// Room for what a label assigns and what that changes, which is kept from label to label.

@@ -1,23 +1,26 @@
-ghost use Rattle.std.specs.Prelude.{◌≡◌, ◌++◌, [], length, true, Some, None, Ok, IsSome, IfOk, IfErr, OnOk};
-ghost use Rattle.vh_code.specs.Operations.{fits_operation, fits_pause, fits_enter};
+ghost use Rattle.std.specs.Prelude.{◌≡◌, ◌++◌, ◌∷◌, [], length, true, Some, None, Ok, IsSome, IfOk, IfErr, OnOk};
+ghost use Rattle.vh_code.specs.Operations.{fits_operation, fits_pause, fits_enter, fits_drive, fits_single};
 ghost use Rattle.vh_design.specs.Validity.{limits_of};
 ghost use Rattle.vh_thread.specs.Control.{Runs};
 ghost use Rattle.vh_turn.specs.Own.{Fits, FailsBy, own_of, turn_with};
 ghost use Rattle.vh_turn.specs.Turns as turns;
-ghost use Rattle.vh_turn.specs.Turns.{is_own, turn_of, pausing, entering, single_next, single_made, listed};
+ghost use Rattle.vh_turn.specs.Turns.{is_own, turn_of, pausing, driving_all, entering, single_next, single_store, single_made};
 ghost use Rattle.vh_turn.specs.declared.next.Next.TheVariants.{On};
 ghost use Rattle.vh_sense.specs.Sensitivity.{Sensitivity};
 ghost use Rattle.vh_queue.specs.Events.{Events};
 
 use crate::assigns::{enter, held_pieces, leave, right_pieces, take};
 use crate::choices::{arm_of, is_true, take_turn};
+use crate::drives::{digits_driven, drive_all};
 use crate::fault::StepFault;
 use crate::next::Next;
 use crate::process::{Process, Room};
-use crate::waits::{resume, schedule};
-use vh_assign::right_side;
+use crate::waits::{resume, schedule, update_time};
+use vh_assign::{assign_object, deassign_object, force_object, release_object, right_side};
 use vh_base::{Fault, NoMemory, ObjId, Object, ProcId};
-use vh_design::{Change, Design, Goes, Input, Instruction, Layer, Made, Operation, Pause, Single};
+use vh_design::{
+    Change, Design, Drive, Goes, Input, Instruction, Layer, Made, Operation, Pause, Single,
+};
 use vh_logic::{Digit, Vec4};
 use vh_queue::Queue;
 use vh_sense::Sense;
@@ -70,6 +73,36 @@ fn pause(
     }
 }
 
+// A continuous assignment.
+fn assign_continuously(
+    d: &Design,
+    process: &mut Process,
+    s: &Store,
+    sense: &mut Sense,
+    q: &mut Queue,
+    p: ProcId,
+    it: &Drive,
+) -> Result<Next, StepFault>
+    requires there { fits_drive d.now.drivers (length d.now.exprs) (limits_of d.now) it.now ≡ true }
+    requires waits { sense.old.waits ≡ d.now.waits }
+    requires now { s.now.time ≡ q.old.time }
+    ensures done { IfOk result
+        (λ n. driving_all d.now p it.now (own_of process.old s.now sense.old q.old)
+        ≡ Ok (turn_with (own_of process.new s.now sense.new q.new) [] n)) }
+    ensures fails { IfErr result (FailsBy (driving_all d.now p it.now
+        (own_of process.old s.now sense.old q.old))) }
+    ensures waits { sense.new.waits ≡ sense.old.waits }
+    ensures now { q.new.time ≡ q.old.time }
+    ensures thread { process.new.thread ≡ process.old.thread }
+{
+    let drivers = it.drivers.as_slice();
+    let v = right_side(d, s, it.value, digits_driven(d, drivers));
+    let time = update_time(d, s, it.delay);
+    drive_all(d, &mut process.updates, s, q, time, drivers, &v)?;
+    sense.wait(p, it.wait)?;
+    Ok(Next::Waits)
+}
+
 // A named event.
 fn event_of(event: ObjId) -> Object
     ensures { result ≡ record { id = event; word = None } }
@@ -101,38 +134,42 @@ fn next_of(it: Single) -> Next
         Single::Show(show) => Next::Shows(show),
         Single::Finish => Next::Finishes,
         Single::Stop => Next::Stops,
-        Single::Trigger(_) => Next::On,
-        Single::Disable(_)
+        Single::Trigger(_)
         | Single::Force { .. }
         | Single::Release(_)
         | Single::Procedural { .. }
-        | Single::Deassign(_) => unreachable!(),
+        | Single::Deassign(_) => Next::On,
+        Single::Disable(_) => unreachable!(),
     }
 }
 
-// What it changes.
-fn made_by(it: Single) -> Option<Change>
-    ensures { result ≡ single_made it }
+// A change is noted.
+fn note(made: &mut Vec<Made>, change: Change) -> Result<(), NoMemory>
+    ensures { OnOk result (made.new.items ≡ made.old.items ++ turns.made_of change ∷ []) }
 {
-    match it {
-        Single::Trigger(event) => Some(triggered(event)),
-        _ => None,
-    }
-}
-
-// A change is noted, where there is one.
-fn note(made: &mut Vec<Made>, change: &Option<Change>) -> Result<(), NoMemory>
-    ensures { OnOk result (made.new.items ≡ made.old.items ++ listed change.now) }
-{
-    let Some(change) = change else {
-        return Ok(());
-    };
     made.push(Made {
         object: change.object,
-        change: Some(*change),
+        change: Some(change),
         layer: Layer::Plain,
     })?;
     Ok(())
+}
+
+// What it does to the values of objects, and what it changes, forces or releases.
+fn take_effect(d: &Design, s: &mut Store, it: Single, made: &mut Vec<Made>) -> Result<(), NoMemory>
+    requires { fits_single d.now.objects (length d.now.exprs) (length d.now.shows) it ≡ true }
+    ensures contents { OnOk result (s.new ≡ single_store d.now it s.old) }
+    ensures made { OnOk result (made.new.items ≡ made.old.items ++ single_made d.now it s.old) }
+    ensures time { s.new.time ≡ s.old.time }
+{
+    match it {
+        Single::Trigger(event) => note(made, triggered(event)),
+        Single::Force { object, value } => force_object(d, s, object, value, made),
+        Single::Release(object) => release_object(s, object, made),
+        Single::Procedural { object, value } => assign_object(d, s, object, value, made),
+        Single::Deassign(object) => deassign_object(s, object, made),
+        Single::Show(_) | Single::Finish | Single::Stop | Single::Disable(_) => Ok(()),
+    }
 }
 
 // The begin of a call.
@@ -263,7 +300,7 @@ pub fn turn(
         }
         Operation::Single(it) => {
             process.thread.go_on(d, i.next);
-            note(&mut room.made, &made_by(*it))?;
+            take_effect(d, s, *it, &mut room.made)?;
             Ok(next_of(*it))
         }
         Operation::Initial { object, value } => {
@@ -274,6 +311,10 @@ pub fn turn(
             enter(d, s, &[input], room)?;
             Ok(Next::Ends)
         }
-        Operation::Fork(_) | Operation::Drive(_) => unreachable!(),
+        Operation::Drive(it) => {
+            process.thread.go_on(d, i.next);
+            assign_continuously(d, process, s, sense, q, p, it.get())
+        }
+        Operation::Fork(_) => unreachable!(),
     }
 }

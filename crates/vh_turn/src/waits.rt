@@ -3,9 +3,9 @@ ghost use Rattle.vh_code.specs.Operations.{fits_delayed};
 ghost use Rattle.vh_code.specs.Targets.{fits_delay};
 ghost use Rattle.vh_queue.specs.declared.region.Region.TheVariants as region;
 ghost use Rattle.vh_queue.specs.declared.work.Work.TheVariants as work;
-ghost use Rattle.vh_turn.specs.Own.{with_entry, FailsBy};
+ghost use Rattle.vh_turn.specs.Own.{with_entry, update_time, FailsBy};
 ghost use Rattle.vh_queue.specs.Entries.{IsPresent};
-ghost use Rattle.vh_turn.specs.Turns.{update_time, with_updates, schedule_of, resumption, entered};
+ghost use Rattle.vh_turn.specs.Turns.{with_updates, schedule_of, resumption, entered};
 
 use crate::fault::StepFault;
 use crate::process::Process;
@@ -76,8 +76,8 @@ fn add_updates(q: &mut Queue, time: u64, pieces: &[Piece]) -> Result<(), StepFau
     Ok(())
 }
 
-// When the updates of a nonblocking assignment come.
-fn update_time(d: &Design, s: &Store, delay: Option<Delay>) -> Option<u64>
+// When the updates of an assignment come.
+pub(crate) fn update_time(d: &Design, s: &Store, delay: Option<Delay>) -> Option<u64>
     requires { fits_delayed (length (d.now).exprs) (d.now).precision delay ≡ true }
     ensures time { result ≡ update_time d.now s.now delay }
     ensures later { IfSome result (λ time. (s.now).time ≤ time) }

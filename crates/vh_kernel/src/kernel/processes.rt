@@ -89,7 +89,7 @@ impl Kernel {
     ghost use Rattle.vh_kernel.specs.Step.{item_move};
     ghost use Rattle.vh_kernel.specs.Outcome.{move_of};
     ghost use Rattle.vh_kernel.specs.Statements.{work_outcome, worked_outcome};
-    ghost use Rattle.vh_simulation.specs.Labels.{worked, is_said};
+    ghost use Rattle.vh_simulation.specs.Labels.{worked};
     ghost use Rattle.vh_kernel.specs.Views.{state_of, given_by, Moves};
 
     // A process that was on top of control performs its next label.
@@ -98,7 +98,7 @@ impl Kernel {
             (given_by self.old)) result self.new }
     {
         let process = ProcId::new(p);
-        if !self.simulation.is_said(process) {
+        if !self.simulation.has_label(process) {
             return Ok(Label::Stmt(process, None));
         }
         match self.simulation.perform(alloc, process) {
@@ -126,19 +126,19 @@ impl Kernel {
                 self.control.push(Control::Process(p.number()))?;
                 Ok(Label::Pick(entry.serial, None))
             }
-            Work::Assign { .. } | Work::Strobe(_) | Work::MonitorShow => self.simulate(
-                alloc, entry,
-            ),
-            // no design and no order adds one of these yet
-            Work::Drive(..) | Work::Follow { .. } | Work::Put(..) | Work::Call(_) => {
-                Ok(Label::Pick(entry.serial, None))
-            }
+            Work::Assign { .. }
+            | Work::Drive(..)
+            | Work::Follow { .. }
+            | Work::Put(..)
+            | Work::Strobe(_)
+            | Work::MonitorShow => self.simulate(alloc, entry),
+            // nothing adds one of these yet
+            Work::Call(_) => Ok(Label::Pick(entry.serial, None)),
         }
     }
 
     // One that changes or shows something.
     fn simulate(&mut self, alloc: Global, entry: &Entry) -> Result<Label, NoMemory>
-        requires said { is_said (entry.now).work ≡ true }
         ensures { Moves (move_of (λ shown. Label.Pick (entry.now).serial shown) (state_of self.old)
             (worked_outcome (worked (entry.now).work (state_of self.old).activity)
             (state_of self.old)))

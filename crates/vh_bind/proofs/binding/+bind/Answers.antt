@@ -32,6 +32,13 @@ bind-returns-in_ok-value-in-Name-2-clause-step t c =
     ∙ ap (λ (p : Primary Expr). expr (out-Expr c.args.e.now).place (primary_tree p)) c.in-Name.is in
     rw tree (search rules)
 
+pub bind-returns-in-Call-clause-step : goal.bind-returns-in-Call-clause-step
+bind-returns-in-Call-clause-step t c =
+    let tree =
+    tree-Primary c.args.e.now c.in-Primary.primary c.in-Primary.is
+    ∙ ap (λ (p : Primary Expr). expr (out-Expr c.args.e.now).place (primary_tree p)) c.in-Call.is in
+    rw tree (search rules)
+
 pub bind-returns-in-System-clause-step : goal.bind-returns-in-System-clause-step
 bind-returns-in-System-clause-step t c =
     let tree =

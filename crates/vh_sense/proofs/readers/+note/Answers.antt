@@ -1,7 +1,6 @@
-use Rattle.std.proofs.Common.{◌≡◌, ◌∙◌, ◌<◌, ◌≤◌, ◌||◌, ℕ, Bool, false, length, take, sym, ap, arith, refl}
+use Rattle.std.proofs.Common.{◌≡◌, ◌∙◌, ◌<◌, ◌||◌, length, take, sym, ap, arith}
 use Rattle.std.specs.List.{list_any}
-use Rattle.vh_sense.specs.declared.follow.Follow.{Follow}
-use Rattle.vh_sense.specs.Reads.{object_in, is_the, reads_below, node_reads}
+use Rattle.vh_sense.specs.Reads.{object_in, is_the, reads_below}
 use Rattle.vh_design.specs.Laws.{parts_of}
 use Rattle.vh_sense.specs.Views.{noted, follow_at, follows_at}
 use Rattle.vh_sense.proofs.ReadsLemmas.{part_before, one_part_more, all_parts, own_object, no_object, part_there}

@@ -1,5 +1,4 @@
-use Rattle.std.proofs.Common.{◌≡◌, ◌∙◌, ◌<◌, ◌≤◌, ◌||◌, ℕ, Bool, length, take, sym, ap, arith}
-use Rattle.std.specs.List.{list_any}
+use Rattle.std.proofs.Common.{◌∙◌, ◌<◌, ◌||◌, Bool, length, sym, ap, arith}
 use Rattle.vh_sense.specs.Reads.{object_in, is_the, reads_below}
 use Rattle.vh_design.specs.Laws.{parts_of}
 use Rattle.vh_sense.proofs.ReadsLemmas.{part_before, one_part_more, all_parts, part_there}

@@ -1,4 +1,4 @@
-use Rattle.std.proofs.Common.{◌≡◌, ◌||◌, ℕ, take}
+use Rattle.std.proofs.Common.{◌≡◌, ◌||◌, take}
 use Rattle.std.specs.List.{list_any}
 use Rattle.vh_sense.specs.Reads.{object_in, is_the, reads_below}
 use Rattle.vh_design.specs.Laws.{parts_of}

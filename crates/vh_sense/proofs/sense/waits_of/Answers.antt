@@ -1,8 +1,4 @@
-use Rattle.std.proofs.Common.{◌≡◌, ◌∙◌, ◌∷◌, ◌++◌, [], sym, ap, List}
-use Rattle.std.proofs.lemmas.List.{take_more}
-use Rattle.std.proofs.lemmas.Option.{slice_get_within, get_or_from_slice_get}
-use Rattle.vh_code.specs.declared.wait.Term.{Term}
-use Rattle.vh_code.specs.declared.wait.WaitInfo.{WaitInfo}
+use Rattle.std.proofs.Common.{◌∙◌}
 use Rattle.vh_sense.proofs.ViewsLemmas.{one_wait_more}
 use Rattle.vh_sense.proofs.sense.waits_of.Goals as goal
 

@@ -1,5 +1,5 @@
-use Rattle.std.proofs.Common.{◌≡◌, ◌<◌, ◌∙◌, ℕ, sym, ap, Some, length, true, false, arith}
-use Rattle.vh_sense.specs.Views.{names, names_at, set_to, SetsTo, watches}
+use Rattle.std.proofs.Common.{◌≡◌, ◌<◌, ◌∙◌, ap, length, false, arith}
+use Rattle.vh_sense.specs.Views.{names, set_to, SetsTo, watches}
 use Rattle.vh_sense.proofs.ViewsLemmas.{names_of_wait, holds-entered, holds-free, set_back}
 use Rattle.vh_sense.proofs.watchers.enter.Goals as goal
 

@@ -1,4 +1,4 @@
-use Rattle.std.proofs.Common.{◌≡◌, ◌<◌, ◌∙◌, ℕ, sym, ap, Some, length, true, arith}
+use Rattle.std.proofs.Common.{◌<◌, ◌∙◌, sym, length}
 use Rattle.vh_sense.proofs.ViewsLemmas.{names_of_wait, holds-left}
 use Rattle.vh_sense.proofs.watchers.leave.Goals as goal
 

@@ -5,7 +5,7 @@ use Rattle.vh_simulation.proofs.entries.enter_all.Goals as goal
 
 pub loop-it-preserved : goal.loop-it-preserved
 loop-it-preserved c = record {
-  entered = next-entered c.args.d.now c.it-item.result _ _ _ _
+  entered = next-entered c.args.d.now c.args.s.now c.it-item.result _ _ _ _
       (next-drop c.args.made.now c.loop-it.it-index c.it-item.result c.loop-it-test.true
       ∙ ap (λ (m : Made). m ∷ drop (c.loop-it.it-index + 1) c.args.made.now) (sym c.it-item.is)) c.in_ok-enter.ensures.done
       ∙ c.loop-it.invariant.entered;

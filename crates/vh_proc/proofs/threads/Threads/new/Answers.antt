@@ -6,8 +6,8 @@ use Rattle.vh_proc.proofs.threads.Threads.new.Goals as goal
 
 pub loop-k-preserved : goal.loop-k-preserved
 loop-k-preserved c = record {
-  all = one-more c.args.d.now c.loop-k.k _ _ _ c.loop-k.invariant.all
-      (c.in_ok-of_process.ensures.process ∙ ap (λ (p : ℕ). process_of c.args.d.now p) c.new.ensures) c.in_ok-keep.ensures;
+  all = one-more c.args.d.now c.loop-k.k _ _ _ _ c.loop-k.invariant.all
+      (c.in_ok-of_process.ensures.process ∙ ap (λ (p : ℕ). process_of c.args.d.now p) c.new.ensures) c.new-in-loop-k.ensures c.in_ok-keep.ensures;
   runs = subst (EachRuns c.args.d.now) (sym c.in_ok-keep.ensures)
       (runs-inserted c.args.d.now c.loop-k.all.entries c.loop-k.k _ c.loop-k.invariant.runs c.in_ok-of_process.ensures.runs);
 }

@@ -1,0 +1,18 @@
+-- How contracts see what the code holds.
+use Rattle.std.specs.Prelude.{ℕ, List, map, Vec}
+use Rattle.vh_cycles.specs.declared.edge.Edge as of
+use Rattle.vh_cycles.specs.declared.walk.Walk as held
+use Rattle.vh_cycles.specs.Cycles.{Edge}
+use Rattle.vh_cycles.specs.Laid.{Walk}
+
+abbrev pub edge_seen : of.Edge → Edge
+edge_seen e = (e.from, e.to)
+
+abbrev pub edges_seen : List of.Edge → List Edge
+edges_seen es = map edge_seen es
+
+abbrev pub rows_seen : {A : Type 0} → List (Vec ℕ A) → List (List ℕ)
+rows_seen rows = map (λ r. r.items) rows
+
+abbrev pub walk_seen : held.Walk → Walk
+walk_seen w = (w.seen.items, w.waiting.items)

@@ -1,0 +1,15 @@
+//! Which edges of a graph stand on a cycle.
+//!
+//! The contracts that the layers above use: [`first_on_cycle`] answers the place of the first edge
+//! from whose end a way leads back to its beginning, and [`on_cycles`] tells of each edge whether
+//! it is such a one, as `specs/Cycles.antt` says.
+#![tactic(auto)]
+
+mod cycles;
+mod edge;
+mod ranks;
+mod rows;
+mod walk;
+
+pub use cycles::{first_on_cycle, on_cycles};
+pub use edge::Edge;

@@ -1,0 +1,2 @@
+-- The first of a name, and one more
+pub mod FirstLemmas

@@ -1,0 +1,9 @@
+//! The first of a name among some, found in a time that doesn't depend on their number.
+//!
+//! The contract that the layers above use: [`Index::place`] answers the place of the first of a
+//! name, as `specs/First.antt` says.
+#![tactic(auto)]
+
+mod index;
+
+pub use index::Index;

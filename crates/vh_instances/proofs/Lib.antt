@@ -1,0 +1,2 @@
+-- The turns of a loop
+pub mod TurnsLemmas

@@ -1,0 +1,2 @@
+-- Faults, and the least of some
+pub mod Least

@@ -1,0 +1,2 @@
+-- What expressions of the code are seen as, by their forms
+pub mod TreesLemmas

@@ -1,0 +1,10 @@
+use Rattle.std.proofs.Common.{◌∙◌, sym, ap, subst}
+use Rattle.std.specs.Prelude.{option_copied}
+use Rattle.vh_proc.specs.Processes.{AllRun}
+use Rattle.vh_proc.proofs.RunsLemmas.{runs-found}
+use Rattle.vh_proc.proofs.threads.Threads.has_label.Goals as goal
+
+pub next-requires : goal.next-requires
+next-requires c =
+    runs-found c.args.d.now _ c.self.inside.all.entries c.in-Some.process.now (subst (AllRun c.args.d.now) (sym c.self.view_is) c.requires)
+    (sym c.get.ensures.value ∙ ap option_copied c.in-Some.is)

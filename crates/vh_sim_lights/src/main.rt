@@ -1,0 +1,10 @@
+//! The program `vhost` once more, for a stored run: traffic lights where two roads meet. A crate has one
+//! stored run.
+#![tactic(auto)]
+
+use std::process::ExitCode;
+use vh_edge::run_program;
+
+fn main(rt: HostRuntime) -> ExitCode {
+    run_program(&rt)
+}

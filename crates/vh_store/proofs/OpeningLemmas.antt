@@ -1,0 +1,84 @@
+-- Which drivers a net has before all.
+use Rattle.std.proofs.Common.{◌≡◌, ◌∙◌, ◌≢◌, ◌==◌, ℕ, zero, suc, List, [], ◌∷◌, ◌++◌, map, filter, Bool, true, false, cond, Option, Some, None, slice_get, slice_set, refl, ap, sym, append_assoc}
+use Rattle.std.specs.List.{fold}
+use Rattle.std.specs.Option.{option_map}
+use Rattle.std.proofs.lemmas.Bool.{eqb-true, eqb-false}
+use Rattle.std.proofs.lemmas.List.{append-nil}
+use Rattle.std.proofs.lemmas.Option.{slice_get-map}
+use Rattle.vh_nodes.specs.declared.driver.DriverInfo.{DriverInfo}
+use Rattle.vh_nodes.specs.declared.object.Kind.{Kind}
+use Rattle.vh_nodes.specs.declared.object.Kind.TheVariants as of
+use Rattle.vh_nodes.specs.declared.object.ObjectInfo.{ObjectInfo}
+use Rattle.vh_nodes.specs.Kinds.{rank, is_net, is_memory}
+use Rattle.vh_design.specs.Shape.{Shape}
+use Rattle.vh_store.specs.declared.net.Driven.{Driven}
+use Rattle.vh_store.specs.Contents.{Record, Net, net, plain, with_record}
+use Rattle.vh_store.specs.Opening.{table_of, undriven, opening_record, opening_driver, with_one_driver, Wired, wired}
+use Rattle.vh_store.specs.Laws.{drives, HasItsDrivers}
+
+-- One record is set.
+set-here : {X : Type 0} (rs : List X) (o : ℕ) (r new : X) → slice_get rs o ≡ Some r → slice_get (slice_set rs o new) o ≡ Some new
+set-here [] o r new there = absurd (cc)
+set-here (x ∷ rs) zero r new there = refl
+set-here (x ∷ rs) (suc o) r new there = set-here rs o r new there
+
+set-there : {X : Type 0} (rs : List X) (o p : ℕ) (new : X) → o ≢ p → slice_get (slice_set rs p new) o ≡ slice_get rs o
+set-there [] o p new other = refl
+set-there (x ∷ rs) zero zero new other = absurd (other refl)
+set-there (x ∷ rs) zero (suc p) new other = refl
+set-there (x ∷ rs) (suc o) zero new other = refl
+set-there (x ∷ rs) (suc o) (suc p) new other = set-there rs o p new (λ e. other (ap suc e))
+
+-- A net with some drivers more.
+abbrev driven_net : Net → List Driven → Record
+driven_net n xs = plain (net (record n { drivers = xs }))
+
+one-here : (rs : List Record) (o : ℕ) (x : DriverInfo) (n : Net) (xs : List Driven) (r : Option Record) → slice_get rs o ≡ r
+    → r ≡ Some (driven_net n xs)
+    → slice_get (with_record r o (with_one_driver x) rs) o ≡ Some (driven_net n (xs ++ opening_driver x ∷ []))
+one-here rs o x n xs r found is =
+    rw is (set-here rs o (driven_net n xs) (driven_net n (xs ++ opening_driver x ∷ [])) (found ∙ is))
+
+one-there : (rs : List Record) (o p : ℕ) (x : DriverInfo) (r : Option Record) → o ≢ p
+    → slice_get (with_record r p (with_one_driver x) rs) o ≡ slice_get rs o
+one-there rs o p x None other = refl
+one-there rs o p x (Some r) other = set-there rs o p (with_one_driver x r) other
+
+its-drivers : (w : Wired) (xs : List DriverInfo) (o : ℕ) (n : Net) (ys : List Driven) → slice_get w.records o ≡ Some (driven_net n ys)
+    → slice_get (fold wired w xs).records o ≡ Some (driven_net n (ys ++ map opening_driver (filter (drives o) xs)))
+its-drivers w [] o n ys there = there ∙ ap (λ (zs : List Driven). Some (driven_net n zs)) (sym (append-nil ys))
+its-drivers w (x ∷ xs) o n ys there = by (drives o x) (λ v zs here. its-drivers v xs o n zs here) refl
+  where
+    by : (b : Bool)
+        → ((v : Wired) (zs : List Driven) → slice_get v.records o ≡ Some (driven_net n zs)
+        → slice_get (fold wired v xs).records o ≡ Some (driven_net n (zs ++ map opening_driver (filter (drives o) xs))))
+        → drives o x ≡ b
+        → slice_get (fold wired w (x ∷ xs)).records o ≡ Some (driven_net n (ys ++ map opening_driver (filter (drives o) (x ∷ xs))))
+    by true rest is =
+        let here : x.object ≡ o = eqb-true x.object o is in
+        let after : slice_get (wired w x).records o ≡ Some (driven_net n (ys ++ opening_driver x ∷ [])) =
+        ap (λ (p : ℕ). slice_get (with_record (slice_get w.records p) p (with_one_driver x) w.records) o) here
+        ∙ one-here w.records o x n ys (slice_get w.records o) refl there in
+        rest (wired w x) (ys ++ opening_driver x ∷ []) after
+        ∙ ap (λ (zs : List Driven). Some (driven_net n zs))
+        (append_assoc ys (opening_driver x ∷ []) (map opening_driver (filter (drives o) xs))
+        ∙ ap (λ (b : Bool). ys ++ map opening_driver (cond b (x ∷ filter (drives o) xs) (filter (drives o) xs))) (sym is))
+    by false rest is =
+        let other : o ≢ x.object = λ e. eqb-false x.object o is (sym e) in
+        rest (wired w x) ys (one-there w.records o x.object x (slice_get w.records x.object) other ∙ there)
+        ∙ ap (λ (b : Bool). Some (driven_net n (ys ++ map opening_driver (cond b (x ∷ filter (drives o) xs) (filter (drives o) xs))))) (sym is)
+
+-- A net is no memory.
+no-memory : (k : Kind) → is_net k ≡ true → is_memory k ≡ false
+no-memory k is = ap (λ (n : ℕ). n == rank of.Memory) (eqb-true (rank k) (rank of.Net) is)
+
+net-base : (d : Shape) (i : ObjectInfo) → is_net i.kind ≡ true
+    → opening_record d.exprs i ≡ driven_net (record { table = table_of i.detail; undriven = undriven i; drivers = [] }) []
+net-base d i is = rw (no-memory i.kind is, is) refl
+
+pub has-its-drivers : HasItsDrivers
+has-its-drivers d o i there is =
+    its-drivers (record { records = map (opening_record d.exprs) d.objects; drivers = [] }) d.drivers o
+    (record { table = table_of i.detail; undriven = undriven i; drivers = [] }) []
+    (slice_get-map (opening_record d.exprs) d.objects o ∙ ap (λ (x : Option ObjectInfo). option_map (opening_record d.exprs) x) there
+    ∙ ap Some (net-base d i is))

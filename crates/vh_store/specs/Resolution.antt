@@ -1,0 +1,55 @@
+-- What a net shows by its drivers. (IEEE 1364-2005, 4.6)
+use Rattle.std.specs.Prelude.{ℕ, ◌-◌, List, if◌then◌else◌, min, nat_lt}
+use Rattle.std.specs.List.{fold}
+use Rattle.vh_logic.specs.declared.digits.Digit.{Digit}
+use Rattle.vh_logic.specs.declared.digits.Digit.TheVariants.{Z}
+use Rattle.vh_logic.specs.Digit.{digit_and, digit_or, digit_merge}
+use Rattle.vh_logic.specs.Vector.{Vector, width_of, zip_digits}
+use Rattle.vh_logic.specs.Parts.{part_of, replaced}
+use Rattle.vh_nodes.specs.declared.object.NetType.{NetType}
+use Rattle.vh_nodes.specs.declared.object.NetType.TheVariants as net
+use Rattle.vh_store.specs.declared.net.Driven.{Driven}
+
+-- A z yields, equal digits stay, and all else is x. (4.6.1)
+abbrev pub wire_digit : Digit → Digit → Digit
+wire_digit Z e = e
+wire_digit d Z = d
+wire_digit d e = digit_merge d e
+
+-- A z yields, a 0 wins, two ones are 1, and all else is x. (4.6.2)
+abbrev pub wired_and_digit : Digit → Digit → Digit
+wired_and_digit Z e = e
+wired_and_digit d Z = d
+wired_and_digit d e = digit_and d e
+
+-- A z yields, a 1 wins, two zeros are 0, and all else is x. (4.6.2)
+abbrev pub wired_or_digit : Digit → Digit → Digit
+wired_or_digit Z e = e
+wired_or_digit d Z = d
+wired_or_digit d e = digit_or d e
+
+-- The table of a net's type.
+abbrev pub digit_joined : NetType → Digit → Digit → Digit
+digit_joined net.Wire = wire_digit
+digit_joined net.Tri = wire_digit
+digit_joined net.Wand = wired_and_digit
+digit_joined net.TriAnd = wired_and_digit
+digit_joined net.Wor = wired_or_digit
+digit_joined net.TriOr = wired_or_digit
+
+-- The same of all digits of two vectors.
+abbrev pub joined : NetType → Vector → Vector → Vector
+joined t a b = record { digits = zip_digits (digit_joined t) a.digits b.digits; signed = a.signed }
+
+-- The digits of a driver at their place in a net, z at all others; digits past the net's are driven nowhere.
+abbrev pub placed : Vector → ℕ → Vector → Vector
+placed undriven low v =
+    if nat_lt low (width_of undriven) then replaced undriven low (part_of v 0 (min (width_of v) (width_of undriven - low)))
+    else undriven
+
+abbrev pub with_driver : NetType → Vector → Vector → Driven → Vector
+with_driver t undriven v d = joined t v (placed undriven d.low d.value)
+
+-- What a net shows: its drivers joined one after another, and without drivers z at each digit.
+abbrev pub resolution : NetType → Vector → List Driven → Vector
+resolution t undriven ds = fold (with_driver t undriven) undriven ds
