@@ -1,9 +1,14 @@
-pub mod Token
-pub mod Spelling
-pub mod Tree
-pub mod Grammar
+-- A script as plain data
 pub mod Script
-pub mod Meaning
+-- The steps that a script's tree is laid out in
+pub mod Layout
+-- What stands for a value, and what it is where an order wants another kind
+pub mod Values
+-- What a script orders next
 pub mod Next
-pub mod Seen
-pub mod Fault
+-- What the bytes of a script are
+pub mod Reading
+-- How contracts see what the code holds
+pub mod Views
+-- What is still to do at a point, and the law of the next order
+pub mod Todo

@@ -1,12 +1,12 @@
--- A script, as plain data: names resolved, each variable by its number.
+-- A script as plain data: names resolved, each variable by its number, each step by its place.
 use Rattle.std.specs.Prelude.{ℕ, List}
-use Rattle.vh_app.specs.declared.command.Command.{Command}
-use Rattle.vh_app.specs.declared.command.Procedure.{Procedure}
+use Rattle.vh_app.specs.declared.form.Node.{Node}
+use Rattle.vh_app.specs.declared.form.Procedure.{Procedure}
 
--- A script: its name, the names of its variables, which have the numbers from 0 on, the commands of its
--- startup, and its procedures (own).
+-- A script: its name, how many variables it has, and its steps: those of its startup, and from its start
+-- on those of each procedure (own).
 pub record ScriptData : Type 0 where
   pub name : List ℕ
-  pub variables : List (List ℕ)
-  pub startup : List Command
+  pub variables : ℕ
   pub procedures : List Procedure
+  pub nodes : List Node

@@ -1,29 +1,31 @@
-//! The first scripts of `vhost`: which bytes are an application's script, and what it orders next.
+//! The scripts of applications: a script's bytes, and what its activations order next
+//! (IEEE 1364-2005, clauses 26 and 27, in this project's profile).
 //!
-//! The contracts used above: [`read_app`] answers exactly what `script_of` of specs/Meaning.antt
-//! says of the bytes, where memory does not run out, and [`Script::next`] is the one equation with
-//! `next_of` of specs/Next.antt. It stands on vh_base, whose [`Order`](vh_base::Order) it gives, on
-//! vh_grammar, in whose parts the grammar is written, on vh_lines, whose words of orders it reads, and on
-//! indexmap, which numbers the variables.
+//! The contracts that the layers above use: [`read_app`] answers the script that the bytes are, or
+//! its first fault and where that stands, as `app_of` of `specs/Reading.antt` says, and
+//! [`Script::next`] the next order, the point behind it and the variables, as `next_of` of
+//! `specs/Next.antt` says. It stands on
+//! `vh_script` for the trees of scripts.
 #![tactic(auto)]
 
-mod bytes;
-mod command;
-mod fault;
-mod lexer;
-mod meaning;
-mod parser;
+mod form;
+mod forms;
+mod laws;
+mod laying;
+mod orders;
 mod point;
 mod read;
 mod script;
+mod sizes;
 #[cfg(test)]
 mod tests;
-mod token;
-mod tree;
+mod turned;
+mod value;
 mod vars;
 
-pub use fault::ScriptFault;
+pub use laws::point_law;
 pub use point::Point;
 pub use read::read_app;
 pub use script::Script;
 pub use vars::Vars;
+pub use vh_script::ScriptFault;

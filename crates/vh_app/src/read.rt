@@ -1,39 +1,24 @@
-ghost use Rattle.std.specs.Prelude.{◌≡◌, Some, None, IfOk, IfErr};
-ghost use Rattle.vh_app.specs.Fault.{Refuses};
-ghost use Rattle.vh_app.specs.Meaning.{script_of};
+ghost use Rattle.std.specs.Prelude.{◌<◌, length};
+ghost use Rattle.vh_app.specs.Reading.{app_of};
+ghost use Rattle.vh_app.specs.Views.{IsAnswer};
 
-use crate::fault::{NotRead, ScriptFault};
+use crate::laying::script_of;
 use crate::script::Script;
-use crate::{lexer, meaning, parser};
 use std::alloc::Global;
-use vh_base::{AppFault, Place, Short};
+use vh_base::{NoMemory, Short};
+use vh_script::{ScriptFault, read_script};
 
-/// The script that the bytes mean, in time that grows with their number. Want of memory may be answered
-/// for any bytes. The names of earlier scripts say nothing yet, since there is one script at most.
+/// The script that the bytes are, in front of which scripts of these names stand; or its first
+/// fault, `A1` to `A5`, and where that stands: line and column from 1, in bytes; the file is 0. Of
+/// two faults at one place the least is answered.
 pub fn read_app(alloc: Global, bytes: &[u8], earlier: &Vec<Short>) -> Result<Script, ScriptFault>
-    ensures read { IfOk result (λ script. script_of bytes.now ≡ Some script) }
-    ensures refused { IfErr result (λ fault. Refuses (script_of bytes.now) fault) }
+    requires { length bytes.now < 2147483648 }
+    // Want of memory is the one free answer.
+    ensures { IsAnswer (app_of bytes.now earlier.now.items) result }
 {
-    match read_script(alloc, bytes) {
+    let app = read_script(alloc, bytes, earlier)?;
+    match script_of(alloc, &app) {
         Ok(script) => Ok(script),
-        Err(NotRead::NoScript) => {
-            let place = Place {
-                file: 0,
-                line: 1,
-                column: 1,
-            };
-            Err(ScriptFault::Refused(AppFault::A2, place))
-        }
-        Err(NotRead::NoMemory) => Err(ScriptFault::NoMemory),
+        Err(NoMemory) => Err(ScriptFault::NoMemory),
     }
-}
-
-// The script, or that there is none.
-fn read_script(alloc: Global, bytes: &[u8]) -> Result<Script, NotRead>
-    ensures read { IfOk result (λ script. script_of bytes.now ≡ Some script) }
-    ensures not_read { result ≡ Err NotRead.NoScript → script_of bytes.now ≡ None }
-{
-    let tokens = lexer::tokens(alloc, bytes)?;
-    let app = parser::source(alloc, &tokens)?;
-    meaning::script(alloc, &app)
 }

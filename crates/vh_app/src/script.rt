@@ -1,43 +1,55 @@
-ghost use Rattle.std.specs.Prelude.{◌≡◌, length, slice_get};
-ghost use Rattle.vh_app.specs.Next;
+ghost use Rattle.std.specs.Prelude.{◌≡◌, bytes_eq, position, slice_get};
+ghost use Rattle.vh_app.specs.Next as spec;
+ghost use Rattle.vh_app.specs.Next.{came, next_of, number_of, procedure_in, procedure_named};
 ghost use Rattle.vh_app.specs.Script.{ScriptData};
 
-use crate::command::{Command, Form, Procedure, Source};
-use crate::point::{Body, Point};
+use crate::form::{Node, Procedure};
+use crate::point::Point;
+use crate::value::{holds, set_to};
 use crate::vars::Vars;
 use std::marker::Model;
-use vh_base::{BodyName, HandleNo, Order, ProcName, Seen, Sequence, Short};
+use vh_base::{Order, Seen, Sequence, Short};
 
 /// A script that was read.
 #[derive(Drop)]
 pub struct Script {
     name: Short,
-    variables: Sequence<Short>,
-    startup: Sequence<Command>,
+    variables: usize,
     procedures: Sequence<Procedure>,
+    nodes: Sequence<Node>,
 }
 
 impl Model for Script {
     ghost Value = { ScriptData };
 
-    ghost view = { λ s. record { name = s.name; variables = s.variables; startup = s.startup; procedures = s.procedures } };
+    ghost view = { λ s. record {
+      name = s.name;
+      variables = s.variables;
+      procedures = s.procedures;
+      nodes = s.nodes;
+    } };
 }
 
 impl Script {
     /// A script of these parts.
     pub(crate) fn new(
         name: Short,
-        variables: Vec<Short>,
-        startup: Vec<Command>,
+        variables: usize,
         procedures: Vec<Procedure>,
+        nodes: Vec<Node>,
     ) -> Script
-        ensures { result ≡ record { name = name; variables = variables.items; startup = startup.items; procedures = procedures.items } }
+        ensures { result ≡ record {
+          name = name;
+          variables = variables;
+          procedures = procedures.items;
+          nodes = nodes.items;
+        } }
     {
         Script {
             name,
-            variables: Sequence::new(variables),
-            startup: Sequence::new(startup),
+            variables,
             procedures: Sequence::new(procedures),
+            nodes: Sequence::new(nodes),
         }
     }
 
@@ -50,115 +62,121 @@ impl Script {
 
     /// How many variables it has.
     pub(crate) fn variable_count(&self) -> usize
-        ensures { result ≡ length self.now.variables }
+        ensures { result ≡ self.now.variables }
     {
-        self.variables.as_slice().len()
+        self.variables
     }
 
     /// Where its startup begins.
     pub fn startup(&self) -> Point
-        ensures { result ≡ Next.opening Body.Startup }
+        ensures { result ≡ spec.startup }
     {
-        Point::new(Body::Startup)
+        Point::new(0)
     }
 
     /// Where the procedure of this name begins, found in time that grows with the number of the
     /// procedures.
     pub fn procedure(&self, name: &[u8]) -> Option<Point>
-        ensures { result ≡ Next.procedure_named self.now name.now }
+        ensures { result ≡ procedure_named self.now name.now }
     {
-        match self.number(name) {
-            Some(number) => Some(Point::new(Body::Procedure(number))),
-            None => None,
-        }
-    }
-
-    /// The next order from a point that this script gave, and the point behind it. The variable that waits
-    /// for the last order's answer gets it first. Takes no memory.
-    pub fn next(&self, at: &mut Point, vars: &mut Vars, seen: &Seen) -> Order
-        ensures { (result, at.new, vars.new) ≡ Next.next_of self.now at.old vars.old seen.now }
-    {
-        vars.store(at.waiting, &seen.last);
-        match self.commands(at.body).get(at.at) {
-            Some(Command::Ask { target, form }) => {
-                at.at += 1;
-                at.waiting = *target;
-                self.order(vars, seen, form)
-            }
-            None => {
-                at.waiting = None;
-                Order::Return
-            }
-        }
+        self.start(self.number(name))
     }
 
     // The number of a procedure.
     fn number(&self, name: &[u8]) -> Option<usize>
-        ensures { result ≡ Next.number_of self.now name.now }
+        ensures { result ≡ number_of self.now name.now }
     {
         let procedures = self.procedures.as_slice();
         procedures.iter().position(|p| p.name.bytes() == name)
     }
 
-    // The commands of the startup or of a procedure.
-    fn commands(&self, body: Body) -> &[Command]
-        ensures { result.now ≡ Next.commands_of self.now body }
+    // Where a procedure begins, if there is one.
+    fn start(&self, number: Option<usize>) -> Option<Point>
+        ensures { result ≡ procedure_in self.now number }
     {
-        match body {
-            Body::Startup => self.startup.as_slice(),
-            Body::Procedure(number) => commands_at(number, self.procedures.as_slice()),
+        let Some(n) = number else {
+            return None;
+        };
+        match self.procedures.as_slice().get(n) {
+            Some(procedure) => Some(Point::new(procedure.start)),
+            None => None,
         }
     }
 
-    // The order of a form.
-    fn order(&self, vars: &Vars, seen: &Seen, form: &Form) -> Order
-        ensures { result ≡ Next.order_from self.now vars.now seen.now form.now }
+    /// The next order from a point that this script gave, and the point behind it. The variable that waits
+    /// for the last order's answer gets it first. Takes no memory; its time grows with the steps
+    /// on the way to the order.
+    pub fn next(&self, at: &mut Point, vars: &mut Vars, seen: &Seen) -> Order
+        ensures { (result, at.new, vars.new) ≡ next_of self.now at.old vars.old seen.now }
     {
-        match form {
-            Form::ByName { text, scope } => Order::ByName {
-                text: text.copy(),
-                scope: handle(vars, seen, *scope),
-            },
-            Form::Register {
-                reason,
-                h,
-                procedure,
-                n,
-            } => Order::Register {
-                reason: *reason,
-                h: handle(vars, seen, *h),
-                time: 0,
-                body: BodyName::Proc(ProcName {
-                    app: self.name.copy(),
-                    name: procedure.copy(),
-                }),
-                n: *n,
-            },
-            Form::Remove { h } => Order::Remove {
-                h: handle(vars, seen, *h),
-            },
-            Form::Print { text } => Order::Print { text: text.copy() },
+        vars.store(at.waiting, &seen.last);
+        *at = Point::new(at.at);
+        for _ in 0..self.nodes.as_slice().len() {
+            if let Some(order) = self.step(at, vars, seen) {
+                return order;
+            }
         }
+        Order::Return
     }
-}
 
-// The commands of a procedure, and none where there is no such procedure.
-fn commands_at(number: usize, procedures: &[Procedure]) -> &[Command]
-    ensures { result.now ≡ Next.commands_in (slice_get procedures.now number) }
-{
-    match procedures.get(number) {
-        Some(procedure) => procedure.commands.as_slice(),
-        None => &[],
-    }
-}
-
-// A handle from where it comes.
-fn handle(vars: &Vars, seen: &Seen, source: Source) -> Option<HandleNo>
-    ensures { result ≡ Next.handle_from vars.now seen.now source }
-{
-    match source {
-        Source::Null => None,
-        Source::Me => seen.me,
-        Source::Variable(number) => vars.handle(number),
+    // One step, which may be an order.
+    fn step(&self, at: &mut Point, vars: &mut Vars, seen: &Seen) -> Option<Order>
+        ensures { record { order = result; at = at.new; vars = vars.new }
+            ≡ came self.now seen.now vars.old (at.old).at }
+    {
+        match self.nodes.as_slice().get(at.at) {
+            Some(Node::Ask { target, form }) => {
+                let order = self.order(vars, seen, form);
+                *at = Point {
+                    at: at.at + 1,
+                    waiting: *target,
+                };
+                Some(order)
+            }
+            Some(
+                Node::Set {
+                    target,
+                    value,
+                    added,
+                },
+            ) => {
+                let value = set_to(vars, seen, value, added);
+                vars.set(*target, value);
+                *at = Point::new(at.at + 1);
+                None
+            }
+            Some(Node::Choose { test, fails }) => {
+                let next = if holds(vars, seen, test) {
+                    at.at + 1
+                } else {
+                    *fails
+                };
+                *at = Point::new(next);
+                None
+            }
+            Some(
+                Node::Turn {
+                    test,
+                    holds: first,
+                    fails,
+                },
+            ) => {
+                let next = if holds(vars, seen, test) {
+                    *first
+                } else {
+                    *fails
+                };
+                *at = Point::new(next);
+                Some(Order::Pass)
+            }
+            Some(Node::Go(to)) => {
+                *at = Point::new(*to);
+                None
+            }
+            Some(Node::Return) | None => {
+                *at = Point::new(at.at);
+                Some(Order::Return)
+            }
+        }
     }
 }

@@ -1,11 +1,14 @@
-ghost use Rattle.std.specs.Prelude.{◌≡◌, List, IfOk, slice_get};
+ghost use Rattle.std.specs.Prelude.{◌≡◌, List, IfOk, slice_get, set};
 ghost use Rattle.vh_base.specs.declared.orders.Answer.{Answer};
 ghost use Rattle.vh_app.specs.Next;
+ghost use Rattle.vh_app.specs.Values as spec;
+ghost use Rattle.vh_app.specs.Values.{held};
 
 use crate::script::Script;
+use crate::turned::{empty, handle_in, number_in, text_in};
 use std::alloc::Global;
 use std::marker::Model;
-use vh_base::{Answer, HandleNo, NoMemory};
+use vh_base::{Answer, HandleNo, NoMemory, Short};
 
 /// The variables of a script, which contracts see as the list of what they hold. All
 /// activations of the script share them.
@@ -36,20 +39,57 @@ impl Vars {
     pub(crate) fn store(&mut self, waiting: Option<usize>, last: &Answer)
         ensures { self.new ≡ Next.stored waiting last.now self.old }
     {
-        if let Some(number) = waiting
-            && number < self.values.len()
-        {
-            self.values[number] = last.copy();
+        if let Some(number) = waiting {
+            self.set(number, last.copy());
         }
     }
 
-    /// The handle that a variable holds; anything but a handle is null.
-    pub(crate) fn handle(&self, number: usize) -> Option<HandleNo>
-        ensures { result ≡ Next.held (slice_get self.now number) }
+    /// A variable gets a value, if it is there.
+    pub(crate) fn set(&mut self, number: usize, value: Answer)
+        ensures { self.new ≡ set self.old number value }
+    {
+        if number < self.values.len() {
+            self.values[number] = value;
+        }
+    }
+
+    /// What a variable holds; one that isn't there is null.
+    pub(crate) fn value(&self, number: usize) -> Answer
+        ensures { result ≡ held (slice_get self.now number) }
     {
         match self.values.get(number) {
-            Some(Answer::Handle(handle)) => Some(*handle),
-            _ => None,
+            Some(answer) => answer.copy(),
+            None => Answer::Null,
+        }
+    }
+
+    /// The handle that it is where a handle is needed.
+    pub(crate) fn handle(&self, number: usize) -> Option<HandleNo>
+        ensures { result ≡ spec.handle_in (held (slice_get self.now number)) }
+    {
+        match self.values.get(number) {
+            Some(answer) => handle_in(answer),
+            None => None,
+        }
+    }
+
+    /// The number that it is where a number is needed.
+    pub(crate) fn number(&self, number: usize) -> u64
+        ensures { result ≡ spec.number_in (held (slice_get self.now number)) }
+    {
+        match self.values.get(number) {
+            Some(answer) => number_in(answer),
+            None => 0,
+        }
+    }
+
+    /// The text that it is where a text is needed.
+    pub(crate) fn text(&self, number: usize) -> Short
+        ensures { result ≡ spec.text_in (held (slice_get self.now number)) }
+    {
+        match self.values.get(number) {
+            Some(answer) => text_in(answer),
+            None => empty(),
         }
     }
 }

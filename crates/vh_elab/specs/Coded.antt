@@ -1,8 +1,10 @@
 -- The second pass over an instance: the codes of processes and the bodies of tasks and functions, and the least fault of these.
 -- (IEEE 1364-2005, 6.1, 6.2.1, 7.1, 9.9, 10 and 12.3)
-use Rattle.std.specs.Prelude.{ℕ, ◌+◌, Bool, true, List, [], ◌∷◌, ◌++◌, length, if◌then◌else◌, ◌==◌, Option, Some, None, Result, Ok, Err}
-use Rattle.vh_base.specs.declared.faults.DesignFault.TheVariants.{N7}
+use Rattle.std.specs.Prelude.{ℕ, ◌+◌, ◌-◌, Bool, true, List, [], ◌∷◌, ◌++◌, length, if◌then◌else◌, ◌==◌, nat_lt, Option, Some, None, Result, Ok, Err, drop}
+use Rattle.vh_base.specs.declared.faults.DesignFault.TheVariants.{N7, N11}
 use Rattle.vh_base.specs.declared.place.Place.{Place}
+use Rattle.vh_nodes.specs.declared.expr.ExprKind.{ExprKind}
+use Rattle.vh_nodes.specs.declared.expr.ExprKind.TheVariants as kind
 use Rattle.vh_nodes.specs.declared.object.ObjectInfo.{ObjectInfo}
 use Rattle.vh_code.specs.declared.code.Code.{Code}
 use Rattle.vh_code.specs.declared.operation.Operation.{Operation}
@@ -22,7 +24,7 @@ use Rattle.vh_flow.specs.declared.code_kind.CodeKind.TheVariants as code_of
 use Rattle.vh_lower.specs.Making.{Added, Making}
 use Rattle.vh_lower.specs.Processes.{initial_code, drive_code}
 use Rattle.vh_lower.specs.Statements.{lowered}
-use Rattle.vh_least.specs.Least.{Fault, least}
+use Rattle.vh_least.specs.Least.{Fault, fault_if, least}
 use Rattle.vh_sites.specs.declared.site.CodeWord.{CodeWord}
 use Rattle.vh_sites.specs.declared.site.CodeWord.TheVariants as word
 use Rattle.vh_sites.specs.Sites.{Driven, net_of, target_of}
@@ -30,6 +32,7 @@ use Rattle.vh_declare.specs.Objects.{around_in}
 use Rattle.vh_declare.specs.Constants.{Genvars, genvars_in}
 use Rattle.vh_drives.specs.Nets.{Drivers, driver, drivers_sum, output_drivers, target_drivers, width_at}
 use Rattle.vh_drives.specs.Gates.{gate_code, gate_delay, has_terminals, input_of}
+use Rattle.vh_elab.specs.declared.counts.TheConstants.{MOST_COUNTED}
 use Rattle.vh_elab.specs.Routines.{Routines}
 
 -- The instances, of which all constants are known: the second pass reads this, and changes nothing in it. The precision is that of
@@ -63,7 +66,7 @@ surroundings_at r unit scope =
     record { scope = scope_in r unit (around_in r.objects scope); arguments = r.routines.arguments }
 
 -- What is made so far, and the least fault so far: the codes of processes and of bodies, drivers, and what these have added to the
--- design; and whether something was passed over.
+-- design; whether something was passed over; and how many statements and operators there are.
 pub record Coding : Type 0 where
   pub added : Added
   pub drivers : Drivers
@@ -71,6 +74,7 @@ pub record Coding : Type 0 where
   pub bodies : List Code
   pub fault : Option Fault
   pub passed : Bool
+  pub count : ℕ
 
 abbrev pub with_fault : Fault → Coding → Coding
 with_fault fault c = record c { fault = least c.fault (Some fault) }
@@ -210,3 +214,39 @@ terminals_coded r w place g wait (output ∷ inputs) c =
 
 abbrev pub gate_coded : Ready → Surroundings → GateType → Option DelayTree → GateTree → Coding → Coding
 gate_coded r w g wait x c = terminals_coded r w x.place g wait x.terminals c
+
+-- How many operators an expression has: what folds or joins digits without one has none. (Table 5-1; own for the latter)
+abbrev pub operators_in : ExprKind → ℕ
+operators_in (kind.Literal v) = 0
+operators_in (kind.Selected s) = 0
+operators_in (kind.Unary o part) = 1
+operators_in (kind.Arithmetic first rest) = length rest
+operators_in (kind.Shift first rest) = length rest
+operators_in (kind.Comparison first rest) = length rest
+operators_in (kind.Logic first rest) = length rest
+operators_in (kind.Choice condition a b) = 1
+operators_in (kind.Join first rest) = 0
+operators_in (kind.Repeat times part) = 0
+operators_in (kind.Marked part signed) = 0
+operators_in (kind.Time unit) = 0
+operators_in (kind.Call function result arguments) = 0
+operators_in (kind.SysCall o) = 0
+
+abbrev pub operators_of : Nodes → ℕ
+operators_of [] = 0
+operators_of (n ∷ ns) = operators_in n.kind + operators_of ns
+
+-- The statements and operators that a site has, behind so many statements and expressions: those that are more than there may be
+-- are N11, at the site. (own)
+abbrev pub is_full : Coding → Bool
+is_full c = nat_lt MOST_COUNTED c.count
+
+abbrev pub with_count : Place → ℕ → Coding → Coding
+with_count place n c =
+    record c { fault = least c.fault (fault_if (nat_lt MOST_COUNTED n) N11 place); count = n }
+
+abbrev pub grown : ℕ → ℕ → Added → ℕ
+grown stmts exprs a = (length a.stmts - stmts) + operators_of (drop exprs a.exprs)
+
+abbrev pub counted : Place → ℕ → ℕ → Coding → Coding
+counted place stmts exprs c = with_count place (c.count + grown stmts exprs c.added) c

@@ -1,6 +1,6 @@
 -- The design of a source, or its least fault; or neither, where it has what comes later: functions with outputs, and drivers that begin
 -- below their net. (IEEE 1364-2005, clause 12)
-use Rattle.std.specs.Prelude.{ℕ, Bool, true, false, ◌||◌, List, [], ◌∷◌, ◌++◌, map, if◌then◌else◌, Option, Some, None, is_some}
+use Rattle.std.specs.Prelude.{ℕ, Bool, true, false, not, ◌||◌, List, [], ◌∷◌, ◌++◌, length, map, if◌then◌else◌, Option, Some, None, is_some}
 use Rattle.vh_base.specs.declared.place.Place.{Place}
 use Rattle.vh_ast.specs.Expressions.{ExprTree}
 use Rattle.vh_ast.specs.Items.{InstTree, ModuleTree, SourceTree}
@@ -24,7 +24,7 @@ use Rattle.vh_walk.specs.Order.{Placed, Walk, Walked, instances_of, least_precis
 use Rattle.vh_walk.specs.Order as W
 use Rattle.vh_declare.specs.Constants.{literal_node}
 use Rattle.vh_elab.specs.Routines.{routines_of}
-use Rattle.vh_elab.specs.Coded.{Coding, Ready, assignment_coded, gate_coded, only_values, statement_coded, surroundings_at, value_coded}
+use Rattle.vh_elab.specs.Coded.{Coding, Ready, assignment_coded, counted, gate_coded, is_full, only_values, statement_coded, surroundings_at, value_coded}
 use Rattle.vh_elab.specs.Connected.{connected, object_at}
 use Rattle.vh_elab.specs.Fitting.{are_sound, is_design}
 
@@ -85,11 +85,12 @@ is_coded (gate g d x) = true
 is_coded (child m ps i) = true
 is_coded _ = false
 
+-- Behind one with which there are too many statements and operators nothing is looked for. (own)
 abbrev pub site_coded : SourceTree → Ready → ℕ → SiteTree → Coding → Coding
 site_coded ms r unit s c =
-    if is_coded s.declared then
-    declared_coded ms r (surroundings_at r unit (scope_of s.number s.scope s.declared)) s.number s.scope s.declared c
-    else c
+    if not (is_coded s.declared) || is_full c then c
+    else counted s.place (length c.added.stmts) (length c.added.exprs)
+    (declared_coded ms r (surroundings_at r unit (scope_of s.number s.scope s.declared)) s.number s.scope s.declared c)
 
 abbrev pub sites_coded : SourceTree → Ready → ℕ → List SiteTree → Coding → Coding
 sites_coded ms r unit [] c = c
@@ -136,6 +137,7 @@ no_codes r = record {
   bodies = [];
   fault = None;
   passed = false;
+  count = 0;
 }
 
 abbrev pub is_taken : Ready → Bool

@@ -36,6 +36,7 @@ coding_seen c = record {
   bodies = c.bodies.items;
   fault = c.fault;
   passed = c.passed;
+  count = c.count;
 }
 
 abbrev pub ready_seen : instances.Ready → Ready

@@ -52,6 +52,8 @@ pub(crate) struct Coding {
     pub(crate) bodies: Vec<Code>,
     pub(crate) fault: Option<Fault>,
     pub(crate) passed: bool,
+    /// How many statements and operators there are.
+    pub(crate) count: u64,
 }
 
 /// The values of parameters alone.

@@ -117,13 +117,20 @@ fn index_of<'a>(alloc: Global, conns: &'a [Conn]) -> Result<Index<'a>, NoMemory>
     Ok(index)
 }
 
-// The entry of a port, by its place or by its name.
-fn entry_for<'a>(conns: &'a [Conn], index: &Index, number: usize, name: &[u8]) -> Option<&'a Conn>
-    requires { index.now ≡ Connected.names_of (map conn_tree conns.now) }
+// The entry of a port, by its place where some entry has no name, else by its name.
+fn entry_for<'a>(
+    conns: &'a [Conn],
+    by_place: bool,
+    index: &Index,
+    number: usize,
+    name: &[u8],
+) -> Option<&'a Conn>
+    requires ordered { by_place ≡ list_any Overrides.is_ordered (map conn_tree conns.now) }
+    requires named { index.now ≡ Connected.names_of (map conn_tree conns.now) }
     ensures { option_map (λ c. conn_tree c.now) result
         ≡ Connected.entry_for (map conn_tree conns.now) number name.now }
 {
-    if any_ordered(conns) {
+    if by_place {
         return conns.get(number);
     }
     let place = index.place(name)?;
@@ -131,12 +138,19 @@ fn entry_for<'a>(conns: &'a [Conn], index: &Index, number: usize, name: &[u8]) -
 }
 
 // What is connected to a port.
-fn outer_for<'a>(conns: &'a [Conn], index: &Index, number: usize, name: &[u8]) -> Option<Outer<'a>>
-    requires { index.now ≡ Connected.names_of (map conn_tree conns.now) }
+fn outer_for<'a>(
+    conns: &'a [Conn],
+    by_place: bool,
+    index: &Index,
+    number: usize,
+    name: &[u8],
+) -> Option<Outer<'a>>
+    requires ordered { by_place ≡ list_any Overrides.is_ordered (map conn_tree conns.now) }
+    requires named { index.now ≡ Connected.names_of (map conn_tree conns.now) }
     ensures { option_map outer_seen result
         ≡ Connected.outer_for (map conn_tree conns.now) number name.now }
 {
-    let entry = entry_for(conns, index, number, name)?;
+    let entry = entry_for(conns, by_place, index, number, name)?;
     outer_of(entry)
 }
 
@@ -393,8 +407,9 @@ fn code_row(
     ensures sound { OnOk result (IsSound mode.Value (surroundings_seen around.now).scope
         (coding_seen coding.new).added.exprs) }
 {
+    let by_place = any_ordered(conns);
     for (number, id) in ids.iter().enumerate() {
-        let outer = outer_for(conns, index, number, id.name.as_slice());
+        let outer = outer_for(conns, by_place, index, number, id.name.as_slice());
         code_port(alloc, ready, around, ports, instance, outer, id, coding)?;
     }
     Ok(())

@@ -217,6 +217,7 @@ fn made_over(
         bodies: Vec::new(alloc),
         fault: None,
         passed: false,
+        count: 0,
     };
     code_instances(alloc, modules, ready, all, &mut coding)?;
     Ok(Some(coding))
@@ -237,6 +238,7 @@ fn finished(
         bodies,
         fault,
         passed,
+        count: _,
     } = coding;
     if let Some((fault, place)) = fault {
         return Ok(Elaboration::Refused(fault, place));

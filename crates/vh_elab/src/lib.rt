@@ -11,6 +11,7 @@
 
 mod coding;
 mod connected;
+mod counts;
 mod design;
 mod gates;
 mod routines;

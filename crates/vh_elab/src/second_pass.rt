@@ -15,6 +15,7 @@ ghost use Rattle.vh_elab.specs.Views.{coding_seen, ready_seen};
 
 use crate::coding::{Coding, Ready, code_assignment, code_body, code_construct, code_value};
 use crate::connected::{code_ports, object_at};
+use crate::counts::{MOST_COUNTED, count};
 use crate::gates::code_gate;
 use std::alloc::Global;
 use vh_ast::{Id, Inst, Stmt};
@@ -288,10 +289,12 @@ fn code_site(
     ensures sound { OnOk result (AreSound (ready_seen ready.entry).objects
         (ready_seen ready.entry).precision (coding_seen coding.new).added.exprs) }
 {
-    if !is_coded(site.declared) {
+    if !is_coded(site.declared) || coding.count > MOST_COUNTED {
         return Ok(());
     }
     let inner = scope_of(site.number, site.scope, site.declared);
+    let stmts = coding.added.stmts.len();
+    let exprs = coding.added.exprs.len();
     code_in(
         alloc,
         modules,
@@ -302,7 +305,8 @@ fn code_site(
         site.scope,
         site.declared,
         coding,
-    )
+    )?;
+    count(site.place, stmts, exprs, coding)
 }
 
 /// The sites of an instance.

@@ -2,7 +2,6 @@ pub mod Appended
 pub mod Turns
 pub mod FileWords
 pub mod Files
-pub mod Scripts
 pub mod OpeningsLemmas
 pub mod Verdicts
 pub mod LabelTexts

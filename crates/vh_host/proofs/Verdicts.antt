@@ -1,9 +1,11 @@
 -- How a call's answer follows from the verdict.
-use Rattle.std.proofs.Common.{◌≡◌, ◌+◌, ◌≤◌, ℕ, List, [], ◌∷◌, Bool, true, false, cond, Option, Some, None, Result, Ok, Err, IfErr, refl, sym, ap, subst, ◌∙◌, arith, inl, inr}
+use Rattle.std.proofs.Common.{◌≡◌, ◌+◌, ◌≤◌, ℕ, List, [], ◌∷◌, ◌++◌, Bool, true, false, cond, Option, Some, None, Result, Ok, Err, IfErr, refl, sym, ap, subst, ◌∙◌, arith, inl, inr}
 use Rattle.vh_base.specs.Outside.{appended}
 use Rattle.vh_design.specs.Shape.{Shape}
 use Rattle.vh_app.specs.Script.{ScriptData}
-use Rattle.vh_app.specs.Meaning.{script_of}
+use Rattle.vh_app.specs.Reading.{app_of}
+use Rattle.vh_base.specs.declared.faults.AppFault.{AppFault}
+use Rattle.vh_base.specs.declared.place.Place.{Place}
 use Rattle.vh_choice.specs.declared.chooser.Chooser.{Chooser}
 use Rattle.vh_kernel.specs.Settle.{Opens}
 use Rattle.vh_kernel.specs.State.{State}
@@ -13,7 +15,7 @@ use Rattle.vh_host.specs.declared.status.Status.TheVariants as status
 use Rattle.vh_host.specs.declared.judging.Refusal.{Refusal}
 use Rattle.vh_host.specs.declared.judging.Refusal.TheVariants as refusal
 use Rattle.vh_words.specs.Words.{Reading, reading, files_of, order_of, budget_of, file_words, is_script_word}
-use Rattle.vh_host.specs.Acceptance.{Verdict, accepts, refuses, by_reading, by_files, by_length, by_texts, by_design, by_scripts, script_then, scripts_of, DesignRefusal, design_answer, verdict, File, files_with, first_too_long}
+use Rattle.vh_host.specs.Acceptance.{Verdict, accepts, refuses, by_reading, by_files, by_length, by_texts, by_design, by_scripts, names_of, script_in, script_then, scripts_of, DesignRefusal, design_answer, verdict, File, files_with, first_too_long}
 use Rattle.vh_host.specs.Transcript.{WroteOf, WroteFromOpening}
 use Rattle.vh_host.specs.Headline.{Holds, FailsBefore, AnswersWith, Accounts, Transcribes, Refuses, WereAnswered, Tells}
 use Rattle.vh_host.specs.Reading.{AreRead, MeetsLong, MeetsNoneLong, contents_of}
@@ -52,21 +54,23 @@ failed_refusal : (order : Chooser) (budget : ℕ) (r : Status) (n : ℕ) (w : Op
 failed_refusal order budget r n w before = record { written = []; appends = sym (appended_nothing w); answers = (inr before, refl) }
 
 -- The scripts are refused once all files were read.
-script_later : (m n : ℕ) (script : Option ScriptData) (others : Result (List ScriptData) Status) → IfErr others (FailsBefore m)
-    → IfErr (script_then n script others) (FailsBefore m)
-script_later m n None others later = tt
-script_later m n (Some script) (Ok found) later = tt
-script_later m n (Some script) (Err refusal) later = later
+either_later : (m : ℕ) (b : Bool) (r s : Result (List ScriptData) Status) → IfErr r (FailsBefore m) → IfErr s (FailsBefore m)
+    → IfErr (cond b r s) (FailsBefore m)
+either_later m true r s one other = one
+either_later m false r s one other = other
 
-file_later : (m n : ℕ) (b : Bool) (script : Option ScriptData) (others : Result (List ScriptData) Status) → IfErr others (FailsBefore m)
-    → IfErr (cond b (script_then n script others) others) (FailsBefore m)
-file_later m n true script others later = script_later m n script others later
-file_later m n false script others later = later
+script_later : (m : ℕ) (found : List ScriptData) (further : List ScriptData → Result (List ScriptData) Status) (n : ℕ) (r : Result ScriptData (AppFault × Place))
+    → ((scripts : List ScriptData) → IfErr (further scripts) (FailsBefore m)) → IfErr (script_then found further (script_in n r)) (FailsBefore m)
+script_later m found further n (Err why) later = tt
+script_later m found further n (Ok script) later = later (found ++ script ∷ [])
 
-scripts_later : (m n : ℕ) (files : List File) → IfErr (scripts_of n files) (FailsBefore m)
-scripts_later m n [] = tt
-scripts_later m n (file ∷ files) =
-    file_later m n (is_script_word file.word) (script_of file.bytes) (scripts_of (n + 1) files) (scripts_later m (n + 1) files)
+scripts_later : (m n : ℕ) (found : List ScriptData) (files : List File) → IfErr (scripts_of n found files) (FailsBefore m)
+scripts_later m n found [] = tt
+scripts_later m n found (file ∷ files) =
+    either_later m (is_script_word file.word) _ _
+    (script_later m found (λ scripts. scripts_of (n + 1) scripts files) n (app_of file.bytes (names_of found))
+    (λ scripts. scripts_later m (n + 1) scripts files))
+    (scripts_later m (n + 1) found files)
 
 failed_scripts : (order : Chooser) (budget : ℕ) (design : Shape) (scripts : Result (List ScriptData) Status) (n : ℕ) (w : Option (List ℕ))
     → IfErr scripts (FailsBefore n) → AnswersWith order budget (by_scripts design scripts) (status.ReadFault n) w w
@@ -82,7 +86,7 @@ failed_design : (order : Chooser) (budget : ℕ) (design : Result Shape DesignRe
     → AnswersWith order budget (by_design design files) (status.ReadFault n) w w
 failed_design order budget (Err refusal) files n w = failed_refusal order budget _ n w tt
 failed_design order budget (Ok design) files n w =
-    failed_scripts order budget design (scripts_of 1 files) n w (scripts_later n 1 files)
+    failed_scripts order budget design (scripts_of 1 [] files) n w (scripts_later n 1 [] files)
 
 -- A read that failed, where no file before is too long.
 pub read_failed : (order : Chooser) (budget : ℕ) (o : Option ℕ) (files : List File) (n : ℕ) (w : Option (List ℕ))

@@ -1,6 +1,6 @@
 -- Which words and texts are accepted: one function that gives the design and the scripts, or the first refusal. (own)
-use Rattle.std.specs.Prelude.{ℕ, ◌+◌, List, [], ◌∷◌, Bool, cond, if◌then◌else◌, Option, Some, None, Result, Ok, Err, nat_lt, length, map, slice_get}
-use Rattle.vh_base.specs.declared.faults.AppFault.TheVariants as app
+use Rattle.std.specs.Prelude.{ℕ, ◌+◌, List, [], ◌∷◌, ◌++◌, Bool, cond, if◌then◌else◌, Option, Some, None, Result, Ok, Err, nat_lt, length, map, slice_get}
+use Rattle.vh_base.specs.declared.faults.AppFault.{AppFault}
 use Rattle.vh_base.specs.declared.faults.DesignFault.{DesignFault}
 use Rattle.vh_base.specs.declared.faults.DesignFault.TheVariants as fault
 use Rattle.vh_base.specs.declared.place.Place.{Place}
@@ -16,7 +16,7 @@ use Rattle.vh_parse_items.specs.Answers.{source_answer}
 use Rattle.vh_elab.specs.Elaborated.{Elaborated, made, later, elaborated}
 use Rattle.vh_elab.specs.Elaborated as elab
 use Rattle.vh_app.specs.Script.{ScriptData}
-use Rattle.vh_app.specs.Meaning.{script_of}
+use Rattle.vh_app.specs.Reading.{app_of}
 use Rattle.vh_host.specs.declared.status.Status.{Status}
 use Rattle.vh_host.specs.declared.status.Status.TheVariants as status
 use Rattle.vh_words.specs.Words as words
@@ -99,17 +99,32 @@ lexed_answer begin exhausted = tokens_answer begin [] (place 1 1 1)
 abbrev pub design_answer : List File → Result Shape DesignRefusal
 design_answer files = lexed_answer (begin_from 1 files) (files_read (design_files 1 files))
 
--- A script before others, or the refusal of the file of this number, which isn't one of the first scripts.
-abbrev pub script_then : ℕ → Option ScriptData → Result (List ScriptData) Status → Result (List ScriptData) Status
-script_then n None others = Err (status.AppRefused n app.A2 (place n 1 1))
-script_then n (Some script) (Ok others) = Ok (script ∷ others)
-script_then n (Some script) (Err refusal) = Err refusal
+-- The names of scripts.
+abbrev pub names_of : List ScriptData → List (List ℕ)
+names_of scripts = map (λ (s : ScriptData). s.name) scripts
 
--- The scripts in word order, or the first refusal; the first of these files has the number n.
-abbrev pub scripts_of : ℕ → List File → Result (List ScriptData) Status
-scripts_of n [] = Ok []
-scripts_of n (file ∷ files) =
-    cond (is_script_word file.word) (script_then n (script_of file.bytes) (scripts_of (n + 1) files)) (scripts_of (n + 1) files)
+-- The refusal of a script in the file of this number.
+abbrev pub script_refused : ℕ → AppFault × Place → Status
+script_refused n why = status.AppRefused n why.0 (record why.1 { file = n })
+
+abbrev pub script_in : ℕ → Result ScriptData (AppFault × Place) → Result ScriptData Status
+script_in n (Ok script) = Ok script
+script_in n (Err why) = Err (script_refused n why)
+
+-- A script behind those that were found, and what comes behind it; or its refusal.
+abbrev pub script_then : List ScriptData → (List ScriptData → Result (List ScriptData) Status) → Result ScriptData Status
+    → Result (List ScriptData) Status
+script_then found further (Ok script) = further (found ++ script ∷ [])
+script_then found further (Err refusal) = Err refusal
+
+-- The scripts in word order behind those that were found, none of which has the name of one before it; or
+-- the first refusal. The first of these files has the number n.
+abbrev pub scripts_of : ℕ → List ScriptData → List File → Result (List ScriptData) Status
+scripts_of n found [] = Ok found
+scripts_of n found (file ∷ files) =
+    if is_script_word file.word
+    then script_then found (λ scripts. scripts_of (n + 1) scripts files) (script_in n (app_of file.bytes (names_of found)))
+    else scripts_of (n + 1) found files
 
 -- A design with its scripts.
 abbrev pub by_scripts : Shape → Result (List ScriptData) Status → Verdict
@@ -119,7 +134,7 @@ by_scripts design (Err refusal) = refuses refusal
 -- The Verilog text comes before the scripts.
 abbrev pub by_design : Result Shape DesignRefusal → List File → Verdict
 by_design (Err refusal) files = refuses (status.DesignRefused refusal.0 refusal.1)
-by_design (Ok design) files = by_scripts design (scripts_of 1 files)
+by_design (Ok design) files = by_scripts design (scripts_of 1 [] files)
 
 -- The texts, each of which is short enough.
 abbrev pub by_texts : List File → Verdict

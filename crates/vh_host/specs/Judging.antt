@@ -4,13 +4,12 @@ use Rattle.vh_design.specs.Shape.{Shape}
 use Rattle.vh_lex.specs.declared.fault.LexFault.{LexFault}
 use Rattle.vh_lex.specs.declared.fault.LexFault.TheVariants as lexical
 use Rattle.vh_lex.specs.Lexed.{Lexed, refused, IsBegun}
-use Rattle.vh_base.specs.declared.faults.AppFault.TheVariants as app
 use Rattle.vh_app.specs.Script.{ScriptData}
 use Rattle.vh_host.specs.declared.status.Status.{Status}
 use Rattle.vh_host.specs.declared.status.Status.TheVariants as status
 use Rattle.vh_host.specs.declared.judging.Refusal.{Refusal}
 use Rattle.vh_host.specs.declared.judging.Refusal.TheVariants as refusal
-use Rattle.vh_host.specs.Acceptance.{Verdict, refuses, place, DesignRefusal}
+use Rattle.vh_host.specs.Acceptance.{Verdict, refuses, DesignRefusal}
 
 -- The status of a refusal.
 abbrev pub status_of : Refusal → Status
@@ -30,11 +29,11 @@ RefusesScript (refusal.Design fault at) r = ⊥
 RefusesScript (refusal.Script n fault at) r = r ≡ Err (status.AppRefused n fault at)
 RefusesScript refusal.NoMemory r = Unit {0}
 
--- The same of the file of this number.
-abbrev pub RefusesFile : Refusal → ℕ → Option ScriptData → Type 0
-RefusesFile (refusal.Design fault at) number o = ⊥
-RefusesFile (refusal.Script n fault at) number o = (o ≡ None) × (n ≡ number) × (fault ≡ app.A2) × (at ≡ place number 1 1)
-RefusesFile refusal.NoMemory number o = Unit {0}
+-- The same of one file.
+abbrev pub RefusesFile : Refusal → Result ScriptData Status → Type 0
+RefusesFile (refusal.Design fault at) r = ⊥
+RefusesFile (refusal.Script n fault at) r = r ≡ Err (status.AppRefused n fault at)
+RefusesFile refusal.NoMemory r = Unit {0}
 
 -- A lexical fault as a refusal.
 abbrev pub refusal_of : LexFault → Refusal

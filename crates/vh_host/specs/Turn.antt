@@ -21,6 +21,7 @@ status_of_end (ending.Fault f) = status.RunFault f
 abbrev pub status_after : Label → Option Status
 status_after (label.Startup k) = None
 status_after (label.Do who order answer) = None
+status_after (label.Pass who) = None
 status_after (label.Ret who) = None
 status_after (label.Occ n reason object) = None
 status_after (label.Fire n c) = None

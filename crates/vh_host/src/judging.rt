@@ -1,6 +1,6 @@
-ghost use Rattle.std.specs.Prelude.{◌≡◌, ◌≤◌, Ok, Some, None, length, IfOk, IfErr};
-ghost use Rattle.vh_app.specs.Meaning.{script_of};
-ghost use Rattle.vh_host.specs.Acceptance.{by_texts, scripts_of, accepts, first_too_long};
+ghost use Rattle.std.specs.Prelude.{◌≡◌, ◌≤◌, ◌<◌, [], Ok, None, length, IfOk, IfErr};
+ghost use Rattle.vh_app.specs.Reading.{app_of};
+ghost use Rattle.vh_host.specs.Acceptance.{by_texts, script_in, scripts_of, accepts, first_too_long};
 ghost use Rattle.vh_host.specs.Reading.{files_seen};
 ghost use Rattle.vh_host.specs.Judging.{RefusesTexts, RefusesScript, RefusesFile, status_of};
 
@@ -104,32 +104,42 @@ pub fn judge(alloc: Global, files: &[TextFile<'_>]) -> Result<(Design, Vec<Scrip
 
 // The scripts in word order, or the first refusal.
 fn scripts_of(alloc: Global, files: &[TextFile<'_>]) -> Result<Vec<Script>, Refusal>
-    requires { length files.now ≤ 8 }
-    ensures read { IfOk result (λ scripts. scripts_of 1 (files_seen files.now) ≡ Ok scripts.items) }
+    requires few { length files.now ≤ 8 }
+    requires short { first_too_long 1 (files_seen files.now) ≡ None }
+    ensures read { IfOk result (λ scripts. scripts_of 1 [] (files_seen files.now) ≡ Ok scripts.items) }
     ensures few { IfOk result (λ scripts. length scripts.items ≤ 8) }
     ensures refused { IfErr result
-        (λ refusal. RefusesScript refusal (scripts_of 1 (files_seen files.now))) }
+        (λ refusal. RefusesScript refusal (scripts_of 1 [] (files_seen files.now))) }
 {
     let mut scripts = Vec::new(alloc);
+    let mut names = Vec::new(alloc);
     let mut number: u32 = 0;
     for file in files {
         number += 1;
         if !is_script_word(file.word) {
             continue;
         }
-        scripts.push(script_of(alloc, number, file)?)?;
+        let script = script_of(alloc, number, &names, file)?;
+        names.push(script.name().copy())?;
+        scripts.push(script)?;
     }
     Ok(scripts)
 }
 
-// The script of the file of this number.
-fn script_of(alloc: Global, number: u32, file: &TextFile<'_>) -> Result<Script, Refusal>
-    ensures read { IfOk result (λ script. script_of file.now.bytes.items ≡ Some script) }
-    ensures refused { IfErr result
-        (λ refusal. RefusesFile refusal number (script_of file.now.bytes.items)) }
+// The script of the file of this number, behind scripts of these names.
+fn script_of(
+    alloc: Global,
+    number: u32,
+    earlier: &Vec<Short>,
+    file: &TextFile<'_>,
+) -> Result<Script, Refusal>
+    requires { length file.now.bytes.items < 2147483648 }
+    ensures read { let told = script_in number (app_of file.now.bytes.items earlier.now.items) in
+        IfOk result (λ script. told ≡ Ok script) }
+    ensures refused { let told = script_in number (app_of file.now.bytes.items earlier.now.items) in
+        IfErr result (λ refusal. RefusesFile refusal told) }
 {
-    let earlier: Vec<Short> = Vec::new(alloc);
-    match read_app(alloc, file.bytes.as_slice(), &earlier) {
+    match read_app(alloc, file.bytes.as_slice(), earlier) {
         Ok(script) => Ok(script),
         Err(ScriptFault::Refused(fault, place)) => {
             let of_file = Place {

@@ -110,6 +110,7 @@ fn status_after(label: &Label) -> Option<Status>
         Label::End(Ending::Fault(fault)) => Some(Status::RunFault(*fault)),
         Label::Startup(_)
         | Label::Do(_, _, _)
+        | Label::Pass(_)
         | Label::Ret(_)
         | Label::Occ(_, _, _)
         | Label::Fire(_, _)

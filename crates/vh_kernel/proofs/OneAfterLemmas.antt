@@ -76,6 +76,7 @@ one-acted s u v l one other =
 one-row : (s u v : State) (l : Label) → IsSound s → Row s l u → Row s l v → u ≡ v
 one-row s u v (label.Startup k) sound one other = one.1 ∙ sym other.1
 one-row s u v (label.Do who order answer) sound one other = one-acted s u v (label.Do who order answer) one other
+one-row s u v (label.Pass who) sound one other = one-acted s u v (label.Pass who) one other
 one-row s u v (label.Ret who) sound one other = one-acted s u v (label.Ret who) one other
 one-row s u v (label.Occ n reason object) sound one other =
     let alike = one-told s one.what other.what one.rest other.rest one.next other.next in

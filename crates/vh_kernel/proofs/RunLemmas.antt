@@ -24,14 +24,14 @@ use Rattle.vh_kernel.specs.Statements.{statement_outcome, work_outcome}
 use Rattle.vh_kernel.specs.declared.label.Label.{Label}
 use Rattle.vh_kernel.specs.declared.label.Label.TheVariants as label
 use Rattle.vh_dispatch.specs.Frames.{top_set}
-use Rattle.vh_orders.specs.Orders.{Given, Effect, answered, effect_of, with_error, is_return}
+use Rattle.vh_orders.specs.Orders.{Given, Effect, answered, effect_of, with_error, is_pass, is_return}
 use Rattle.vh_orders.specs.World.{World}
 use Rattle.vh_kernel.specs.Outcome.{Outcome, Move, move_of}
 use Rattle.vh_choice.specs.declared.chooser.Chooser.{Chooser}
 use Rattle.vh_choice.specs.Choices.{chooser_after}
 use Rattle.vh_kernel.specs.Run.{move_from, moves_with, handle_in, given_in, all_given, OneRun}
 use Rattle.vh_kernel.specs.State.{State, with_queue, with_top, without_top, without_item, with_variables}
-use Rattle.vh_kernel.specs.Step.{FitsAnswer, Fits, IsStep, fire_move, telling_outcome, time_move, region_move, pick_move, agenda_move, idle_move, answer_move, order_move, activation_move, item_move, top_move, crowded_move, is_crowded, settled_move, step_of, choices_of, is_end}
+use Rattle.vh_kernel.specs.Step.{FitsAnswer, Fits, IsStep, fire_move, telling_outcome, time_move, region_move, pick_move, agenda_move, idle_move, answer_move, pass_move, order_move, activation_move, item_move, top_move, crowded_move, is_crowded, settled_move, step_of, choices_of, is_end}
 use Rattle.vh_orders.proofs.OrdersLemmas.{IsForm, refuses, answers_only, opens_object, registers, removes, effect-form}
 
 -- By the number that its answer shows, an order is answered again.
@@ -51,12 +51,17 @@ again-by o s g e (removes c h by names is) = subst (λ (x : Effect). GivesAgain 
 abbrev Shows : (Given → Move) → Given → Type 0
 Shows moves g = moves (given_in (moves g).0) ≡ moves g
 
+pass-shows : (b : Bool) (o : Order) (a : Activation) (before s : State) (g : Given)
+    → Shows (λ x. pass_move b o a before s x) g
+pass-shows true o a before s g = refl
+pass-shows false o a before s g =
+    ap (λ (given : Answer × World). answer_move o a (with_error given) before s)
+    (again-by o s.world g (effect_of o a.who s.world) (effect-form o a.who s.world))
+
 order-shows : (b : Bool) (o : Order) (a : Activation) (before s : State) (g : Given)
     → Shows (λ x. order_move b o a before s x) g
 order-shows true o a before s g = refl
-order-shows false o a before s g =
-    ap (λ (given : Answer × World). answer_move o a (with_error given) before s)
-    (again-by o s.world g (effect_of o a.who s.world) (effect-form o a.who s.world))
+order-shows false o a before s g = pass-shows (is_pass o) o a before s g
 
 pub activation-shows : (script : Option ScriptData) (vars : Option (List Answer)) (a : Activation) (s : State) (g : Given)
     → Shows (λ x. activation_move script vars a s x) g
@@ -102,11 +107,16 @@ answer-fits o s g e (registers r h time n body object b by watches calls room fr
     subst (λ (x : Effect). FitsAnswer s (answered x s.world g).0) (sym is) fresh
 answer-fits o s g e (removes c h by names is) fresh = subst (λ (x : Effect). FitsAnswer s (answered x s.world g).0) (sym is) tt
 
+pass-fits : (b : Bool) (o : Order) (a : Activation) (before s : State) (g : Given) → s.world.handles.is_given g.handle ≡ false
+    → Fits s (pass_move b o a before s g).0
+pass-fits true o a before s g fresh = tt
+pass-fits false o a before s g fresh =
+    answer-fits o s g (effect_of o a.who s.world) (effect-form o a.who s.world) fresh
+
 order-fits : (b : Bool) (o : Order) (a : Activation) (before s : State) (g : Given) → s.world.handles.is_given g.handle ≡ false
     → Fits s (order_move b o a before s g).0
 order-fits true o a before s g fresh = tt
-order-fits false o a before s g fresh =
-    answer-fits o s g (effect_of o a.who s.world) (effect-form o a.who s.world) fresh
+order-fits false o a before s g fresh = pass-fits (is_pass o) o a before s g fresh
 
 activation-fits : (script : Option ScriptData) (vars : Option (List Answer)) (a : Activation) (s : State) (g : Given)
     → s.world.handles.is_given g.handle ≡ false → Fits s (activation_move script vars a s g).0
@@ -135,6 +145,7 @@ fits-label s t (label.Do who order (answer.Handle h)) same fits =
 fits-label s t (label.Do who order (answer.Number n)) same fits = tt
 fits-label s t (label.Do who order (answer.Text text)) same fits = tt
 fits-label s t (label.Do who order (answer.Refused c)) same fits = tt
+fits-label s t (label.Pass who) same fits = tt
 fits-label s t (label.Ret who) same fits = tt
 fits-label s t (label.Occ n reason object) same fits = tt
 fits-label s t (label.Fire n c) same fits = tt

@@ -112,6 +112,7 @@ module _ (Q : Serials → Events → Type 0) (k : KeepsNotes Q) where
       sound-at u (started script k (without_item s)) row.1
       (sound-by s (started script k (without_item s)) (started-kept script k (without_item s)).activity sound)
   row-sound s u (label.Do who order answer) sound row = acts-sound s u (label.Do who order answer) sound row
+  row-sound s u (label.Pass who) sound row = acts-sound s u (label.Pass who) sound row
   row-sound s u (label.Ret who) sound row = acts-sound s u (label.Ret who) sound row
   row-sound s u (label.Occ n reason object) sound row =
       made-sound _ row.made u row.makes row.leaves

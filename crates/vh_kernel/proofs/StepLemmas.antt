@@ -32,12 +32,12 @@ use Rattle.vh_kernel.specs.declared.phase.Phase.TheVariants as phase
 use Rattle.vh_queue.specs.Events.{eligible, next_region, least_time}
 use Rattle.vh_dispatch.specs.Frames.{top_set, without_in_top}
 use Rattle.vh_kernel.specs.Occurrences.{Occurrence, occurrence_of}
-use Rattle.vh_orders.specs.Orders.{Given, performed, is_return}
+use Rattle.vh_orders.specs.Orders.{Given, performed, is_pass, is_return}
 use Rattle.vh_kernel.specs.Outcome.{Made, Outcome, Move, move_of}
 use Rattle.vh_kernel.specs.Settle.{settled, Opens}
 use Rattle.vh_kernel.specs.State.{State, with_top, without_top, without_item, with_frames, with_variables}
 use Rattle.vh_kernel.specs.Statements.{performed_outcome, worked_outcome, on_control, work_outcome}
-use Rattle.vh_kernel.specs.Step.{telling_outcome, called, fire_move, order_move, next_move_of, activation_move, time_move, region_move, pick_move, started, agenda_move, idle_move, item_move, top_move, crowded_move, is_crowded, is_end, step_of, is_over, item_choices, agenda_choices, idle_choices, top_choices, choices_of}
+use Rattle.vh_kernel.specs.Step.{telling_outcome, called, fire_move, pass_move, order_move, next_move_of, activation_move, time_move, region_move, pick_move, started, agenda_move, idle_move, item_move, top_move, crowded_move, is_crowded, is_end, step_of, is_over, item_choices, agenda_choices, idle_choices, top_choices, choices_of}
 
 -- The second state has the activity and the phase of the first.
 pub record IsKept (s t : State) : Type 0 where
@@ -47,9 +47,11 @@ pub record IsKept (s t : State) : Type 0 where
 pub same : (s : State) → IsKept s s
 same s = record { phase = refl; activity = refl }
 
--- What an activation does: it returns, or it gives an order and is answered, and is on control again.
+-- What an activation does: it returns, or it passes, or it gives an order and is answered, and is on control again.
 pub data IsActing (a : Activation) (s : State) (g : Given) (m : Move) : Type 0 where
   returns : (vars : List (List Answer)) → m ≡ (label.Ret a.who, with_variables vars s) → IsActing a s g m
+  passes : (vars : List (List Answer)) (further : Activation)
+      → m ≡ (label.Pass a.who, with_top (top.Activation further) (with_variables vars s)) → IsActing a s g m
   orders : (vars : List (List Answer)) (o : Order) (further : Activation)
       → m ≡ (
         label.Do a.who o (performed o a.who (with_variables vars s).world g).0,
@@ -57,10 +59,15 @@ pub data IsActing (a : Activation) (s : State) (g : Given) (m : Move) : Type 0 w
       )
       → IsActing a s g m
 
+pass-acts : (b : Bool) (o : Order) (a : Activation) (p : Point) (vars : List (List Answer)) (before s : State) (g : Given)
+    → IsActing a s g (pass_move b o (record a { at = p }) before (with_variables vars s) g)
+pass-acts true o a p vars before s g = passes vars _ refl
+pass-acts false o a p vars before s g = orders vars o _ refl
+
 order-acts : (b : Bool) (o : Order) (a : Activation) (p : Point) (vars : List (List Answer)) (before s : State) (g : Given)
     → IsActing a s g (order_move b o (record a { at = p }) before (with_variables vars s) g)
 order-acts true o a p vars before s g = returns vars refl
-order-acts false o a p vars before s g = orders vars o _ refl
+order-acts false o a p vars before s g = pass-acts (is_pass o) o a p vars before s g
 
 -- An activation of a script that is there, by what the script orders next.
 pub acts-next : (s : State) (a : Activation) (script : ScriptData) (vars after : List Answer) (o : Order) (p : Point) (g : Given)
@@ -84,6 +91,7 @@ acts (Some script) (Some vars) a s g =
 
 pub acts-kept : (a : Activation) (s : State) (g : Given) (m : Move) → IsActing a s g m → IsKept s m.1
 acts-kept a s g m (returns vars is) = subst (λ (x : Move). IsKept s x.1) (sym is) (record { phase = refl; activity = refl })
+acts-kept a s g m (passes vars further is) = subst (λ (x : Move). IsKept s x.1) (sym is) (record { phase = refl; activity = refl })
 acts-kept a s g m (orders vars o further is) = subst (λ (x : Move). IsKept s x.1) (sym is) (record { phase = refl; activity = refl })
 
 -- What holds of all that an outcome may leave.

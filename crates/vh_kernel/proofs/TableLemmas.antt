@@ -28,7 +28,7 @@ use Rattle.vh_kernel.specs.State.{State, with_queue, with_top, without_top, with
 use Rattle.vh_kernel.specs.Statements.{statement_outcome, work_outcome}
 use Rattle.vh_kernel.specs.Step.{telling_outcome, fire_move, activation_move, time_move, region_move, pick_move, agenda_move, idle_move, item_move, top_move, crowded_move, is_crowded, is_over, settled_move, Fits, finish_move, item_choices, agenda_choices, idle_choices, top_choices, choices_of}
 use Rattle.vh_kernel.specs.Table.{IsGoing, HasTop, HasNext, IsCalm, TellsNext, Exceeds, by_processes, by_statement, by_work, by_occurrence, Row, Step, StepsByTable, TableBySteps}
-use Rattle.vh_kernel.proofs.StepLemmas.{IsActing, returns, orders, acts, not-over, some-choice}
+use Rattle.vh_kernel.proofs.StepLemmas.{IsActing, returns, passes, orders, acts, not-over, some-choice}
 
 abbrev HasRow : State → Move → Type 0
 HasRow s m = Row s m.0 m.1
@@ -93,6 +93,9 @@ acting-row : (a : Activation) (s : State) (g : Given) (m : Move) → HasTop s (t
     → activation_move (slice_get s.world.scripts a.script) (slice_get s.world.variables a.script) a (without_top s) g ≡ m
     → IsActing a (without_top s) g m → Fits s m.0 → HasRow s m
 acting-row a s g m on makes (returns vars is) fits =
+    let P : Move → Type 0 = HasRow s in
+    subst P (sym is) (record { who = a; given = g; on = on; fits = tt; makes = makes ∙ is })
+acting-row a s g m on makes (passes vars further is) fits =
     let P : Move → Type 0 = HasRow s in
     subst P (sym is) (record { who = a; given = g; on = on; fits = tt; makes = makes ∙ is })
 acting-row a s g m on makes (orders vars o further is) fits =
@@ -310,6 +313,13 @@ row-chosen s u (label.Do who order answer) row = record {
   given = row.given;
   below = some-top s (top.Activation row.who) row.on;
   fits = row.fits;
+  makes = by-top s (top.Activation row.who) 0 row.given row.on ∙ row.makes;
+}
+row-chosen s u (label.Pass who) row = record {
+  choice = 0;
+  given = row.given;
+  below = some-top s (top.Activation row.who) row.on;
+  fits = tt;
   makes = by-top s (top.Activation row.who) 0 row.given row.on ∙ row.makes;
 }
 row-chosen s u (label.Ret who) row = record {

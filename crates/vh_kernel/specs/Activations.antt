@@ -44,6 +44,13 @@ startup_seen time = record {
   last = answer.Null;
 }
 
--- After an order it has seen one step more, and its answer. The count of steps stays at 2^32-1.
+-- The count of steps stays at 2^32-1.
+abbrev pub one_more : ℕ → ℕ
+one_more step = min (step + 1) 4294967295
+
+-- After an order it has seen one step more, and its answer; after a pass one step more.
 abbrev pub after_answer : Answer → Activation → Activation
-after_answer given a = record a { seen = record a.seen { step = min (a.seen.step + 1) 4294967295; last = given } }
+after_answer given a = record a { seen = record a.seen { step = one_more a.seen.step; last = given } }
+
+abbrev pub after_pass : Activation → Activation
+after_pass a = record a { seen = record a.seen { step = one_more a.seen.step } }

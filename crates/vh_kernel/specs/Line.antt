@@ -49,6 +49,7 @@ abbrev pub text_at : State → Label → Option (List ℕ)
 text_at s (label.Startup k) = Some (codes "startup " ++ plain_text (script_name k s))
 text_at s (label.Do who order answer) =
     Some (codes "do " ++ who_text who ++ 32 ∷ order_text order ++ codes " => " ++ answer_text answer)
+text_at s (label.Pass who) = None
 text_at s (label.Ret who) = None
 text_at s (label.Occ n reason object) =
     Some (codes "occ " ++ decimal n ++ 32 ∷ reason_text reason ++ 32 ∷ object_text object s)

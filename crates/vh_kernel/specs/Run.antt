@@ -65,6 +65,7 @@ handle_in (answer.Refused code) = 0
 abbrev pub given_in : Label → Given
 given_in (label.Startup k) = record { handle = 0 }
 given_in (label.Do who order answer) = record { handle = handle_in answer }
+given_in (label.Pass who) = record { handle = 0 }
 given_in (label.Ret who) = record { handle = 0 }
 given_in (label.Occ n reason object) = record { handle = 0 }
 given_in (label.Fire n c) = record { handle = 0 }

@@ -10,9 +10,8 @@ use Rattle.vh_base.specs.declared.orders.Answer.TheVariants as answer
 use Rattle.vh_base.specs.declared.orders.Order.{Order}
 use Rattle.vh_base.specs.declared.words.Reason.TheVariants as reason
 use Rattle.vh_base.specs.Checks.{unless}
-use Rattle.vh_app.specs.declared.point.Body.TheVariants as part
 use Rattle.vh_app.specs.declared.point.Point.{Point}
-use Rattle.vh_app.specs.Next.{opening as start_of, next_of as next_order}
+use Rattle.vh_app.specs.Next.{startup, next_of as next_order}
 use Rattle.vh_app.specs.Script.{ScriptData}
 use Rattle.vh_callbacks.specs.declared.registration.Registration.{Registration}
 use Rattle.vh_callbacks.specs.Callbacks.{info_of, body_of}
@@ -27,14 +26,14 @@ use Rattle.vh_kernel.specs.declared.occurrence.Agendum.{Agendum}
 use Rattle.vh_kernel.specs.declared.occurrence.Agendum.TheVariants as agendum
 use Rattle.vh_kernel.specs.declared.phase.Phase.{Phase}
 use Rattle.vh_kernel.specs.declared.phase.Phase.TheVariants as phase
-use Rattle.vh_kernel.specs.Activations.{Activation, after_answer, first_seen, startup_seen}
+use Rattle.vh_kernel.specs.Activations.{Activation, after_answer, after_pass, first_seen, startup_seen}
 use Rattle.vh_kernel.specs.declared.control.Control.{Control}
 use Rattle.vh_kernel.specs.declared.control.Control.TheVariants as top
 use Rattle.vh_kernel.specs.declared.occurrence.Told.{Told}
 use Rattle.vh_kernel.specs.Occurrences.{Occurrence, occurrence_of, set_of}
 use Rattle.vh_queue.specs.Events.{eligible, without, cleared, next_region, activated, least_time}
 use Rattle.vh_dispatch.specs.Frames.{top_set, without_in_top}
-use Rattle.vh_orders.specs.Orders.{Given, performed, is_return}
+use Rattle.vh_orders.specs.Orders.{Given, performed, is_pass, is_return}
 use Rattle.vh_orders.specs.World.{World}
 use Rattle.vh_kernel.specs.Outcome.{Outcome, Move, silently, end_move, fault_move, move_of}
 use Rattle.vh_kernel.specs.Settle.{settled}
@@ -93,13 +92,18 @@ abbrev pub order_outcome : Activation → Answer × World → State → Outcome
 order_outcome a given s =
     silently (with_top (top.Activation (after_answer given.0 a)) (record s { world = given.1 }))
 
--- It gives an order and is answered, or returns. The first state is that before.
+-- It gives an order and is answered; or it passes, and has made a step more; or it returns. The first state
+-- is that before.
 abbrev pub answer_move : Order → Activation → Answer × World → State → State → Move
 answer_move o a given before s = move_of (λ shown. label.Do a.who o given.0) before (order_outcome a given s)
 
+abbrev pub pass_move : Bool → Order → Activation → State → State → Given → Move
+pass_move true o a before s g = (label.Pass a.who, with_top (top.Activation (after_pass a)) s)
+pass_move false o a before s g = answer_move o a (performed o a.who s.world g) before s
+
 abbrev pub order_move : Bool → Order → Activation → State → State → Given → Move
 order_move true o a before s g = (label.Ret a.who, s)
-order_move false o a before s g = answer_move o a (performed o a.who s.world g) before s
+order_move false o a before s g = pass_move (is_pass o) o a before s g
 
 -- The script has said what it orders next.
 abbrev pub next_move_of : Order × Point × List Answer → Activation → State → State → Given → Move
@@ -136,7 +140,7 @@ started None k s = s
 started (Some script) k s = with_top (top.Activation (record {
   who = who_is.Startup k;
   script = k - 1;
-  at = start_of part.Startup;
+  at = startup;
   seen = startup_seen s.activity.queue.time;
 })) s
 
@@ -176,6 +180,7 @@ crowded_move false s k g = top_move (slice_get s.control 0) s k g
 abbrev pub is_end : Label → Bool
 is_end (label.Startup k) = false
 is_end (label.Do who order answer) = false
+is_end (label.Pass who) = false
 is_end (label.Ret who) = false
 is_end (label.Occ n reason object) = false
 is_end (label.Fire n c) = false
@@ -211,6 +216,7 @@ FitsAnswer s (answer.Refused c) = ⊤
 abbrev pub Fits : State → Label → Type 0
 Fits s (label.Startup k) = ⊤
 Fits s (label.Do who order a) = FitsAnswer s a
+Fits s (label.Pass who) = ⊤
 Fits s (label.Ret who) = ⊤
 Fits s (label.Occ n reason object) = ⊤
 Fits s (label.Fire n c) = ⊤

@@ -83,7 +83,7 @@ FinishIsDue s c =
 abbrev pub Leaves : Made → Option (List ℕ) → State → Type 0
 Leaves m shown u = (shown ≡ m.shown) × (u ≡ after_made m)
 
--- The activation on top gives an order and is answered, or returns; a new handle gets any number that was
+-- The activation on top gives an order and is answered, or passes, or returns; a new handle gets any number that was
 -- never given.
 pub record Acts (s : State) (l : Label) (u : State) : Type 0 where
   pub who : Activation
@@ -146,6 +146,7 @@ abbrev pub Row : State → Label → State → Type 0
 Row s (label.Startup k) u =
     HasNext s (Some (agendum.Startup k)) × (u ≡ started (slice_get s.world.scripts (k - 1)) k (without_item s))
 Row s (label.Do who order answer) u = Acts s (label.Do who order answer) u
+Row s (label.Pass who) u = Acts s (label.Pass who) u
 Row s (label.Ret who) u = Acts s (label.Ret who) u
 Row s (label.Occ n reason object) u = Tells s n reason object u
 Row s (label.Fire n c) u = Fires s n c u

@@ -1,6 +1,6 @@
 ghost use Rattle.std.specs.Prelude.{◌≡◌, IfOk};
 ghost use Rattle.vh_app.specs.Next.{next_of};
-ghost use Rattle.vh_kernel.specs.Activations.{after_answer, first_seen, startup_seen};
+ghost use Rattle.vh_kernel.specs.Activations.{after_answer, after_pass, first_seen, startup_seen};
 
 use crate::occurrence::Occurrence;
 use std::alloc::Global;
@@ -69,6 +69,14 @@ impl Activation {
         ensures kept { self.new ≡ record self.old { at = (self.new).at } }
     {
         script.next(&mut self.at, vars, &self.seen)
+    }
+
+    /// It passes.
+    pub fn pass(&mut self)
+        ensures { self.new ≡ after_pass self.old }
+    {
+        let seen = &mut *self.seen;
+        seen.step = seen.step.saturating_add(1);
     }
 
     /// Its order was answered.

@@ -22,6 +22,8 @@ pub enum Label {
     Startup(u32),
     /// An order, and what it was answered.
     Do(Who, Boxed<Order>, Boxed<Answer>),
+    /// An activation goes on by a test of a `while`.
+    Pass(Who),
     /// An activation returns.
     Ret(Who),
     /// An occurrence is told under its number: its callbacks fire next.

@@ -21,7 +21,11 @@ pub fn line_of(alloc: Global, k: &Kernel, l: &Label) -> Result<Option<String>, N
 {
     let time = k.time();
     match l {
-        Label::Ret(_) | Label::Activate(_) | Label::Advance(_) | Label::Finish(_) => Ok(None),
+        Label::Pass(_)
+        | Label::Ret(_)
+        | Label::Activate(_)
+        | Label::Advance(_)
+        | Label::Finish(_) => Ok(None),
         Label::Startup(number) => Ok(Some(line_of_startup(alloc, k, *number)?)),
         Label::Do(who, order, answer) => Ok(Some(line_of_order(
             alloc,

@@ -36,7 +36,7 @@ use Rattle.vh_kernel.specs.State.{State, without_top, with_variables}
 use Rattle.vh_orders.specs.World.{World}
 use Rattle.vh_kernel.specs.Table.{Acts, Step}
 use Rattle.vh_orders.proofs.OrdersLemmas.{IsForm, refuses, answers_only, opens_object, registers, removes, effect-form}
-use Rattle.vh_kernel.proofs.StepLemmas.{IsActing, returns, orders, acts}
+use Rattle.vh_kernel.proofs.StepLemmas.{IsActing, returns, passes, orders, acts}
 use Rattle.vh_kernel.proofs.TableLemmas.{steps-by-table}
 use Rattle.vh_laws.specs.HandleLaw.{is_handle, gives, is_giving, reads, GivesOnce, GivesRight, GivesLive, NamesOne, FindsLive, FreedByRemoval, RemovalFrees, StaysFreed}
 use Rattle.vh_laws.specs.Laws.{KeepsHandleLaw}
@@ -251,6 +251,7 @@ record OrderedFrom (s : State) (who : Who) (o : Order) (a : Answer) : Type 0 whe
 acting-answers : (s u : State) (act : Activation) (g : Given) (who : Who) (o : Order) (a : Answer)
     → IsActing act (without_top s) g (label.Do who o a, u) → OrderedFrom s who o a
 acting-answers s u act g who o a (returns vars is) = absurd (let d = ap (λ (m : Move). deed_of m.0) is in cc)
+acting-answers s u act g who o a (passes vars further is) = absurd (let d = ap (λ (m : Move). deed_of m.0) is in cc)
 acting-answers s u act g who o a (orders vars p further is) =
     let told = ap (λ (m : Move). m.0) is in
     let same_who : act.who ≡ who = cc in

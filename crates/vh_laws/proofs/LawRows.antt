@@ -7,9 +7,11 @@ use Rattle.vh_base.specs.declared.orders.Answer.TheVariants as answer
 use Rattle.vh_base.specs.declared.orders.Order.TheVariants as order
 use Rattle.vh_base.specs.declared.words.Code.TheVariants as code
 use Rattle.vh_base.specs.declared.words.Reason.TheVariants as reason
-use Rattle.vh_app.specs.declared.command.Command.TheVariants.{Ask}
-use Rattle.vh_app.specs.declared.command.Form.TheVariants as form
-use Rattle.vh_app.specs.declared.command.Source.TheVariants as source
+use Rattle.vh_app.specs.declared.form.Atom.TheVariants as atom
+use Rattle.vh_app.specs.declared.form.Body.TheVariants as body
+use Rattle.vh_app.specs.declared.form.Form.{Form}
+use Rattle.vh_app.specs.declared.form.Form.TheVariants as form
+use Rattle.vh_app.specs.declared.form.Node.TheVariants.{Ask, Return}
 use Rattle.vh_app.specs.Script.{ScriptData}
 use Rattle.vh_callbacks.specs.Callbacks.{is_live}
 use Rattle.vh_orders.specs.declared.who.Who.TheVariants as who_is
@@ -46,31 +48,31 @@ still = record { name = codes "top"; regs = codes "r" ∷ []; blocks = [] }
 --   two = register cbStartOfSimulation null 0 proc p2 2; three = register cbStartOfSimulation null 0 proc p3 3;
 -- }
 -- proc p1 { remove two; x = register cbStartOfSimulation null 0 proc p4 4; } proc p2 { } proc p3 { } proc p4 { }
+abbrev registers : Reason → List ℕ → ℕ → Form
+registers reason name n = form.Register reason atom.Null (atom.Number 0) (body.Proc name) (atom.Number n)
+
 abbrev removes_another : ScriptData
 removes_another = record {
   name = codes "a";
-  variables = codes "r" ∷ codes "one" ∷ codes "two" ∷ codes "three" ∷ codes "x" ∷ [];
-  startup = Ask None (form.Register reason.CbEndOfCompile source.Null (codes "init") 0) ∷ [];
+  variables = 5;
   procedures =
-      record {
-        name = codes "init";
-        commands =
-            Ask (Some 0) (form.ByName (codes "top.r") source.Null)
-            ∷ Ask (Some 1) (form.Register reason.CbStartOfSimulation source.Null (codes "p1") 1)
-            ∷ Ask (Some 2) (form.Register reason.CbStartOfSimulation source.Null (codes "p2") 2)
-            ∷ Ask (Some 3) (form.Register reason.CbStartOfSimulation source.Null (codes "p3") 3)
-            ∷ [];
-      }
-      ∷ record {
-        name = codes "p1";
-        commands =
-            Ask None (form.Remove (source.Variable 2))
-            ∷ Ask (Some 4) (form.Register reason.CbStartOfSimulation source.Null (codes "p4") 4)
-            ∷ [];
-      }
-      ∷ record { name = codes "p2"; commands = [] }
-      ∷ record { name = codes "p3"; commands = [] }
-      ∷ record { name = codes "p4"; commands = [] }
+      record { name = codes "init"; start = 2 } ∷ record { name = codes "p1"; start = 7 }
+      ∷ record { name = codes "p2"; start = 10 } ∷ record { name = codes "p3"; start = 11 }
+      ∷ record { name = codes "p4"; start = 12 } ∷ [];
+  nodes =
+      Ask None (registers reason.CbEndOfCompile (codes "init") 0)
+      ∷ Return
+      ∷ Ask (Some 0) (form.ByName (atom.Text (codes "top.r")) atom.Null)
+      ∷ Ask (Some 1) (registers reason.CbStartOfSimulation (codes "p1") 1)
+      ∷ Ask (Some 2) (registers reason.CbStartOfSimulation (codes "p2") 2)
+      ∷ Ask (Some 3) (registers reason.CbStartOfSimulation (codes "p3") 3)
+      ∷ Return
+      ∷ Ask None (form.Remove (atom.Variable 2))
+      ∷ Ask (Some 4) (registers reason.CbStartOfSimulation (codes "p4") 4)
+      ∷ Return
+      ∷ Return
+      ∷ Return
+      ∷ Return
       ∷ [];
 }
 

@@ -6,14 +6,11 @@ use Rattle.vh_base.specs.declared.first.First.{First}
 use Rattle.vh_base.specs.declared.first.FirstCode.{FirstCode}
 use Rattle.vh_base.specs.declared.first.FirstCode.TheVariants as code
 use Rattle.vh_base.specs.declared.first.FirstBit.TheVariants as bit
+use Rattle.vh_base.specs.declared.words.Reason.{Reason}
 use Rattle.vh_base.specs.declared.words.Reason.TheVariants as reason
-use Rattle.vh_app.specs.declared.command.Command.{Command}
-use Rattle.vh_app.specs.declared.command.Command.TheVariants.{Ask}
-use Rattle.vh_app.specs.declared.command.Form.{Form}
-use Rattle.vh_app.specs.declared.command.Form.TheVariants as form
-use Rattle.vh_app.specs.declared.command.Procedure.{Procedure}
-use Rattle.vh_app.specs.declared.command.Source.TheVariants as source
+use Rattle.vh_app.specs.Layout.{script_laid}
 use Rattle.vh_app.specs.Script.{ScriptData}
+use Rattle.vh_script.specs.Tree as tree
 use Rattle.vh_laws.proofs.Openings.{opening}
 use Rattle.vh_choice.specs.declared.chooser.Chooser.TheVariants.{Fifo}
 use Rattle.vh_kernel.specs.Run.{moves_of, text_of}
@@ -73,24 +70,34 @@ unfolding design digits with_pieces made_in_turn target_digits pieces_of argumen
 finishes_at_two = refl
 
 -- A script called a.
-script : List (List ℕ) → List Command → List Procedure → ScriptData
+script : List (List ℕ) → List tree.Order → List tree.Procedure → ScriptData
 script variables startup procedures =
-    record { name = codes "a"; variables = variables; startup = startup; procedures = procedures }
+    script_laid (record { name = codes "a"; variables = variables; startup = startup; procedures = procedures })
 
-procedure : List ℕ → List Command → Procedure
+procedure : List ℕ → List tree.Command → tree.Procedure
 procedure name commands = record { name = name; commands = commands }
 
 -- An order alone, and one whose answer goes to a variable.
-order : Form → Command
-order f = Ask None f
+order : tree.Order → tree.Command
+order o = tree.ask None o
 
-set : ℕ → Form → Command
-set variable f = Ask (Some variable) f
+set : ℕ → tree.Order → tree.Command
+set variable o = tree.ask (Some variable) o
+
+-- Orders.
+registers : Reason → tree.Atom → List ℕ → ℕ → tree.Order
+registers reason object name n = tree.register reason object (tree.number 0) (tree.proc name) (tree.number n)
+
+finds : List ℕ → tree.Order
+finds path = tree.by_name (tree.text path) tree.null
+
+prints : List ℕ → tree.Order
+prints text = tree.print (tree.text text)
 
 -- app a; startup { register cbEndOfSimulation null 0 proc bye 7; } proc bye { print "bye"; }
 says_bye : ScriptData
-says_bye = script [] (order (form.Register reason.CbEndOfSimulation source.Null (codes "bye") 7) ∷ [])
-    (procedure (codes "bye") (order (form.Print (codes "bye")) ∷ []) ∷ [])
+says_bye = script [] (registers reason.CbEndOfSimulation tree.null (codes "bye") 7 ∷ [])
+    (procedure (codes "bye") (order (prints (codes "bye")) ∷ []) ∷ [])
 
 -- module top; initial begin end endmodule
 bye : text_of (moves_of Fifo 100 (opening (design [] ([] ∷ [])) (says_bye ∷ [])))
@@ -101,7 +108,7 @@ bye : text_of (moves_of Fifo 100 (opening (design [] ([] ∷ [])) (says_bye ∷ 
     ++ codes "0 do c1 print \"bye\" => ok\n"
     ++ codes "0 done 1\n"
     ++ codes "0 end none\n"
-unfolding design digits with_pieces made_in_turn target_digits pieces_of arguments_text front value_below instructions_of codes_of number_of plane_digits map_digits zip_digits all_places scopes_below dotted all_woken all_entered all_followed reads_below groups_text block_below gone says_bye script procedure order
+unfolding design digits with_pieces made_in_turn target_digits pieces_of arguments_text front value_below instructions_of codes_of number_of plane_digits map_digits zip_digits all_places scopes_below dotted all_woken all_entered all_followed reads_below groups_text block_below gone says_bye script procedure order registers prints
 bye = refl
 
 -- The first lines, where a startup registers a procedure for the end of compilation.
@@ -121,15 +128,15 @@ changes_twice = design (codes "r" ∷ []) ((code.Wait 1 ∷ code.Assign 0 bit.Ze
 -- proc p1 { remove me; print "rest"; } proc p2 { print "p2"; }
 removes_itself : ScriptData
 removes_itself = script (codes "r" ∷ codes "one" ∷ codes "two" ∷ [])
-    (order (form.Register reason.CbEndOfCompile source.Null (codes "init") 0) ∷ []) (
+    (registers reason.CbEndOfCompile tree.null (codes "init") 0 ∷ []) (
     procedure (codes "init") (
-    set 0 (form.ByName (codes "top.r") source.Null)
-    ∷ set 1 (form.Register reason.CbValueChange (source.Variable 0) (codes "p1") 1)
-    ∷ set 2 (form.Register reason.CbValueChange (source.Variable 0) (codes "p2") 2)
+    set 0 (finds (codes "top.r"))
+    ∷ set 1 (registers reason.CbValueChange (tree.variable 0) (codes "p1") 1)
+    ∷ set 2 (registers reason.CbValueChange (tree.variable 0) (codes "p2") 2)
     ∷ []
     )
-    ∷ procedure (codes "p1") (order (form.Remove source.Me) ∷ order (form.Print (codes "rest")) ∷ [])
-    ∷ procedure (codes "p2") (order (form.Print (codes "p2")) ∷ [])
+    ∷ procedure (codes "p1") (order (tree.remove tree.me) ∷ order (prints (codes "rest")) ∷ [])
+    ∷ procedure (codes "p2") (order (prints (codes "p2")) ∷ [])
     ∷ []
     )
 
@@ -151,7 +158,7 @@ goes_on_without : text_of (moves_of Fifo 100 (opening changes_twice (removes_its
     ++ codes "2 do c3 print \"p2\" => ok\n"
     ++ codes "2 done 3\n"
     ++ codes "2 end none\n"
-unfolding design digits with_pieces made_in_turn target_digits pieces_of arguments_text front value_below instructions_of codes_of number_of plane_digits map_digits zip_digits all_places scopes_below dotted all_woken all_entered all_followed reads_below groups_text block_below gone script procedure order set head changes_twice removes_itself
+unfolding design digits with_pieces made_in_turn target_digits pieces_of arguments_text front value_below instructions_of codes_of number_of plane_digits map_digits zip_digits all_places scopes_below dotted all_woken all_entered all_followed reads_below groups_text block_below gone script procedure order set registers finds prints head changes_twice removes_itself
 goes_on_without = refl
 
 -- app a; var r, one, two, three, x; startup { register cbEndOfCompile null 0 proc init 0; }
@@ -163,22 +170,22 @@ goes_on_without = refl
 -- proc p2 { print "p2"; } proc p3 { print "p3"; } proc p4 { print "p4"; }
 removes_another : ScriptData
 removes_another = script (codes "r" ∷ codes "one" ∷ codes "two" ∷ codes "three" ∷ codes "x" ∷ [])
-    (order (form.Register reason.CbEndOfCompile source.Null (codes "init") 0) ∷ []) (
+    (registers reason.CbEndOfCompile tree.null (codes "init") 0 ∷ []) (
     procedure (codes "init") (
-    set 0 (form.ByName (codes "top.r") source.Null)
-    ∷ set 1 (form.Register reason.CbValueChange (source.Variable 0) (codes "p1") 1)
-    ∷ set 2 (form.Register reason.CbValueChange (source.Variable 0) (codes "p2") 2)
-    ∷ set 3 (form.Register reason.CbValueChange (source.Variable 0) (codes "p3") 3)
+    set 0 (finds (codes "top.r"))
+    ∷ set 1 (registers reason.CbValueChange (tree.variable 0) (codes "p1") 1)
+    ∷ set 2 (registers reason.CbValueChange (tree.variable 0) (codes "p2") 2)
+    ∷ set 3 (registers reason.CbValueChange (tree.variable 0) (codes "p3") 3)
     ∷ []
     )
     ∷ procedure (codes "p1") (
-    order (form.Remove (source.Variable 2))
-    ∷ set 4 (form.Register reason.CbValueChange (source.Variable 0) (codes "p4") 4)
+    order (tree.remove (tree.variable 2))
+    ∷ set 4 (registers reason.CbValueChange (tree.variable 0) (codes "p4") 4)
     ∷ []
     )
-    ∷ procedure (codes "p2") (order (form.Print (codes "p2")) ∷ [])
-    ∷ procedure (codes "p3") (order (form.Print (codes "p3")) ∷ [])
-    ∷ procedure (codes "p4") (order (form.Print (codes "p4")) ∷ [])
+    ∷ procedure (codes "p2") (order (prints (codes "p2")) ∷ [])
+    ∷ procedure (codes "p3") (order (prints (codes "p3")) ∷ [])
+    ∷ procedure (codes "p4") (order (prints (codes "p4")) ∷ [])
     ∷ []
     )
 
@@ -206,5 +213,5 @@ fires_what_is_left : text_of (moves_of Fifo 100 (opening changes_twice (removes_
     ++ codes "2 do c5 print \"p4\" => ok\n"
     ++ codes "2 done 3\n"
     ++ codes "2 end none\n"
-unfolding design digits with_pieces made_in_turn target_digits pieces_of arguments_text front value_below instructions_of codes_of number_of plane_digits map_digits zip_digits all_places scopes_below dotted all_woken all_entered all_followed reads_below groups_text block_below gone script procedure order set head changes_twice removes_another
+unfolding design digits with_pieces made_in_turn target_digits pieces_of arguments_text front value_below instructions_of codes_of number_of plane_digits map_digits zip_digits all_places scopes_below dotted all_woken all_entered all_followed reads_below groups_text block_below gone script procedure order set registers finds prints head changes_twice removes_another
 fires_what_is_left = refl

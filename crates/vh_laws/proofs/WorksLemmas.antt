@@ -39,7 +39,7 @@ use Rattle.vh_turn.specs.declared.next.Next.TheVariants as next
 use Rattle.vh_kernel.specs.Step.{Fits, FitsAnswer, telling_outcome, called, started, is_end}
 use Rattle.vh_kernel.specs.Table.{HasTop, TellsNext, Row, Step}
 use Rattle.vh_orders.proofs.OrdersLemmas.{IsForm, refuses, answers_only, opens_object, registers, removes, effect-form}
-use Rattle.vh_kernel.proofs.StepLemmas.{AllMade, IsActing, returns, orders, acts}
+use Rattle.vh_kernel.proofs.StepLemmas.{AllMade, IsActing, returns, passes, orders, acts}
 use Rattle.vh_kernel.proofs.TableLemmas.{steps-by-table, tells-number}
 use Rattle.vh_dispatch.specs.Frames.{top_set, without_in_top}
 use Rattle.vh_orders.specs.World.{World}
@@ -324,6 +324,9 @@ acting-works : (a : Activation) (s u : State) (g : Given) (l : Label) → HasTop
 acting-works a s u g l on fits (returns vars is) =
     subst (λ (m : Move). Works s m.0 (view_of m.1)) (sym is)
     (works_none refl (popped-view s (top.Activation a) on.on refl))
+acting-works a s u g l on fits (passes vars further is) =
+    subst (λ (m : Move). Works s m.0 (view_of m.1)) (sym is)
+    (works_none refl (popped-view s (top.Activation a) on.on refl))
 acting-works a s u g l on fits (orders vars o further is) =
     let w : World = (performing vars s).world in
     let given : Answer × World = answered (effect_of o a.who w) w g in
@@ -345,6 +348,10 @@ row-works s u (label.Startup k) row =
     works_none refl (ap view_of row.1 ∙ started-view (slice_get s.world.scripts (k - 1)) k (without_item s))
 row-works s u (label.Do who order answer) row =
     acting-works row.who s u row.given (label.Do who order answer) row.on row.fits
+    (subst (λ (m : Move). IsActing row.who (without_top s) row.given m) row.makes
+    (acts (slice_get s.world.scripts row.who.script) (slice_get s.world.variables row.who.script) row.who (without_top s) row.given))
+row-works s u (label.Pass who) row =
+    acting-works row.who s u row.given (label.Pass who) row.on row.fits
     (subst (λ (m : Move). IsActing row.who (without_top s) row.given m) row.makes
     (acts (slice_get s.world.scripts row.who.script) (slice_get s.world.variables row.who.script) row.who (without_top s) row.given))
 row-works s u (label.Ret who) row =

@@ -42,6 +42,7 @@ pub data Deed : Type 0 where
 abbrev pub deed_of : Label → Deed
 deed_of (label.Startup k) = other
 deed_of (label.Do who order answer) = answers answer
+deed_of (label.Pass who) = other
 deed_of (label.Ret who) = other
 deed_of (label.Occ number reason object) = tells number
 deed_of (label.Fire number callback) = fires number callback

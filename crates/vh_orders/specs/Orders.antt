@@ -331,3 +331,29 @@ is_return (order.Print text) = false
 is_return (order.SetData n) = false
 is_return order.Pass = false
 is_return order.Return = true
+
+-- Is it a step of an activation that asks for nothing?
+abbrev pub is_pass : Order → Bool
+is_pass (order.ByName text scope) = false
+is_pass (order.ByIndex h n) = false
+is_pass (order.Handle r h) = false
+is_pass (order.Iterate r h) = false
+is_pass (order.Scan h) = false
+is_pass (order.Free h) = false
+is_pass (order.Compare a b) = false
+is_pass (order.Get property h) = false
+is_pass (order.GetStr property h) = false
+is_pass (order.GetValue h format) = false
+is_pass (order.PutValue h format text mode time event) = false
+is_pass (order.Cancel h) = false
+is_pass order.GetTime = false
+is_pass (order.Register r h time body n) = false
+is_pass (order.Remove h) = false
+is_pass (order.CbInfo h) = false
+is_pass (order.RegisterSystf kind text n calltf compiletf) = false
+is_pass order.ChkError = false
+is_pass (order.Control stop) = false
+is_pass (order.Print text) = false
+is_pass (order.SetData n) = false
+is_pass order.Pass = true
+is_pass order.Return = false

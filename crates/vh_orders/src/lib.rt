@@ -22,6 +22,6 @@ mod world;
 
 pub use names::{Named, joined};
 pub use performing::perform;
-pub use tables::is_return;
+pub use tables::{is_pass, is_return};
 pub use who::{Body, Who};
 pub use world::World;

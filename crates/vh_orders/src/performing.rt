@@ -1,5 +1,5 @@
 ghost use Rattle.std.specs.Prelude.{◌≡◌, false, IfOk, Err};
-ghost use Rattle.vh_orders.specs.Orders.{performed, answered, effect_of, not_yet, is_return};
+ghost use Rattle.vh_orders.specs.Orders.{performed, answered, effect_of, not_yet, is_pass, is_return};
 ghost use Rattle.vh_orders.specs.Views.{world_of, given_by, HasEffect};
 
 use crate::halt::Halt;
@@ -11,9 +11,11 @@ use vh_base::{Answer, Code, NoMemory, Order};
 use vh_callbacks::Registration;
 
 /// Performs an order: answers it, and changes the world as its row says. The error of the
-/// answer is the world's last error. An order that ends an activation is not performed.
+/// answer is the world's last error. An order that ends an activation, or asks for nothing, is
+/// not performed.
 pub fn perform(alloc: Global, w: &mut World, who: Who, order: &Order) -> Result<Answer, NoMemory>
-    requires { is_return order.now ≡ false }
+    requires goes_on { is_return order.now ≡ false }
+    requires asks { is_pass order.now ≡ false }
     ensures { IfOk result (λ a. performed order.now who (world_of w.old) (given_by w.old)
         ≡ (a, world_of w.new)) }
 {

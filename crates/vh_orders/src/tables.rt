@@ -1,5 +1,5 @@
 ghost use Rattle.std.specs.Prelude.{◌≡◌};
-ghost use Rattle.vh_orders.specs.Orders.{is_startup, needs_object, needs_entry, is_running_call, is_module, error_in, is_return};
+ghost use Rattle.vh_orders.specs.Orders.{is_startup, needs_object, needs_entry, is_running_call, is_module, error_in, is_pass, is_return};
 
 use crate::who::Who;
 use vh_base::{Answer, Code, Order, Reason, Relation};
@@ -59,6 +59,13 @@ pub(crate) fn error_in(answer: &Answer) -> Option<Code>
             None
         }
     }
+}
+
+/// Is it a step of an activation that asks for nothing? Such an order isn't performed.
+pub fn is_pass(order: &Order) -> bool
+    ensures { result ≡ is_pass order.now }
+{
+    matches!(order, Order::Pass)
 }
 
 /// Does an activation return with it? Such an order isn't performed.

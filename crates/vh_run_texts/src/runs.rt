@@ -418,7 +418,7 @@ const FIRST_REFUSED: Status = Status::AppRefused(
     Place {
         file: 1,
         line: 1,
-        column: 1,
+        column: 33,
     },
 );
 
@@ -428,7 +428,28 @@ const SECOND_REFUSED: Status = Status::AppRefused(
     Place {
         file: 2,
         line: 1,
+        column: 33,
+    },
+);
+
+// So is an empty one; and one with the name of an earlier one.
+const EMPTY_REFUSED: Status = Status::AppRefused(
+    2,
+    AppFault::A2,
+    Place {
+        file: 2,
+        line: 1,
         column: 1,
+    },
+);
+
+const THIRD_REFUSED: Status = Status::AppRefused(
+    3,
+    AppFault::A4,
+    Place {
+        file: 3,
+        line: 1,
+        column: 5,
     },
 );
 
@@ -494,18 +515,18 @@ static REFUSALS: [(&[&str], &str, &str, &[u64], Status, &str, u8); 22] = [
         FIRST,
         SCRIPT,
         &[],
-        Status::Usage,
-        USAGE,
-        1,
+        THIRD_REFUSED,
+        "application refused: d.app: A4 at 1:5",
+        3,
     ),
     (
         &["run", "a.v", "b.app", "b.app"],
         FIRST,
         SCRIPT,
         &[],
-        Status::Usage,
-        USAGE,
-        1,
+        THIRD_REFUSED,
+        "application refused: b.app: A4 at 1:5",
+        3,
     ),
     (
         &["run", "b.app"],
@@ -558,7 +579,7 @@ static REFUSALS: [(&[&str], &str, &str, &[u64], Status, &str, u8); 22] = [
         NO_SCRIPT,
         &[],
         SECOND_REFUSED,
-        "application refused: b.app: A2 at 1:1",
+        "application refused: b.app: A2 at 1:33",
         3,
     ),
     (
@@ -567,7 +588,7 @@ static REFUSALS: [(&[&str], &str, &str, &[u64], Status, &str, u8); 22] = [
         NO_SCRIPT,
         &[],
         FIRST_REFUSED,
-        "application refused: b.app: A2 at 1:1",
+        "application refused: b.app: A2 at 1:33",
         3,
     ),
     // The Verilog text is refused before the script, wherever they stand.
@@ -640,7 +661,7 @@ static REFUSALS: [(&[&str], &str, &str, &[u64], Status, &str, u8); 22] = [
         FIRST,
         "",
         &[],
-        SECOND_REFUSED,
+        EMPTY_REFUSED,
         "application refused: b.app: A2 at 1:1",
         3,
     ),

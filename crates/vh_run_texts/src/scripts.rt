@@ -402,3 +402,106 @@ proc again { remove me; register cbValueChange r 0 proc again 0; }";
     assert_eq!(rt; lines_with(text.as_slice(), b" => E1"), 0);
     Ok(())
 }
+
+const CHANGES: &str = "module top; reg r; initial begin #1 r = 0; #1 r = 1; end endmodule";
+
+const COUNTS: &str = "app a; var n, r;
+startup { register cbEndOfCompile null 0 proc init 0; }
+proc init { r = by_name \"r\" null; r = by_name \"top\" null; r = by_name \"r\" r;
+  register cbValueChange r 0 proc seen 2; set n = 0; }
+proc seen { set n = n + 1; if (n == data) { remove me; print \"last\"; } else { print value; } }";
+
+const TURNS: &str = "app b; var i;
+startup { print \"b\"; register cbEndOfSimulation null 0 proc over 0; }
+proc over { set i = 0; while (i != 2) { print i; set i = i + 1; } print obj; }";
+
+// A loop without an end.
+const TURNS_ON: &str = "app c; startup { register cbEndOfCompile null 0 proc p 0; }
+proc p { print \"on\"; while (1 == 1) { } print \"off\"; }";
+
+// Words, the contents of `top.v`, `a.app`, `b.app` and `c.app`, and what is told and written.
+static SIDE_BY_SIDE: [(&[&str], Status, &str); 3] = [
+    (
+        &["run", "top.v", "a.app", "b.app"],
+        Status::Done(Cause::Nothing),
+        "0 startup a
+0 do s1 register cbEndOfCompile null 0 proc a.init 0 => h0
+0 startup b
+0 do s2 print \"b\" => ok
+0 do s2 register cbEndOfSimulation null 0 proc b.over 0 => h1
+0 occ 1 cbEndOfCompile -
+0 fire 1 c1
+0 do c1 by_name \"r\" null => null
+0 do c1 by_name \"top\" null => h2
+0 do c1 by_name \"r\" h2 => h3
+0 do c1 register cbValueChange h3 0 proc a.seen 2 => h4
+0 done 1
+1 occ 2 cbValueChange top.r
+1 fire 2 c3
+1 do c3 print \"0\" => ok
+1 done 2
+2 occ 3 cbValueChange top.r
+2 fire 3 c3
+2 do c3 remove h4 => 1
+2 do c3 print \"last\" => ok
+2 done 3
+2 occ 4 cbEndOfSimulation -
+2 fire 4 c2
+2 do c2 print \"0\" => ok
+2 do c2 print \"1\" => ok
+2 do c2 print \"\" => ok
+2 done 4
+2 end none
+",
+    ),
+    (
+        &["run", "b.app", "top.v", "--budget=4"],
+        Status::BudgetSpent,
+        "0 startup b
+0 do s1 print \"b\" => ok
+0 do s1 register cbEndOfSimulation null 0 proc b.over 0 => h0
+",
+    ),
+    (
+        &["run", "--budget", "100", "c.app", "top.v"],
+        Status::BudgetSpent,
+        "0 startup c
+0 do s1 register cbEndOfCompile null 0 proc c.p 0 => h0
+0 occ 1 cbEndOfCompile -
+0 fire 1 c1
+0 do c1 print \"on\" => ok
+",
+    ),
+];
+
+#[test]
+fn scripts_run_side_by_side(rt: HostRuntime) -> Result<(), Fail> {
+    let alloc = rt.alloc();
+    for (list, told, text) in &SIDE_BY_SIDE {
+        let mut words = Vec::new(alloc);
+        for word in *list {
+            words.push(String::from_str(alloc, word)?)?;
+        }
+        let mut held = Vec::new(alloc);
+        for (name, bytes) in [
+            ("top.v", CHANGES),
+            ("a.app", COUNTS),
+            ("b.app", TURNS),
+            ("c.app", TURNS_ON),
+        ] {
+            held.push((
+                String::from_str(alloc, name)?,
+                Vec::from_slice(alloc, bytes.as_bytes())?,
+            ))?;
+        }
+        let mut files = MemoryFiles::new(held, Vec::new(alloc));
+        let mut out = MemorySink::new(alloc, 1024, Vec::new(alloc)).expect(
+            &rt,
+            "no memory is taken",
+        );
+        let status = run(alloc, &words, &mut files, &mut out);
+        assert_eq!(rt; status, *told);
+        assert_eq!(rt; out.bytes(), text.as_bytes());
+    }
+    Ok(())
+}

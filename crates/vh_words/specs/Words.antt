@@ -1,7 +1,7 @@
 -- The words of the command line: the mode, its options and its files. (own)
 use Rattle.std.specs.Prelude.{ℕ, zero, suc, ◌^◌, List, [], ◌∷◌, ◌++◌, Bool, true, false, ◌&&◌, ◌||◌, not, if◌then◌else◌, Option, Some, None, is_some, unwrap_or, bytes_eq, nat_eq, nat_le, nat_lt, codes, length, drop, map, slice_get, string_bytes, String}
 use Rattle.std.specs.Option.{option_map, option_and_then}
-use Rattle.std.specs.List.{ends_with, starts_with, list_all, count_by}
+use Rattle.std.specs.List.{ends_with, starts_with, list_all, list_any}
 use Rattle.std.specs.Str.Parse.{digits_value}
 use Rattle.std.specs.declared.alloc.Global.{Global}
 use Rattle.vh_choice.specs.declared.chooser.Chooser.{Chooser}
@@ -27,11 +27,10 @@ is_script_word word = ends_with nat_eq word (codes ".app")
 abbrev pub is_file_word : List ℕ → Bool
 is_file_word word = is_design_word word || is_script_word word
 
--- File words that can be run: eight at most, one of which at least names a Verilog file, and one at most a script.
+-- File words that can be run: eight at most, one of which at least names a Verilog file.
 abbrev pub can_be_run : List (List ℕ) → Bool
 can_be_run files =
-    nat_le (length files) 8 && list_all is_file_word files && nat_lt 0 (count_by is_design_word files)
-    && nat_le (count_by is_script_word files) 1
+    nat_le (length files) 8 && list_all is_file_word files && list_any is_design_word files
 
 -- A number: decimal digits without a sign and without a leading zero, below 2^64.
 abbrev pub is_digit : ℕ → Bool

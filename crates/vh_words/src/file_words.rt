@@ -1,5 +1,5 @@
 ghost use Rattle.std.specs.Prelude.{◌≡◌, string_bytes};
-ghost use Rattle.std.specs.List.{list_all, count_by};
+ghost use Rattle.std.specs.List.{list_all, list_any};
 ghost use Rattle.vh_words.specs.Words.{can_be_run, is_design_word, is_script_word, is_file_word, texts};
 
 // How many file words there are at most.
@@ -15,7 +15,7 @@ pub fn can_be_run(files: &[String]) -> bool
     if !all_files(files) {
         return false;
     }
-    design_count(files) > 0 && script_count(files) <= 1
+    any_design(files)
 }
 
 // Does each word name a file?
@@ -25,24 +25,11 @@ fn all_files(files: &[String]) -> bool
     files.iter().all(|file| is_file_word(file.as_str()))
 }
 
-// How many of the words name a Verilog file.
-fn design_count(files: &[String]) -> usize
-    ensures { result ≡ count_by (λ file. is_design_word (string_bytes file)) files.now }
+// Does one of them name a Verilog file?
+fn any_design(files: &[String]) -> bool
+    ensures { result ≡ list_any (λ file. is_design_word (string_bytes file)) files.now }
 {
-    files
-        .iter()
-        .filter(|file| is_design_word(file.as_str()))
-        .count()
-}
-
-// How many of the words name a script.
-fn script_count(files: &[String]) -> usize
-    ensures { result ≡ count_by (λ file. is_script_word (string_bytes file)) files.now }
-{
-    files
-        .iter()
-        .filter(|file| is_script_word(file.as_str()))
-        .count()
+    files.iter().any(|file| is_design_word(file.as_str()))
 }
 
 // Does the word name a file?

@@ -1,7 +1,7 @@
-ghost use Rattle.std.specs.Prelude.{◌≡◌, ◌≤◌, ◌<◌, false, length, slice_get, OnOk};
+ghost use Rattle.std.specs.Prelude.{◌≡◌, ◌≤◌, ◌<◌, false, true, length, slice_get, OnOk};
 ghost use Rattle.vh_callbacks.specs.Callbacks.{info_of, body_of};
 ghost use Rattle.vh_dispatch.specs.Frames.{top_set};
-ghost use Rattle.vh_orders.specs.Orders.{Given, is_return};
+ghost use Rattle.vh_orders.specs.Orders.{Given, is_pass, is_return};
 
 use crate::activation::{Activation, first_seen};
 use crate::control::Control;
@@ -10,12 +10,12 @@ use crate::label::Label;
 use crate::occurrence::{Occurrence, Told};
 use std::alloc::Global;
 use vh_base::{Boxed, CbNumber, Fault, MOST_FRAMES, MOST_NUMBERS, NoMemory, Order};
-use vh_orders::{Who, is_return, perform};
+use vh_orders::{Who, is_pass, is_return, perform};
 
 impl Kernel {
     ghost use Rattle.vh_kernel.specs.Outcome.{move_of};
     ghost use Rattle.vh_kernel.specs.State.{State, with_top, without_item};
-    ghost use Rattle.vh_kernel.specs.Step.{telling_outcome, occurrence_move, called, fire_move, activation_move, order_move, item_move, agenda_move};
+    ghost use Rattle.vh_kernel.specs.Step.{telling_outcome, occurrence_move, called, fire_move, activation_move, order_move, pass_move, item_move, agenda_move};
     ghost use Rattle.vh_kernel.specs.Views.{state_of, given_by, Moves};
 
     // An occurrence that was on top of control is told.
@@ -126,6 +126,38 @@ impl Kernel {
     ) -> Result<Label, NoMemory>
         requires { is_return order ≡ false }
         ensures { (before : State) → Moves (order_move false order activation before
+            (state_of self.old)
+            (given_by self.old)) result self.new }
+    {
+        if is_pass(&order) {
+            return self.pass(activation);
+        }
+        self.ask(alloc, activation, order)
+    }
+
+    // It goes on by a step that asks for nothing.
+    fn pass(&mut self, activation: Activation) -> Result<Label, NoMemory>
+        ensures { (o : Order) (before : State) → Moves (pass_move true o activation before
+            (state_of self.old)
+            (given_by self.old)) result self.new }
+    {
+        let who = activation.who();
+        let mut activation = activation;
+        activation.pass();
+        self.control.push(Control::Activation(activation))?;
+        Ok(Label::Pass(who))
+    }
+
+    // It goes on by an order that is answered.
+    fn ask(
+        &mut self,
+        alloc: Global,
+        activation: Activation,
+        order: Order,
+    ) -> Result<Label, NoMemory>
+        requires goes_on { is_return order ≡ false }
+        requires asks { is_pass order ≡ false }
+        ensures { (before : State) → Moves (pass_move false order activation before
             (state_of self.old)
             (given_by self.old)) result self.new }
     {

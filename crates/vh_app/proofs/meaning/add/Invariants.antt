@@ -1,8 +1,0 @@
-use Rattle.std.proofs.Common.{◌≡◌, ◌++◌, drop}
-use Rattle.vh_base.specs.Lists.{all_differ, names_seen}
-use Rattle.vh_app.proofs.meaning.add.Given as goal
-
-abbrev pub invariant-loop-name : goal.invariant-loop-name
-invariant-loop-name l =
-    (names_seen l.declared.keys ++ names_seen (drop l.name-index l.names) ≡ names_seen l.fn.declared.keys ++ names_seen l.names)
-    × (all_differ (names_seen l.declared.keys) ≡ all_differ (names_seen l.fn.declared.keys))

@@ -1,0 +1,144 @@
+ghost use Rattle.std.specs.Prelude.{◌≡◌, option_map};
+ghost use Rattle.vh_app.specs.Next as spec;
+ghost use Rattle.vh_app.specs.Next.{order_from};
+
+use crate::form::{Body, Form};
+use crate::script::Script;
+use crate::value::{handle_at, number_at, text_at};
+use crate::vars::Vars;
+use vh_base::{BodyName, Boxed, Order, ProcName, Seen, Short};
+
+impl Script {
+    // A procedure of the script itself.
+    fn own(&self, name: &Short) -> ProcName
+        ensures { result ≡ spec.own self.now name.now }
+    {
+        ProcName {
+            app: self.name().copy(),
+            name: name.copy(),
+        }
+    }
+
+    fn own_if(&self, name: &Option<Boxed<Short>>) -> Option<ProcName>
+        ensures { result ≡ option_map (spec.own self.now) name.now }
+    {
+        match name {
+            Some(name) => Some(self.own(name.get())),
+            None => None,
+        }
+    }
+
+    fn body(&self, body: &Body) -> BodyName
+        ensures { result ≡ spec.body_from self.now body.now }
+    {
+        match body {
+            Body::Proc(name) => BodyName::Proc(self.own(name.get())),
+            Body::Native(name) => BodyName::Native(name.get().copy()),
+        }
+    }
+
+    /// The order of a form.
+    pub(crate) fn order(&self, vars: &Vars, seen: &Seen, form: &Form) -> Order
+        ensures { result ≡ order_from self.now vars.now seen.now form.now }
+    {
+        match form {
+            Form::ByName { text, scope } => Order::ByName {
+                text: text_at(vars, seen, text),
+                scope: handle_at(vars, seen, scope),
+            },
+            Form::ByIndex { memory, index } => Order::ByIndex {
+                h: handle_at(vars, seen, memory),
+                n: number_at(vars, seen, index),
+            },
+            Form::Handle { relation, object } => Order::Handle {
+                relation: *relation,
+                h: handle_at(vars, seen, object),
+            },
+            Form::Iterate { relation, object } => Order::Iterate {
+                relation: *relation,
+                h: handle_at(vars, seen, object),
+            },
+            Form::Scan(atom) => Order::Scan {
+                h: handle_at(vars, seen, atom),
+            },
+            Form::Free(atom) => Order::Free {
+                h: handle_at(vars, seen, atom),
+            },
+            Form::Compare(a, b) => Order::Compare {
+                a: handle_at(vars, seen, a),
+                b: handle_at(vars, seen, b),
+            },
+            Form::Get { property, object } => Order::Get {
+                property: *property,
+                h: handle_at(vars, seen, object),
+            },
+            Form::GetStr { property, object } => Order::GetStr {
+                property: *property,
+                h: handle_at(vars, seen, object),
+            },
+            Form::GetValue { object, format } => Order::GetValue {
+                h: handle_at(vars, seen, object),
+                format: *format,
+            },
+            Form::PutValue {
+                object,
+                format,
+                text,
+                mode,
+                time,
+                event,
+            } => Order::PutValue {
+                h: handle_at(vars, seen, object),
+                format: *format,
+                text: text_at(vars, seen, text),
+                mode: *mode,
+                time: number_at(vars, seen, time),
+                event: *event,
+            },
+            Form::Cancel(atom) => Order::Cancel {
+                h: handle_at(vars, seen, atom),
+            },
+            Form::GetTime => Order::GetTime,
+            Form::Register {
+                reason,
+                object,
+                time,
+                body,
+                data,
+            } => Order::Register {
+                reason: *reason,
+                h: handle_at(vars, seen, object),
+                time: number_at(vars, seen, time),
+                body: self.body(body),
+                n: number_at(vars, seen, data),
+            },
+            Form::Remove(atom) => Order::Remove {
+                h: handle_at(vars, seen, atom),
+            },
+            Form::CbInfo(atom) => Order::CbInfo {
+                h: handle_at(vars, seen, atom),
+            },
+            Form::RegisterSystf {
+                kind,
+                name,
+                size,
+                calltf,
+                compiletf,
+            } => Order::RegisterSystf {
+                kind: *kind,
+                text: text_at(vars, seen, name),
+                n: number_at(vars, seen, size),
+                calltf: self.own(calltf.get()),
+                compiletf: self.own_if(compiletf),
+            },
+            Form::ChkError => Order::ChkError,
+            Form::Control { stop } => Order::Control { stop: *stop },
+            Form::Print(atom) => Order::Print {
+                text: text_at(vars, seen, atom),
+            },
+            Form::SetData(atom) => Order::SetData {
+                n: number_at(vars, seen, atom),
+            },
+        }
+    }
+}
