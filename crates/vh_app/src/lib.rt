@@ -17,8 +17,6 @@ mod point;
 mod read;
 mod script;
 mod sizes;
-#[cfg(test)]
-mod tests;
 mod turned;
 mod value;
 mod vars;

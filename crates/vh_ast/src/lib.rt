@@ -23,8 +23,6 @@ mod port;
 mod routine;
 mod stmt;
 mod target;
-#[cfg(test)]
-mod tests;
 mod timing;
 mod token;
 

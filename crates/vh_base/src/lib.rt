@@ -23,8 +23,6 @@ mod place;
 mod sequence;
 mod short;
 mod steps;
-#[cfg(test)]
-mod tests;
 mod words;
 
 pub use boxed::Boxed;

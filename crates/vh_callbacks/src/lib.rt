@@ -14,8 +14,6 @@ mod numbers;
 mod registration;
 mod registry;
 mod sets;
-#[cfg(test)]
-mod tests;
 
 pub use laws::callbacks_laws;
 pub use live::Live;

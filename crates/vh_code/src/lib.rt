@@ -33,6 +33,3 @@ pub use show::{ShowArg, ShowArgs, ShowCall, ShowTask};
 pub use statement::{StmtInfo, StmtKind};
 pub use target::{Delay, Input, Inputs, Output, Outputs, Targets};
 pub use wait::{Edge, Term, Terms, WaitInfo};
-
-#[cfg(test)]
-mod tests;

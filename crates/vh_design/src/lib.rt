@@ -35,6 +35,3 @@ pub use vh_nodes::{
     Kind, Link, Links, Logic, MOST_UNIT, Name, NetType, ObjectInfo, Range, Select, Selected, Shift,
     Unary, lowest_of,
 };
-
-#[cfg(test)]
-mod tests;

@@ -9,8 +9,6 @@
 
 mod dispatch;
 mod laws;
-#[cfg(test)]
-mod tests;
 
 pub use dispatch::{Begun, Dispatch};
 pub use laws::dispatch_laws;

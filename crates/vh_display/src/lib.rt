@@ -13,8 +13,6 @@ mod call;
 mod conversion;
 mod format;
 mod laws;
-#[cfg(test)]
-mod tests;
 mod texts;
 
 pub use call::{reads, show};

@@ -17,6 +17,3 @@ mod selects;
 pub use evaluation::eval;
 pub use laws::eval_laws;
 pub use selects::{integer, selected, sliced};
-
-#[cfg(test)]
-mod tests;

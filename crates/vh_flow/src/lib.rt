@@ -18,8 +18,6 @@ mod flow;
 mod laying;
 mod places;
 mod sizes;
-#[cfg(test)]
-mod tests;
 
 pub use code_kind::CodeKind;
 pub use copies::copied;

@@ -18,6 +18,3 @@ mod laws;
 
 pub use handles::{Handles, OpenFault, Thing};
 pub use laws::handles_laws;
-
-#[cfg(test)]
-mod tests;

@@ -11,7 +11,7 @@ use Rattle.vh_kernel.specs.declared.label.Ending.{Ending}
 use Rattle.vh_kernel.specs.declared.label.Ending.TheVariants as ending
 use Rattle.vh_kernel.specs.declared.label.Label.{Label}
 use Rattle.vh_kernel.specs.declared.label.Label.TheVariants as label
-use Rattle.vh_orders.specs.Names.{name_of}
+use Rattle.vh_orders.specs.Names.{name_of, with_address}
 use Rattle.vh_lines.specs.OrderText.{order_text, answer_text}
 use Rattle.vh_lines.specs.Quoted.{quoted, plain_text}
 use Rattle.vh_kernel.specs.State.{State}
@@ -39,10 +39,10 @@ who_text (who_is.Startup k) = 115 ∷ decimal k
 abbrev pub script_name : ℕ → State → List ℕ
 script_name k s = unwrap_or (option_map (λ d. d.name) (slice_get s.world.scripts (k - 1))) []
 
--- The full name of an object, or a dash for none.
+-- The full name of an object or a word, or a dash for none.
 abbrev pub object_text : Option Object → State → List ℕ
 object_text None s = 45 ∷ []
-object_text (Some o) s = plain_text (name_of o.id s.world.names)
+object_text (Some o) s = with_address (plain_text (name_of o.id s.world.names)) o.word
 
 -- The text of a label, without its time: a row for each label. Silent labels have none.
 abbrev pub text_at : State → Label → Option (List ℕ)

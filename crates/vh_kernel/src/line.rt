@@ -110,14 +110,18 @@ fn line_of_occurrence(
     Ok(line)
 }
 
-// Adds the full name of an object, or a dash for none.
+// Adds the full name of an object or a word, or a dash for none.
 fn push_object(line: &mut String, k: &Kernel, object: Option<Object>) -> Result<(), AllocError>
     ensures { OnOk result (string_bytes line.new
         ≡ string_bytes line.old ++ object_text object (state_of k.now)) }
 {
-    match object {
-        Some(object) => push_plain(line, k.object_name(object.id)),
-        None => line.push('-'),
+    let Some(object) = object else {
+        return line.push('-');
+    };
+    push_plain(line, k.object_name(object.id))?;
+    match object.word {
+        Some(address) => write!(line, "[{address}]"),
+        None => Ok(()),
     }
 }
 

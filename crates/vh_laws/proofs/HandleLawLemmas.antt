@@ -349,9 +349,9 @@ not_yet-found o w s named =
     (λ _. unless-holds NotE1 (not (all_named s (handles_read o))) code.E1 _
     (λ unnamed. absurd (let wrong : not true ≡ true = ap (λ (b : Bool). not b) (sym named) ∙ unnamed in cc)) (λ _. no-E9))
 
-new_handle-found : (i : Option ℕ) (s : World) → NotE1 (new_handle i s)
+new_handle-found : (i : Option Object) (s : World) → NotE1 (new_handle i s)
 new_handle-found None s = λ is. absurd (cc)
-new_handle-found (Some id) s =
+new_handle-found (Some x) s =
     unless-holds NotE1 (no_handle_more s.handles) code.E10 _ (λ _. no-E10) (λ _ is. absurd (cc))
 
 by_name-found : (text : List ℕ) (scope : Option ℕ) (w : Who) (s : World) → all_named s (handle_or_null true scope) ≡ true

@@ -24,7 +24,6 @@ use Rattle.vh_base.specs.declared.words.Reason.{Reason}
 use Rattle.vh_base.specs.declared.orders.Object.{Object}
 use Rattle.vh_handles.specs.declared.handles.Thing.{Thing}
 use Rattle.vh_handles.specs.Handles.{Handles, thing_at, opened}
-use Rattle.vh_orders.specs.Names.{whole}
 use Rattle.vh_kernel.specs.Occurrences.{Occurrence, set_of}
 use Rattle.vh_kernel.specs.Outcome.{Move}
 use Rattle.vh_choice.specs.declared.chooser.Chooser.TheVariants.{Fifo}
@@ -322,7 +321,7 @@ names_another law =
     let is : Some (thing.Callback 1) ≡ Some right.thing = right.names in
     let same : thing.Callback 1 ≡ right.thing = cc in
     elim right.about [
-      | inl object ↦ absurd (let wrong : thing.Callback 1 ≡ thing.Object (whole object.object) = same ∙ object.names in cc)
+      | inl object ↦ absurd (let wrong : thing.Callback 1 ≡ thing.Object object.object = same ∙ object.names in cc)
       | inr callback ↦ absurd (let wrong : thing.Callback 1 ≡ thing.Callback 2 = same ∙ callback.names in cc)
     ]
 

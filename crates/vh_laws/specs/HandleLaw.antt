@@ -18,7 +18,7 @@ use Rattle.vh_handles.specs.declared.handles.Thing.TheVariants as thing
 use Rattle.vh_kernel.specs.declared.label.Label.{Label}
 use Rattle.vh_kernel.specs.declared.label.Label.TheVariants as label
 use Rattle.vh_handles.specs.Handles.{thing_at}
-use Rattle.vh_orders.specs.Names.{object_named, whole}
+use Rattle.vh_orders.specs.Names.{object_named}
 use Rattle.vh_orders.specs.Orders.{is_startup, name_meant, needs_object, object_watched, body_named, registration_of, handles_read, all_named}
 use Rattle.vh_kernel.specs.Outcome.{Move}
 use Rattle.vh_kernel.specs.State.{State}
@@ -60,16 +60,16 @@ GivesOnce moves =
     → moves ≡ before ++ (label.Do who o (answer.Handle h), t) ∷ behind
     → (any (is_giving h) before ≡ false) × (any (is_giving h) behind ≡ false)
 
--- A handle is given for the object of the name that was asked for,
+-- A handle is given for the object, or the word, of the name that was asked for,
 pub record FindsObject (s : State) (o : Order) (x : Thing) : Type 0 where
   pub text : List ℕ
   pub scope : Option ℕ
   pub name : List ℕ
-  pub object : ℕ
+  pub object : Object
   pub asks : o ≡ order.ByName text scope
   pub means : name_meant scope text s.world ≡ Ok name
   pub found : object_named name s.world.names ≡ Some object
-  pub names : x ≡ thing.Object (whole object)
+  pub names : x ≡ thing.Object object
 
 -- or for the callback that was registered, which is live from then on with what was asked for.
 pub record Registers (s : State) (o : Order) (h : ℕ) (x : Thing) (t : State) : Type 0 where

@@ -9,8 +9,6 @@
 mod order_text;
 mod quoted;
 mod routine;
-#[cfg(test)]
-mod tests;
 
 pub use order_text::{push_answer, push_order};
 pub use quoted::{push_plain, push_quoted};

@@ -15,6 +15,3 @@
 mod links;
 
 pub use links::Links;
-
-#[cfg(test)]
-mod tests;

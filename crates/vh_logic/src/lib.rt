@@ -32,6 +32,3 @@ pub use parts::{concat, replace, resize, select};
 pub use reduce::{reduce_and, reduce_or, reduce_xor, truth};
 pub use shift::{shl, shr, sshr};
 pub use vector::{MAX_WIDTH, NATURAL_WIDTHS, Plane, Vec4, mask};
-
-#[cfg(test)]
-mod tests;

@@ -16,7 +16,7 @@ use Rattle.vh_orders.specs.declared.who.Who.{Who}
 use Rattle.vh_handles.specs.declared.handles.Thing.{Thing}
 use Rattle.vh_handles.specs.declared.handles.Thing.TheVariants as thing
 use Rattle.vh_handles.specs.Handles.{thing_at, opened, no_handle_more}
-use Rattle.vh_orders.specs.Names.{object_named, whole}
+use Rattle.vh_orders.specs.Names.{object_named}
 use Rattle.vh_orders.specs.Orders.{Effect, answers, opens, is_startup, callback_in, name_meant, new_handle, needs_object, needs_entry, object_watched, body_named, registration_of, without_callback, handles_read, all_named, not_yet, effect_of}
 use Rattle.vh_orders.specs.World.{World}
 
@@ -26,9 +26,9 @@ pub data IsForm (o : Order) (s : World) (e : Effect) : Type 0 where
   -- it is answered, and changes nothing;
   answers_only : (a : Answer) → (a ≡ answer.Done) ⊎ (a ≡ answer.Null) → e ≡ Ok (answers a s) → IsForm o s e
   -- it gives a handle to the object of a name;
-  opens_object : (text name : List ℕ) (scope : Option ℕ) (id : ℕ) → o ≡ order.ByName text scope
-      → name_meant scope text s ≡ Ok name → object_named name s.names ≡ Some id → no_handle_more s.handles ≡ false
-      → e ≡ Ok (opens (λ h. record s { handles = opened h (thing.Object (whole id)) s.handles })) → IsForm o s e
+  opens_object : (text name : List ℕ) (scope : Option ℕ) (x : Object) → o ≡ order.ByName text scope
+      → name_meant scope text s ≡ Ok name → object_named name s.names ≡ Some x → no_handle_more s.handles ≡ false
+      → e ≡ Ok (opens (λ h. record s { handles = opened h (thing.Object x) s.handles })) → IsForm o s e
   -- it registers a callback, with its handle;
   registers : (r : Reason) (h : Option ℕ) (time n : ℕ) (body : BodyName) (object : Option Object) (b : Body)
       → o ≡ order.Register r h time body n → object_watched (needs_object r) r h s ≡ Ok object
@@ -54,12 +54,12 @@ not_yet-form o d w s =
     unless-holds (IsForm o s) (is_startup w) code.E9 _ (λ _. refuses code.E9 refl)
     (λ _. unless-holds (IsForm o s) (not (all_named s (handles_read d))) code.E1 _ (λ _. refuses code.E1 refl) (λ _. refuses code.E9 refl))
 
-new_handle-form : (text name : List ℕ) (scope i : Option ℕ) (s : World) → name_meant scope text s ≡ Ok name
+new_handle-form : (text name : List ℕ) (scope : Option ℕ) (i : Option Object) (s : World) → name_meant scope text s ≡ Ok name
     → object_named name s.names ≡ i → IsForm (order.ByName text scope) s (new_handle i s)
 new_handle-form text name scope None s means is = answers_only answer.Null (inr refl) refl
-new_handle-form text name scope (Some id) s means is =
+new_handle-form text name scope (Some x) s means is =
     unless-holds (IsForm (order.ByName text scope) s) (no_handle_more s.handles) code.E10 _ (λ _. refuses code.E10 refl)
-    (λ room. opens_object text name scope id refl means is room refl)
+    (λ room. opens_object text name scope x refl means is room refl)
 
 by_name-form : (text : List ℕ) (scope : Option ℕ) (w : Who) (s : World)
     → IsForm (order.ByName text scope) s (effect_of (order.ByName text scope) w s)

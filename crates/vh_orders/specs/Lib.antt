@@ -1,5 +1,7 @@
 -- The names of a design's objects.
 pub mod Names
+-- How the address in a word's name is read.
+pub mod Addresses
 -- What orders read and change.
 pub mod World
 -- What each order is answered and what it changes, a row for each.

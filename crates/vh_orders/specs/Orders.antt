@@ -27,7 +27,7 @@ use Rattle.vh_handles.specs.declared.handles.Thing.{Thing}
 use Rattle.vh_handles.specs.declared.handles.Thing.TheVariants as thing
 use Rattle.vh_handles.specs.Handles.{thing_at, opened, freed, no_handle_more}
 use Rattle.vh_nodes.specs.Kinds.{is_scope}
-use Rattle.vh_orders.specs.Names.{object_named, name_of, is_kind, may_watch, below, whole}
+use Rattle.vh_orders.specs.Names.{object_named, name_of, is_kind, may_watch, below}
 use Rattle.vh_orders.specs.World.{World}
 
 -- An order is refused with an error, and nothing changes; or it is answered; or it gives a new handle,
@@ -77,11 +77,11 @@ name_meant (Some h) path w =
     unless (not (is_kind is_scope o.id w.names)) code.E2 (Ok (below (name_of o.id w.names) path)))
 
 -- A new handle of an object, or null where there is none.
-abbrev pub new_handle : Option ℕ → World → Effect
+abbrev pub new_handle : Option Object → World → Effect
 new_handle None w = Ok (answers answer.Null w)
-new_handle (Some id) w =
+new_handle (Some o) w =
     unless (no_handle_more w.handles) code.E10
-    (Ok (opens (λ h. record w { handles = opened h (thing.Object (whole id)) w.handles })))
+    (Ok (opens (λ h. record w { handles = opened h (thing.Object o) w.handles })))
 
 -- Which reasons watch an object. (27.33)
 abbrev pub needs_object : Reason → Bool

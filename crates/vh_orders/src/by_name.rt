@@ -9,7 +9,7 @@ use crate::tables::is_startup;
 use crate::who::Who;
 use crate::world::World;
 use std::alloc::Global;
-use vh_base::{Answer, Code, HandleNo, NoMemory, ObjId, Object, Order};
+use vh_base::{Answer, Code, HandleNo, NoMemory, Object, Order};
 use vh_handles::Thing;
 
 // The object that a handle names.
@@ -39,7 +39,7 @@ impl World {
             return Err(Halt::Refused(Code::E9));
         }
         let Some(handle) = scope else {
-            let found = object_named(&self.names, text);
+            let found = object_named(&self.names, text)?;
             return self.open(alloc, found);
         };
         let object = match object_in(self.handles.thing(handle)) {
@@ -59,32 +59,25 @@ impl World {
         alloc: Global,
         scope: &Object,
         path: &[u8],
-    ) -> Result<Option<usize>, NoMemory>
-        ensures { IfOk result (λ id. id ≡ object_named
+    ) -> Result<Option<Object>, NoMemory>
+        ensures { IfOk result (λ o. o ≡ object_named
             (below (name_of scope.now.id (world_of self.now).names) path.now)
             (world_of self.now).names) }
     {
         let name = joined(alloc, self.object_name(scope.id), path)?;
-        Ok(object_named(&self.names, name.as_slice()))
+        object_named(&self.names, name.as_slice())
     }
 
     // A new handle of an object, if there is one.
-    fn open(&mut self, alloc: Global, id: Option<usize>) -> Result<Answer, Halt>
-        ensures { HasEffect (new_handle id (world_of self.old)) self.old result self.new }
+    fn open(&mut self, alloc: Global, object: Option<Object>) -> Result<Answer, Halt>
+        ensures { HasEffect (new_handle object (world_of self.old)) self.old result self.new }
     {
-        let Some(id) = id else {
+        let Some(object) = object else {
             return Ok(Answer::Null);
         };
         if self.handles.is_full() {
             return Err(Halt::Refused(Code::E10));
         }
-        let Ok(number) = u32::try_from(id) else {
-            return Err(Halt::NoMemory);
-        };
-        let object = Object {
-            id: ObjId::new(number),
-            word: None,
-        };
         let Ok(handle) = self.handles.open_handle(alloc, Thing::Object(object)) else {
             return Err(Halt::NoMemory);
         };

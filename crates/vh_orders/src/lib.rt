@@ -9,6 +9,7 @@
 //! callbacks and the frames' sets, and `vh_handles`.
 #![tactic(auto)]
 
+mod addresses;
 mod by_name;
 mod halt;
 mod names;

@@ -1,4 +1,4 @@
-//! Texts with what the parsers answer for their tokens: tests of the crates below, which have none of
+//! Trees, and texts with what the parsers answer for their tokens: tests of the crates below, which have none of
 //! their own, so that a change of a test proves nothing again.
 #![tactic(auto)]
 
@@ -6,3 +6,5 @@
 mod expressions;
 #[cfg(test)]
 mod statements;
+#[cfg(test)]
+mod trees;

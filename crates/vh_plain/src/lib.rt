@@ -13,6 +13,3 @@ mod wheel;
 
 pub use slots::PlainSlots;
 pub use wheel::PlainWheel;
-
-#[cfg(test)]
-mod tests;

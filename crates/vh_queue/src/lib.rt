@@ -14,8 +14,6 @@ mod marks;
 mod place;
 mod queue;
 mod region;
-#[cfg(test)]
-mod tests;
 mod work;
 
 pub use entry::Entry;

@@ -11,7 +11,7 @@ struct Row {
     text: &'static str,
 }
 
-static ROWS: [Row; 6] = [
+static ROWS: [Row; 7] = [
     // A callback removes another and registers one more: neither fires for the same change.
     Row {
         design: "module top; reg r; initial begin #1 r = 0; #1 r = 1; end endmodule",
@@ -246,6 +246,47 @@ proc seen {
 2 do c3 remove h3 => 1
 2 do c3 register cbValueChange h1 0 proc again.seen 0 => h4
 2 done 3
+2 end none
+",
+    },
+    // A word has its memory's name and its address; a change of it is one of the word, and then one of the memory.
+    Row {
+        design: "module top; reg [3:0] m [1:3]; initial begin #1 m[2] = 5; #1 m[3] = 6; end endmodule",
+        script: "app a; var t, w, m;
+startup { register cbEndOfCompile null 0 proc init 0; }
+proc init { t = by_name \"top\" null; w = by_name \"m[2]\" t; m = by_name \"top.m\" null;
+  by_name \"top.m[02]\" null; by_name \"top.m[4]\" null; by_name \"m[3\" t; by_name \"m\" w;
+  register cbValueChange m 0 proc all 0; register cbValueChange w 0 proc one 0; }
+proc all { print index; print value; } proc one { print index; print value; }",
+        text: "0 startup a
+0 do s1 register cbEndOfCompile null 0 proc a.init 0 => h0
+0 occ 1 cbEndOfCompile -
+0 fire 1 c1
+0 do c1 by_name \"top\" null => h1
+0 do c1 by_name \"m[2]\" h1 => h2
+0 do c1 by_name \"top.m\" null => h3
+0 do c1 by_name \"top.m[02]\" null => null
+0 do c1 by_name \"top.m[4]\" null => null
+0 do c1 by_name \"m[3\" h1 => null
+0 do c1 by_name \"m\" h2 => E2
+0 do c1 register cbValueChange h3 0 proc a.all 0 => h4
+0 do c1 register cbValueChange h2 0 proc a.one 0 => h5
+0 done 1
+1 occ 2 cbValueChange top.m[2]
+1 fire 2 c3
+1 do c3 print \"\" => ok
+1 do c3 print \"0101\" => ok
+1 done 2
+1 occ 3 cbValueChange top.m
+1 fire 3 c2
+1 do c2 print \"2\" => ok
+1 do c2 print \"0101\" => ok
+1 done 3
+2 occ 4 cbValueChange top.m
+2 fire 4 c2
+2 do c2 print \"3\" => ok
+2 do c2 print \"0110\" => ok
+2 done 4
 2 end none
 ",
     },

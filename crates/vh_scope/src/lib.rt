@@ -12,8 +12,6 @@
 mod look_up;
 mod names;
 mod table;
-#[cfg(test)]
-mod tests;
 
 pub use look_up::{Declaration, Top, found, found_first, found_inside, found_scope, indexed};
 pub use names::{Meaning, Names};

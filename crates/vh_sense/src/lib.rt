@@ -21,6 +21,3 @@ pub use follow::Follow;
 pub use laws::sense_laws;
 pub use readers::{count_parts, part_at, reads};
 pub use sense::Sense;
-
-#[cfg(test)]
-mod tests;

@@ -23,8 +23,3 @@ pub use labels::{Came, Performed};
 pub use monitor::Monitor;
 pub use simulation::Simulation;
 pub use vh_proc::{MadeList, Next, StepFault};
-
-#[cfg(test)]
-mod forces;
-#[cfg(test)]
-mod tests;

@@ -17,6 +17,3 @@ mod slots;
 
 pub use laws::slots_laws;
 pub use slots::{GENERATIONS, GiveFault, Key, Slots};
-
-#[cfg(test)]
-mod tests;

@@ -21,6 +21,3 @@ mod store;
 pub use laws::store_laws;
 pub use same::is_same_value;
 pub use store::Store;
-
-#[cfg(test)]
-mod tests;

@@ -11,8 +11,6 @@
 
 mod laws;
 mod sign;
-#[cfg(test)]
-mod tests;
 mod token;
 
 pub use laws::{Syntax, syntax_laws};

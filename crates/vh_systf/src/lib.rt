@@ -11,6 +11,3 @@ mod table;
 
 pub use built_in::is_built_in;
 pub use table::SystfTable;
-
-#[cfg(test)]
-mod tests;

@@ -27,6 +27,3 @@ pub use literal::{LiteralFault, read_literal};
 pub use radix::Radix;
 pub use text::{text_of, vector_text_of};
 pub use value::read_value;
-
-#[cfg(test)]
-mod tests;

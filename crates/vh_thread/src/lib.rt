@@ -18,6 +18,3 @@ mod thread;
 
 pub use call::{Call, CallFault, MOST_CALLS, Repeat};
 pub use thread::Thread;
-
-#[cfg(test)]
-mod tests;

@@ -21,6 +21,3 @@ mod occupied;
 mod wheel;
 
 pub use wheel::Wheel;
-
-#[cfg(test)]
-mod tests;

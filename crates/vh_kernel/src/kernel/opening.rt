@@ -13,7 +13,7 @@ use std::collections::VecDeque;
 use vh_app::{Script, Vars};
 use vh_base::{NoMemory, ObjId, Reason};
 use vh_callbacks::Registry;
-use vh_design::Design;
+use vh_design::{Design, lowest_of};
 use vh_dispatch::Dispatch;
 use vh_handles::Handles;
 use vh_names::full_name;
@@ -31,7 +31,7 @@ fn all_vars(alloc: Global, scripts: &[Script]) -> Result<Vec<Vars>, NoMemory>
     Ok(vars)
 }
 
-// The objects of a design, with their full names and kinds.
+// The objects of a design, with their full names and kinds, and the addresses of memories.
 fn all_names(alloc: Global, d: &Design) -> Result<Vec<Named>, NoMemory>
     ensures { IfOk result (λ names. names.items ≡ full_names d.now) }
 {
@@ -39,9 +39,12 @@ fn all_names(alloc: Global, d: &Design) -> Result<Vec<Named>, NoMemory>
     let mut names = Vec::with_capacity(alloc, count as usize)?;
     for o in 0..count {
         let object = ObjId::new(o);
+        let info = d.object(object);
         names.push(Named {
             name: full_name(alloc, d, object)?,
-            kind: d.object(object).kind,
+            kind: info.kind,
+            lowest: lowest_of(&info.detail),
+            words: info.words,
         })?;
     }
     Ok(names)

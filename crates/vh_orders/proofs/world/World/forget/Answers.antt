@@ -1,4 +1,4 @@
-use Rattle.std.proofs.Common.{◌≡◌, refl}
+use Rattle.std.proofs.Common.{refl}
 use Rattle.vh_dispatch.proofs.FramesLemmas.{loses_number}
 use Rattle.vh_orders.proofs.world.World.forget.Goals as goal
 

@@ -1,0 +1,52 @@
+//! Tokens of a text, read with the words of the grammar kit.
+
+use std::test::Fail;
+use vh_ast::{Binary, NetType, PortType};
+use vh_base::Place;
+use vh_grammar::{Cursor, Stop};
+use vh_lex::{Keyword, Kind, Mark, Token};
+use vh_syntax::{Class, Group, Rows, Sign, Start, Syntax, Word, syntax_laws};
+
+fn token(kind: Kind) -> Token {
+    let place = Place {
+        file: 1,
+        line: 1,
+        column: 1,
+    };
+    Token { kind, place }
+}
+
+// `wire ; specify`: the first is a net type, and the last stands in no production.
+#[test]
+fn words(rt: HostRuntime) -> Result<(), Fail> {
+    let tokens = [
+        token(Kind::Word(Keyword::Wire)),
+        token(Kind::Mark(Mark::Semicolon)),
+        token(Kind::Word(Keyword::Specify)),
+    ];
+    let words = [
+        Word { token: &tokens[0] },
+        Word { token: &tokens[1] },
+        Word { token: &tokens[2] },
+    ];
+    assert!(rt; words[0].net_type() == Some(NetType::Wire));
+    assert!(rt; words[0].port_type() == Some(PortType::Net(NetType::Wire)));
+    assert!(rt; words[1].operator(1).is_none());
+    let at = Cursor::new(&words);
+    assert!(rt; at.next_is(Class::Begins(Start::Item)));
+    assert!(rt; at.next_is(Class::Row(Rows::Net)));
+    assert!(rt; !at.next_is(Class::Among(Group::Hidden)));
+    let behind = at
+        .take(Class::Is(Sign::Wire))?
+        .take(Class::Is(Sign::Semicolon))?;
+    assert!(rt; behind.lost() == Stop::LeftOut(1));
+    assert!(rt; at.lost() == Stop::Lost(3));
+    Ok(())
+}
+
+// The laws hold of the language.
+#[test]
+fn laws() {
+    syntax_laws();
+    vh_grammar::exact::<Syntax>();
+}
