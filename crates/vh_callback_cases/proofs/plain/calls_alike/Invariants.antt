@@ -1,6 +1,6 @@
 use Rattle.std.proofs.Common.{◌≤◌, ◌<◌}
 use Rattle.vh_wheel.specs.Schedule.{held_in}
-use Rattle.vh_plain.proofs.tests.calls_alike.Given as goal
+use Rattle.vh_callback_cases.proofs.plain.calls_alike.Given as goal
 
 abbrev pub invariant-loop-call : goal.invariant-loop-call
 invariant-loop-call g l =

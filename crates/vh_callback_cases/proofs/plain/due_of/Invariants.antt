@@ -1,6 +1,6 @@
 use Rattle.std.proofs.Common.{◌≤◌}
 use Rattle.vh_wheel.specs.Schedule.{held_in}
-use Rattle.vh_plain.proofs.tests.due_of.Given as goal
+use Rattle.vh_callback_cases.proofs.plain.due_of.Given as goal
 
 abbrev pub invariant-loop-next : goal.invariant-loop-next
 invariant-loop-next g l = (held_in l.wheel.entries ≤ held_in l.initial.wheel.entries) × (l.wheel.present ≤ l.time)
