@@ -1,8 +1,9 @@
 -- Expressions: the nodes that they are bound to, where they may read objects and where a constant is needed; and
 -- the values of constants. (IEEE 1364-2005, 4.10 and clause 5)
-use Rattle.std.specs.Prelude.{ℕ, suc, max, ◌==◌, ◌^◌, ◌-◌, List, [], ◌∷◌, ◌++◌, Bool, true, false, not, if◌then◌else◌, bytes_eq, codes, Option, Some, None, Ok, Err}
+use Rattle.std.specs.Prelude.{ℕ, suc, max, ◌==◌, ◌^◌, ◌+◌, ◌-◌, List, [], ◌∷◌, ◌++◌, length, Bool, true, false, not, if◌then◌else◌, bytes_eq, codes, Option, Some, None, Ok, Err}
+use Rattle.std.specs.List.{list_any}
 use Rattle.vh_base.specs.declared.faults.DesignFault.{DesignFault}
-use Rattle.vh_base.specs.declared.faults.DesignFault.TheVariants.{N1, N3, N4, N7, N10}
+use Rattle.vh_base.specs.declared.faults.DesignFault.TheVariants.{N1, N3, N4, N5, N7, N10}
 use Rattle.vh_base.specs.declared.place.Place.{Place}
 use Rattle.vh_logic.specs.declared.vector.TheConstants.{MAX_WIDTH}
 use Rattle.vh_logic.specs.Vector.{Vector}
@@ -11,6 +12,8 @@ use Rattle.vh_nodes.specs.declared.expr.ExprKind.TheVariants as kind
 use Rattle.vh_nodes.specs.declared.expr.Range.{Range}
 use Rattle.vh_nodes.specs.declared.expr.Select.{Select}
 use Rattle.vh_nodes.specs.declared.expr.Select.TheVariants as select
+use Rattle.vh_nodes.specs.Kinds.{is_variable}
+use Rattle.vh_nodes.specs.Fits.{has_kind}
 use Rattle.vh_nodes.specs.Widths.{width_of, signed_of}
 use Rattle.vh_design.specs.Shape.{Shape}
 use Rattle.vh_store.specs.Contents.{Contents}
@@ -19,6 +22,7 @@ use Rattle.vh_scope.specs.declared.names.Meaning.{Meaning}
 use Rattle.vh_scope.specs.declared.look_up.Declaration.{Declaration}
 use Rattle.vh_scope.specs.LookUp.{first_found, found_inside}
 use Rattle.vh_ast.specs.declared.operator.Unary.{Unary}
+use Rattle.vh_ast.specs.declared.routine.TaskDirection.{TaskDirection}
 use Rattle.vh_ast.specs.declared.token.Id.{Id}
 use Rattle.vh_ast.specs.Expressions.{ExprTree, expr, ExprFormTree, number, text, named, call, system, paren, concat, repeat, unary, chain, choice, Exprs, no_expr, one_expr, Links, no_link, one_link, NameTree, name, Steps, no_step, one_step, IndexTree, no_index, index, SelTree, no_sel, index_sel, both_sel, part_sel, PartTree, at, range, up, down, place_of}
 use Rattle.vh_bind.specs.declared.named.Named.{Named}
@@ -29,13 +33,13 @@ use Rattle.vh_bind.specs.declared.readable.Readable.TheVariants as read
 use Rattle.vh_bind.specs.declared.readable.Function.{Function}
 use Rattle.vh_bind.specs.declared.scope.Mode.{Mode}
 use Rattle.vh_bind.specs.declared.scope.Mode.TheVariants as mode
-use Rattle.vh_bind.specs.Steps.{Nodes, Step, ◌>>=◌, pure, refused, lifted, looking, needing}
-use Rattle.vh_bind.specs.Scopes.{Scope, here}
+use Rattle.vh_bind.specs.Steps.{Nodes, Step, ◌>>=◌, pure, refused, lifted, needing, beside}
+use Rattle.vh_bind.specs.Scopes.{Scope}
 use Rattle.vh_bind.specs.Scopes as scopes
 use Rattle.vh_bind.specs.Nodes.{pushed, unary_of, operator_of, chained, joined, repeated, text_pushed}
 use Rattle.vh_bind.specs.Selects.{Outcome, with_ok, with_some, number_in, Bounded, bit_of, indexed_of, part_of, part_select}
 use Rattle.vh_bind.specs.Paths.{declared_meant, blocks_meant, alone_meant}
-use Rattle.vh_bind.specs.Objects.{alone_read, path_read, word_of, bit_select, indexed_select, function_meant}
+use Rattle.vh_bind.specs.Objects.{alone_read, path_read, word_of, bit_select, indexed_select, directions_of, is_given, is_taken, goes_so, function_meant}
 
 -- The design of some nodes alone, and what is stored of it: nothing.
 abbrev pub bare : Nodes → Shape
@@ -179,22 +183,41 @@ abbrev pub selected_pushed : Scope → Place → Option Chosen → Option Select
 selected_pushed s place c x =
     needing c (λ y. needing x (λ z. pushed mode.Value s place (kind.Selected (record { of = y; select = z }))))
 
--- and the call of a function, (10.4.3)
+-- and the call of a function: the begin of one with outputs has what is given to it, and its end has what is assigned
+-- as well; of one without, both are the same. (10.4.3)
 abbrev pub call_pushed : Scope → Place → Function → Option (List ℕ) → Step (Option ℕ)
 call_pushed s place f ids = needing ids (λ es. pushed mode.Value s place (kind.Call f.id f.result es))
+
+abbrev pub begun : Scope → Place → Function → Option (List ℕ) → Step (Option (List ℕ))
+begun s place f ids = call_pushed s place f ids >>= (λ begin. pure ids)
+
+abbrev pub with_numbers : Option (List ℕ) → Option (List ℕ) → Option (List ℕ)
+with_numbers None js = None
+with_numbers (Some es) None = None
+with_numbers (Some es) (Some js) = Some (es ++ js)
+
+-- An argument that counts, behind others.
+abbrev pub argument_row : Bool → Option (List ℕ) → Step (Option ℕ) → Step (Option (List ℕ))
+argument_row false ids argument = pure ids
+argument_row true ids argument = argument >>= (λ a. pure (with_number ids a))
+
+abbrev pub call_row : Scope → Place → Function → Bool → Step (Option (List ℕ)) → Step (Option (List ℕ)) → Step (Option ℕ)
+call_row s place f false given taken = given >>= call_pushed s place f
+call_row s place f true given taken =
+    beside given taken >>= begun s place f >>= (λ ids. taken >>= (λ js. call_pushed s place f (with_numbers ids js)))
 
 -- which has as many arguments as it declares. (10.4.3)
 abbrev pub count_of : Exprs → ℕ
 count_of no_expr = 0
 count_of (one_expr e es) = suc (count_of es)
 
-abbrev pub called : Place → ℕ → Option Function → Outcome (Option Function)
-called place count None = Err (N1, place)
-called place count (Some f) = if count == f.arguments then Ok (Some f) else Err (N7, place)
+abbrev pub called : Scope → Place → ℕ → Option Function → Outcome (Option Function)
+called s place count None = Err (N1, place)
+called s place count (Some f) = if count == length (directions_of s f.id) then Ok (Some f) else Err (N7, place)
 
 abbrev pub function_called : Scope → Place → ℕ → Outcome (Option Meaning) → Outcome (Option Function)
 function_called s place count meaning =
-    with_ok meaning (λ m. with_some m (λ x. called place count (function_meant s x)))
+    with_ok meaning (λ m. with_some m (λ x. called s place count (function_meant s x)))
 
 -- A whole object.
 abbrev pub whole_of : ℕ → Option Chosen
@@ -209,10 +232,6 @@ abbrev pub by_mode : {A : Type 0} → Mode → A → A → A
 by_mode mode.Constant constant value = constant
 by_mode mode.Value constant value = value
 
--- What is worked out where the expression stands.
-abbrev pub worked_at : {A : Type 0} → Mode → Scope → (Scope → Outcome A) → Nodes → Outcome A
-worked_at m s f ns = f (by_mode m s (here s ns))
-
 -- What is read under a name, a row for each kind.
 abbrev pub read_row : Place → (Vector → Step (Option ℕ)) → (ℕ → Range → Vector → Step (Option ℕ))
     → (ℕ → Range → Step (Option ℕ)) → (ℕ → Range → Step (Option ℕ)) → Readable → Step (Option ℕ)
@@ -222,6 +241,15 @@ read_row place genvar parameter vector memory (read.Genvar v) = genvar v
 read_row place genvar parameter vector memory (read.Parameter o r v) = parameter o r v
 read_row place genvar parameter vector memory (read.Vector o r) = vector o r
 read_row place genvar parameter vector memory (read.Memory o r) = memory o r
+
+-- The same where it is assigned to: a net and a parameter can't be. (9.2)
+abbrev pub target_row : Scope → Place → (ℕ → Range → Step (Option ℕ)) → (ℕ → Range → Step (Option ℕ)) → Readable → Step (Option ℕ)
+target_row s place vector memory read.Wrong = refused N1 place
+target_row s place vector memory read.Unknown = pure None
+target_row s place vector memory (read.Genvar v) = refused N1 place
+target_row s place vector memory (read.Parameter o r v) = refused N5 place
+target_row s place vector memory (read.Vector o r) = if has_kind is_variable s.objects o then vector o r else refused N5 place
+target_row s place vector memory (read.Memory o r) = memory o r
 
 -- A whole parameter stands for its value, digits of it are read. (4.10)
 abbrev pub parameter_row : Scope → Place → SelTree → Vector → Step (Option ℕ) → Step (Option ℕ)
@@ -255,21 +283,21 @@ abbrev mutual
   form_bound m s place (text bytes) = text_pushed m s place bytes
   form_bound m s place (named n sel) =
       by_mode m (lifted (with_ok (name_value s n) (λ v. sel_value s place v sel)) >>= literal mode.Constant s place)
-      (looking (λ ns. name_read (here s ns) n) >>= read_row place
-      (λ v. looking (λ ns. sel_value (here s ns) place (genvar_bounded v) sel) >>= literal mode.Value s place)
+      (lifted (name_read s n) >>= read_row place
+      (λ v. lifted (sel_value s place (genvar_bounded v) sel) >>= literal mode.Value s place)
       (λ o r v. parameter_row s place sel v (vector_bound s place o r sel))
       (λ o r. vector_bound s place o r sel)
       (λ o r. memory_bound s place o r sel))
   form_bound m s place (call n es) =
       by_mode m (refused (call_fault s n) place)
-      (looking (λ ns. function_called s place (count_of es) (name_meant (here s ns) true n)) >>= (λ f.
-      needing f (λ g. arguments_bound s (Some []) es >>= call_pushed s place g)))
+      (lifted (function_called s place (count_of es) (name_meant s true n)) >>= (λ f.
+      needing f (λ g. call_row s place g (list_any is_taken (directions_of s g.id))
+      (given_bound s (directions_of s g.id) 0 (Some []) es) (taken_bound s (directions_of s g.id) 0 (Some []) es))))
   form_bound m s place (system id es) = system_row m s id es (mark_of id.name) (sole_bound m s es)
   form_bound m s place (paren e) = bound m s e
   form_bound m s place (concat es) = entries_bound m s (Some []) es >>= concat_pushed m s place
   form_bound m s place (repeat e es) =
-      looking (λ ns. with_ok (worked_at m s (λ w. value_by 0 (bound mode.Constant w e)) ns)
-      (number_in place 1 (2 ^ 64 - 1))) >>= (λ count.
+      lifted (with_ok (value_by 0 (bound mode.Constant s e)) (number_in place 1 (2 ^ 64 - 1))) >>= (λ count.
       entries_bound m s (Some []) es >>= concat_pushed m s place >>= times_pushed m s place count)
   form_bound m s place (unary op e) = bound m s e >>= unary_pushed m s place op
   form_bound m s place (chain e ls) =
@@ -294,10 +322,41 @@ abbrev mutual
   links_bound m s ids no_link = pure ids
   links_bound m s ids (one_link op e ls) = bound m s e >>= (λ a. links_bound m s (with_number ids a) ls)
 
-  -- The arguments of a call, in their order. (10.4.3)
-  pub arguments_bound : Scope → Option (List ℕ) → Exprs → Step (Option (List ℕ))
-  arguments_bound s ids no_expr = pure ids
-  arguments_bound s ids (one_expr e es) = bound mode.Value s e >>= (λ a. arguments_bound s (with_number ids a) es)
+  -- The arguments that are given a value, in their order, from the one of this number on,
+  pub given_bound : Scope → List TaskDirection → ℕ → Option (List ℕ) → Exprs → Step (Option (List ℕ))
+  given_bound s ds k ids no_expr = pure ids
+  given_bound s ds k ids (one_expr e es) =
+      argument_row (goes_so is_given ds k) ids (bound mode.Value s e) >>= (λ js. given_bound s ds (k + 1) js es)
+
+  -- and those that are assigned to, each as a concatenation of variables. (10.2.2)
+  pub taken_bound : Scope → List TaskDirection → ℕ → Option (List ℕ) → Exprs → Step (Option (List ℕ))
+  taken_bound s ds k ids no_expr = pure ids
+  taken_bound s ds k ids (one_expr e es) =
+      argument_row (goes_so is_taken ds k) ids
+      (target_pieces s [] e >>= concat_pushed mode.Value s (place_of e)) >>= (λ js. taken_bound s ds (k + 1) js es)
+
+  -- The variables of an output, from the left: nothing but these and their concatenations takes an assignment. (10.2.2)
+  pub target_pieces : Scope → List ℕ → ExprTree → Step (Option (List ℕ))
+  target_pieces s ids (expr place form) = target_form s place ids form
+
+  pub target_form : Scope → Place → List ℕ → ExprFormTree → Step (Option (List ℕ))
+  target_form s place ids (number n) = refused N5 place
+  target_form s place ids (text bytes) = refused N5 place
+  target_form s place ids (named n sel) =
+      lifted (name_read s n) >>= target_row s place (λ o r. vector_bound s place o r sel) (λ o r. memory_bound s place o r sel)
+      >>= (λ a. pure (with_number (Some ids) a))
+  target_form s place ids (call n es) = refused N5 place
+  target_form s place ids (system id es) = refused N5 place
+  target_form s place ids (paren e) = refused N5 place
+  target_form s place ids (concat es) = targets_pieces s ids es
+  target_form s place ids (repeat e es) = refused N5 place
+  target_form s place ids (unary op e) = refused N5 place
+  target_form s place ids (chain e ls) = refused N5 place
+  target_form s place ids (choice t a b) = refused N5 place
+
+  pub targets_pieces : Scope → List ℕ → Exprs → Step (Option (List ℕ))
+  targets_pieces s ids no_expr = pure (Some ids)
+  targets_pieces s ids (one_expr e es) = target_pieces s ids e >>= (λ us. needing us (λ vs. targets_pieces s vs es))
 
   -- What a constant select names of a value: a second bracket stands at a memory alone. (5.2)
   pub sel_value : Scope → Place → Option Bounded → SelTree → Outcome (Option Vector)
@@ -339,15 +398,15 @@ abbrev mutual
   pub part_bound : Scope → Place → Range → PartTree → Step (Option Select)
   part_bound s bracket r (at i) = bound mode.Value s i >>= (λ a. pure (bit_select r a))
   part_bound s bracket r (range left right) =
-      looking (λ ns. with_ok (value_by 0 (bound mode.Constant (here s ns) left)) (λ a.
-      with_ok (value_by 0 (bound mode.Constant (here s ns) right)) (part_select bracket r a)))
+      lifted (with_ok (value_by 0 (bound mode.Constant s left)) (λ a.
+      with_ok (value_by 0 (bound mode.Constant s right)) (part_select bracket r a)))
   part_bound s bracket r (up base width) =
       bound mode.Value s base >>= (λ a.
-      looking (λ ns. with_ok (value_by 0 (bound mode.Constant (here s ns) width)) (number_in bracket 1 MAX_WIDTH)) >>= (λ n.
+      lifted (with_ok (value_by 0 (bound mode.Constant s width)) (number_in bracket 1 MAX_WIDTH)) >>= (λ n.
       pure (indexed_select true r a n)))
   part_bound s bracket r (down base width) =
       bound mode.Value s base >>= (λ a.
-      looking (λ ns. with_ok (value_by 0 (bound mode.Constant (here s ns) width)) (number_in bracket 1 MAX_WIDTH)) >>= (λ n.
+      lifted (with_ok (value_by 0 (bound mode.Constant s width)) (number_in bracket 1 MAX_WIDTH)) >>= (λ n.
       pure (indexed_select false r a n)))
 
   -- What a name or a path stands for where a value is wanted.
@@ -379,10 +438,6 @@ abbrev mutual
 abbrev pub path_meant : Scope → Id → IndexTree → Steps → Outcome (Option Meaning)
 path_meant s id i more =
     with_ok (part_meant s id.place (first_of s id) id.name i) (λ m. steps_meant s id.place m more)
-
--- A constant in an expression.
-abbrev pub constant_at : Mode → Scope → Nodes → ExprTree → Outcome (Option Vector)
-constant_at m s ns e = worked_at m s (λ w. value_by 0 (bound mode.Constant w e)) ns
 
 -- The value of a constant expression, in its own width or a greater one; none where it needs a parameter that
 -- has none; or the first fault.

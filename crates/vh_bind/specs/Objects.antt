@@ -1,7 +1,9 @@
 -- What a name stands for where a value is wanted. (IEEE 1364-2005, 5.2, 10.4 and 12.7)
-use Rattle.std.specs.Prelude.{ℕ, List, Bool, if◌then◌else◌, Option, Some, None, slice_get}
+use Rattle.std.specs.Prelude.{ℕ, List, [], Bool, true, false, if◌then◌else◌, Option, Some, None, slice_get, unwrap_or}
 use Rattle.std.specs.Option.{option_map, option_and_then}
 use Rattle.vh_logic.specs.Vector.{Vector}
+use Rattle.vh_ast.specs.declared.routine.TaskDirection.{TaskDirection}
+use Rattle.vh_ast.specs.declared.routine.TaskDirection.TheVariants as goes
 use Rattle.vh_nodes.specs.declared.expr.Chosen.{Chosen}
 use Rattle.vh_nodes.specs.declared.expr.ExprNode.{ExprNode}
 use Rattle.vh_nodes.specs.declared.expr.Range.{Range}
@@ -96,19 +98,37 @@ indexed_select up r None width = None
 indexed_select up r (Some e) None = None
 indexed_select up r (Some e) (Some n) = Some (select.Indexed up r e n)
 
--- The function that is called, with its result's variable and the number of its arguments. (10.4)
-abbrev pub with_result : Scope → ℕ → ℕ → Option ℕ → Option Function
-with_result s f arguments None = None
-with_result s f arguments (Some v) =
-    if has_kind is_variable s.objects v then Some (record { id = f; result = v; arguments = arguments }) else None
+-- The function that is called, with its result's variable. (10.4)
+abbrev pub with_result : Scope → ℕ → Option ℕ → Option Function
+with_result s f None = None
+with_result s f (Some v) = if has_kind is_variable s.objects v then Some (record { id = f; result = v }) else None
 
 abbrev pub routine_of : Scope → ℕ → Option Routine
 routine_of s f = option_and_then (λ b. slice_get s.routines b) (body_number s.objects f)
 
+-- Where its arguments go, in order. (10.2.1 and 10.4.1)
+abbrev pub directions_of : Scope → ℕ → List TaskDirection
+directions_of s f = unwrap_or (option_map (λ (r : Routine). r.arguments) (routine_of s f)) []
+
+-- Which are given a value at the begin of a call, and which are assigned at its end. (10.2.2)
+abbrev pub is_given : TaskDirection → Bool
+is_given goes.Input = true
+is_given goes.Output = false
+is_given goes.Inout = true
+
+abbrev pub is_taken : TaskDirection → Bool
+is_taken goes.Input = false
+is_taken goes.Output = true
+is_taken goes.Inout = true
+
+-- Does the argument of this number go so?
+abbrev pub goes_so : (TaskDirection → Bool) → List TaskDirection → ℕ → Bool
+goes_so test ds k = unwrap_or (option_map test (slice_get ds k)) false
+
 abbrev pub function_at : Scope → ℕ → Option Function
 function_at s f =
     if has_kind is_function s.objects f then
-    option_and_then (λ (r : Routine). with_result s f r.arguments r.result) (routine_of s f)
+    option_and_then (λ (r : Routine). with_result s f r.result) (routine_of s f)
     else None
 
 abbrev pub function_meant : Scope → Meaning → Option Function

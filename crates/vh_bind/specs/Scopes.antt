@@ -24,8 +24,9 @@ use Rattle.vh_bind.specs.declared.scope.Routine.{Routine}
 use Rattle.vh_bind.specs.Steps.{Nodes}
 
 -- Where an expression stands: what is declared; the scopes around it, from the inside out; the top, and its name;
--- the genvars that have a value; the objects and expressions of the design so far; what is known of its tasks and
--- functions, by the numbers of their bodies; the time unit of the module, and the precision.
+-- the genvars that have a value; the objects of the design so far, and the expressions in which its parameters have their
+-- values; what is known of its tasks and functions, by the numbers of their bodies; the time unit of the module, and the
+-- precision.
 pub record Scope : Type 0 where
   pub names : Names
   pub around : List ℕ
@@ -47,7 +48,7 @@ abbrev pub precision_of : Mode → Scope → ℕ
 precision_of mode.Constant s = 0
 precision_of mode.Value s = s.precision
 
--- Where a value stands, parameters have their values in the expressions so far.
+-- The same, where parameters have their values in other expressions.
 abbrev pub here : Scope → Nodes → Scope
 here s ns = record s { exprs = ns }
 

@@ -1,8 +1,9 @@
 -- What becomes of the expressions so far, step by step, up to the first fault. (own)
-use Rattle.std.specs.Prelude.{◌≡◌, List, Option, Some, None, Result, Ok, Err}
+use Rattle.std.specs.Prelude.{◌≡◌, List, [], Bool, true, false, Option, Some, None, Result, Ok, Err}
 use Rattle.vh_base.specs.declared.faults.DesignFault.{DesignFault}
 use Rattle.vh_base.specs.declared.place.Place.{Place}
 use Rattle.vh_nodes.specs.declared.expr.ExprNode.{ExprNode}
+use Rattle.vh_least.specs.Least.{lesser}
 use Rattle.vh_bind.specs.declared.fault.ElabFault.{ElabFault}
 use Rattle.vh_bind.specs.declared.fault.ElabFault.TheVariants as faults
 
@@ -41,6 +42,16 @@ lifted (Err fault) = λ ns. Err fault
 abbrev pub looking : {A : Type 0} → (Nodes → Result A Fault) → Step A
 looking f = λ ns. lifted (f ns) ns
 
+-- A part and one that is looked at apart, which may stand before it in the text: where both are wrong, the fault that
+-- stands first.
+abbrev pub earlier_of : {A B : Type 0} → Result A Fault → Result B Fault → Result A Fault
+earlier_of (Ok a) other = Ok a
+earlier_of (Err f) (Ok b) = Err f
+earlier_of (Err f) (Err g) = Err (lesser f g)
+
+abbrev pub beside : {A B : Type 0} → Step A → Step B → Step A
+beside p q = λ ns. earlier_of (p ns) (q [])
+
 -- What needs something that is passed over is passed over too.
 abbrev pub needing : {A B : Type 0} → Option A → (A → Step (Option B)) → Step (Option B)
 needing None f = pure None
@@ -57,3 +68,10 @@ abbrev pub Gives : {A : Type 0} → Result A Fault → Result A ElabFault → Ty
 Gives outcome (Ok a) = outcome ≡ Ok a
 Gives outcome (Err (faults.Refused fault place)) = outcome ≡ Err (fault, place)
 Gives outcome (Err faults.NoMemory) = Unit {0}
+
+-- A step adds to some list, or passes over it.
+abbrev pub StepsOn : {A : Type 0} → Result (Option (List A) × Nodes) Fault → Result Bool ElabFault → List A → Nodes → Type 0
+StepsOn outcome (Ok true) xs ns = outcome ≡ Ok (Some xs, ns)
+StepsOn outcome (Ok false) xs ns = outcome ≡ Ok (None, ns)
+StepsOn outcome (Err (faults.Refused fault place)) xs ns = outcome ≡ Err (fault, place)
+StepsOn outcome (Err faults.NoMemory) xs ns = Unit {0}

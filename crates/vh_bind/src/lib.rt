@@ -32,5 +32,5 @@ pub use parts::{
 };
 pub use paths::meaning;
 pub use readable::{Function, Readable, alone_read, path_read};
-pub use scope::{Genvar, Mode, Routine, Scope};
+pub use scope::{Directions, Genvar, Mode, Routine, Scope};
 pub use selects::{Bounded, number_in, part_select};

@@ -26,12 +26,11 @@ pub enum Readable {
     Wrong,
 }
 
-/// A function of the design, with its result's variable and the number of its arguments.
+/// A function of the design, with its result's variable.
 #[derive(Clone, Copy)]
 pub struct Function {
     pub id: ObjId,
     pub result: ObjId,
-    pub arguments: u32,
 }
 
 fn parameter_read(id: ObjId, range: Range, value: Option<Vec4>) -> Readable

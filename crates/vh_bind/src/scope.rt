@@ -1,4 +1,5 @@
-use vh_base::ObjId;
+use vh_ast::TaskDirection;
+use vh_base::{ObjId, Sequence};
 use vh_logic::Vec4;
 use vh_nodes::{ExprNode, Name, ObjectInfo};
 use vh_scope::{Names, Top};
@@ -12,12 +13,15 @@ pub struct Genvar {
     pub value: Vec4,
 }
 
-/// What is known of a task or function: how many arguments it declares, and a function's result, the
-/// variable of its name (IEEE 1364-2005, 10.2 and 10.4).
-#[derive(Clone, Copy)]
+/// Where the arguments of a task or function go, in order, which contracts see as a list.
+pub type Directions = Sequence<TaskDirection>;
+
+/// What is known of a task or function: where its arguments go, and a function's result, the variable
+/// of its name (IEEE 1364-2005, 10.2 and 10.4).
+#[derive(Drop)]
 pub struct Routine {
     pub result: Option<ObjId>,
-    pub arguments: u32,
+    pub arguments: Directions,
 }
 
 /// What an expression is bound for: a constant, or a value that may read objects (IEEE 1364-2005, 4.10
@@ -29,8 +33,8 @@ pub enum Mode {
 }
 
 /// Where an expression stands: what is declared, the scopes around it from the inside out up to its
-/// module, the top of the design, the genvars that have a value there, and the objects and expressions
-/// of the design so far, in which parameters have their values.
+/// module, the top of the design, the genvars that have a value there, the objects of the design so far,
+/// and the expressions in which its parameters have their values.
 #[derive(Clone, Copy)]
 pub struct Scope<'a, 'b> {
     pub names: &'a Names,

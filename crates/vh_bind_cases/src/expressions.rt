@@ -2,7 +2,7 @@
 
 use std::alloc::Global;
 use std::test::Fail;
-use vh_ast::{Expr, ExprForm, Primary};
+use vh_ast::{Expr, ExprForm, Primary, TaskDirection};
 use vh_base::{ExprId, NoMemory, ObjId, Object, Place, Sequence};
 use vh_bind::{ElabFault, Genvar, Mode, Routine, Scope, push};
 use vh_bind_expr::bind_expr;
@@ -19,10 +19,13 @@ const TOP: u32 = 0;
 // The function `f` of two arguments, with a result of 4 digits.
 const FUNCTION: u32 = 10;
 
+// The function `h` of an output, an input and an `inout`, with a result of 4 digits.
+const WITH_OUTPUTS: u32 = 15;
+
 // What is declared in the module: the objects from 1 on are `P` `[7:0]` and `S`, signed, which have the
 // values 5 and -1, `U`, which has none; the net `w`, which holds 0f; `r` `[7:0]` and `d` `[0:7]`, which
 // hold a5; `k`, signed, which holds -2; the memory `m`, whose word at 2 holds 3c; the event `e`; `f`, its result, the task `t`,
-// and the block `b` with a `y`, which holds 77.
+// and the block `b` with a `y`, which holds 77; `h` and its result.
 #[derive(Drop)]
 struct World {
     names: Names,
@@ -86,6 +89,15 @@ impl World {
         let range = Range { left: 7, right: 0 };
         let inside = Meaning::Object { id, range };
         self.names.declare(alloc, block, b"y", inside)?;
+        self.declared(
+            alloc,
+            Kind::Function,
+            b"h",
+            (0, 0),
+            false,
+            Detail::Routine(2),
+        )?;
+        self.object(alloc, Kind::Reg, b"h", 4, true, Detail::Plain)?;
         Ok(())
     }
 
@@ -162,6 +174,25 @@ const PLACE: Place = Place {
     column: 1,
 };
 
+fn routine(
+    alloc: Global,
+    variable: Option<u32>,
+    directions: &[TaskDirection],
+) -> Result<Routine, NoMemory> {
+    Ok(Routine {
+        result: variable.map(ObjId::new),
+        arguments: Sequence::from_slice(alloc, directions)?,
+    })
+}
+
+fn literal(value: Vec4) -> ExprNode {
+    ExprNode {
+        kind: ExprKind::Literal(value),
+        width: value.width(),
+        signed: value.is_signed(),
+    }
+}
+
 // The expressions that an expression of the module adds to those of the parameters' values, and the
 // number of its last one.
 fn bound(
@@ -173,15 +204,20 @@ fn bound(
         id: ObjId::new(TOP),
         name: b"top",
     };
+    let two = [TaskDirection::Input, TaskDirection::Input];
+    let three = [
+        TaskDirection::Output,
+        TaskDirection::Input,
+        TaskDirection::Inout,
+    ];
     let routines = [
-        Routine {
-            result: Some(ObjId::new(FUNCTION + 1)),
-            arguments: 2,
-        },
-        Routine {
-            result: None,
-            arguments: 0,
-        },
+        routine(alloc, Some(FUNCTION + 1), &two)?,
+        routine(alloc, None, &[])?,
+        routine(alloc, Some(WITH_OUTPUTS + 1), &three)?,
+    ];
+    let values = [
+        literal(Vec4::from_planes(8, 5, 0, false)),
+        literal(Vec4::from_planes(4, 15, 0, true)),
     ];
     let scope = Scope {
         names: &world.names,
@@ -189,7 +225,7 @@ fn bound(
         top,
         genvars: &world.genvars,
         objects: &world.objects,
-        exprs: &[],
+        exprs: &values,
         routines: &routines,
         unit: 9,
         precision: 6,
@@ -390,6 +426,10 @@ $unsigned(k) => 32'hfffffffe
 $time => 64'd2
 f(1, r) => 4'shx
 f(f(1, 2), r[0]) => 4'shx
+h(r, 1, k) => 4'shx
+h({r, {d, m[0]}}, f(1, 2), m[f(r, k)][3:0]) => 4'shx
+h(r, h(d, 1, k), m[h(r, 2, k)]) => 4'shx
+1 + h(r[U:0], 1, k) => none
 top.f(1, 2) => 4'shx
 \"ab\" => 16'h6162
 U => none
@@ -431,6 +471,19 @@ f(1, 2, 3) => N7 1
 r + f(1) => N7 5
 top.f(1) => N7 1
 f(f(1), 2) => N7 3
+h(r, 1) => N7 1
+h(w, 1, k) => N5 3
+h(P, 1, k) => N5 3
+h(i, 1, k) => N1 3
+h(m, 1, k) => N1 3
+h(r, 1, f(1, 2)) => N5 9
+h((r), 1, k) => N5 3
+h({r, 4'd1}, 1, k) => N5 7
+h({k, k, r}, 1, k) => N3 3
+h(w, nothing, k) => N5 3
+h(r, nothing, w) => N1 6
+h(r, 1, nothing) => N1 9
+h(r[nothing], m, w) => N1 5
 f(nothing) => N7 1
 f(nothing, m) => N1 3
 f(r, m) => N1 6

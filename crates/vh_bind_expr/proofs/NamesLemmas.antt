@@ -1,23 +1,29 @@
 -- Lemmas on `specs/Constants.antt` of vh_bind: names where a value is wanted, and the arguments of calls.
-use Rattle.std.proofs.Common.{◌≡◌, ◌∙◌, ◌<◌, ◌+◌, ◌∷◌, [], ℕ, suc, Bool, true, false, List, length, get_or, drop, Option, Some, None, Result, Ok, Err, refl, sym, ap}
-use Rattle.std.specs.Prelude.{map, is_some, if◌then◌else◌}
+use Rattle.std.proofs.Common.{◌≡◌, ◌∙◌, ◌<◌, ◌≤◌, ◌+◌, ◌++◌, ◌∷◌, [], ℕ, suc, Bool, true, false, List, length, get_or, drop, Option, Some, None, Result, Ok, Err, refl, sym, ap}
+use Rattle.std.specs.Prelude.{map, is_some, if◌then◌else◌, nat_lt, IfSome}
 use Rattle.std.proofs.lemmas.List.{at_drop_more}
+use Rattle.std.specs.Cmp.Derive.{both_true}
+use Rattle.vh_nodes.proofs.FitsLemmas.{and_left, and_right}
 use Rattle.vh_base.specs.declared.faults.DesignFault.TheVariants.{N10}
 use Rattle.vh_base.specs.declared.place.Place.{Place}
+use Rattle.vh_ast.specs.declared.routine.TaskDirection.{TaskDirection}
 use Rattle.vh_ast.specs.declared.token.Id.{Id}
+use Rattle.vh_nodes.specs.Fits.{all_before}
+use Rattle.vh_bind_expr.specs.Rows.{output_bound}
 use Rattle.vh_ast.specs.declared.name.Name.{Name}
 use Rattle.vh_ast.specs.declared.name.Step.{Step as NameStep}
 use Rattle.vh_ast.specs.declared.expr.Expr.{Expr, out-Expr}
 use Rattle.vh_ast.specs.declared.expr.ExprForm.TheVariants as form
 use Rattle.vh_ast.specs.declared.expr.Primary.{Primary}
-use Rattle.vh_ast.specs.Expressions.{expr, name, exprs}
+use Rattle.vh_ast.specs.Expressions.{expr, name, exprs, Exprs, one_expr}
 use Rattle.vh_ast.specs.Views.{expr_tree, name_tree, index_by}
 use Rattle.vh_bind.specs.declared.scope.Mode.TheVariants as mode
-use Rattle.vh_bind.specs.Steps.{Fault, Nodes, and_then, refused}
+use Rattle.vh_bind.specs.Steps.{Fault, Nodes, Step, ◌>>=◌, and_then, pure, refused}
 use Rattle.vh_bind.specs.Scopes.{Scope}
-use Rattle.vh_bind.specs.Objects.{alone_read}
+use Rattle.vh_bind.specs.Objects.{alone_read, goes_so, is_given, is_taken}
 use Rattle.vh_bind.specs.Views.{primary_tree}
-use Rattle.vh_bind.specs.Constants.{bound, arguments_bound, with_number, count_of, name_meant, name_read, path_outcome, time_pushed}
+use Rattle.vh_bind.specs.Constants.{argument_row, bound, given_bound, taken_bound, with_number, with_numbers, count_of, name_meant, name_read, path_outcome, time_pushed}
+use Rattle.vh_bind.proofs.NodesLemmas.{all_before-later}
 use Rattle.vh_bind.proofs.PathsLemmas.{steps_seen}
 use Rattle.vh_bind.proofs.TreesLemmas.{tree-Primary}
 
@@ -48,19 +54,6 @@ pub counted : (all : List Expr) → count_of (exprs (map expr_tree all)) ≡ len
 counted [] = refl
 counted (e ∷ all) = ap suc (counted all)
 
-pub arguments-step : (s : Scope) (parts : List Expr) (i : ℕ) (d : Expr) (nums nums' : Option (List ℕ)) (ns ns' : Nodes) (a : Option ℕ)
-    (target : Result (Option (List ℕ) × Nodes) Fault) → i < length parts
-    → arguments_bound s nums (exprs (map expr_tree (drop i parts))) ns ≡ target
-    → bound mode.Value s (expr_tree (get_or parts i d)) ns ≡ Ok (a, ns')
-    → nums' ≡ with_number nums a
-    → arguments_bound s nums' (exprs (map expr_tree (drop (i + 1) parts))) ns' ≡ target
-arguments-step s parts i d nums nums' ns ns' a target inside is one more =
-    let rest = exprs (map expr_tree (drop (i + 1) parts)) in
-    ap (λ (n : Option (List ℕ)). arguments_bound s n rest ns') more
-    ∙ sym (ap (λ (r : Result (Option ℕ × Nodes) Fault). and_then r (λ b. arguments_bound s (with_number nums b) rest)) one)
-    ∙ sym (at_drop_more (λ xs. arguments_bound s nums (exprs (map expr_tree xs)) ns) parts i d inside)
-    ∙ is
-
 -- `$time` with an argument, and any other name.
 pub time-argument : (b : Bool) (s : Scope) (place : Place) (all : List Expr) (ns : Nodes) → (all ≡ [] → ⊥)
     → (if b then time_pushed s place (exprs (map expr_tree all)) else refused N10 place) ns ≡ Err (N10, place)
@@ -73,3 +66,92 @@ pub tree-of : (e : Expr) (p q : Primary Expr) → (out-Expr e).form ≡ form.Pri
     → expr_tree e ≡ expr (out-Expr e).place (primary_tree q)
 tree-of e p q is same =
     tree-Primary e p is ∙ ap (λ (x : Primary Expr). expr (out-Expr e).place (primary_tree x)) same
+
+-- One argument of a call, which counts or not, and what is left behind it.
+arguments-one : (F : ℕ → Option (List ℕ) → Exprs → Step (Option (List ℕ))) (goes : ℕ → Bool) (row : Expr → Step (Option ℕ))
+    → ((i : ℕ) (nums : Option (List ℕ)) (e : Expr) (es : Exprs)
+    → F i nums (one_expr (expr_tree e) es) ≡ (argument_row (goes i) nums (row e) >>= (λ js. F (i + 1) js es)))
+    → (parts : List Expr) (i : ℕ) (d : Expr) (nums : Option (List ℕ)) (ns : Nodes) (b : Bool) → i < length parts → goes i ≡ b
+    → F i nums (exprs (map expr_tree (drop i parts))) ns
+    ≡ (argument_row b nums (row (get_or parts i d)) >>= (λ js. F (i + 1) js (exprs (map expr_tree (drop (i + 1) parts))))) ns
+arguments-one F goes row opens parts i d nums ns b inside so =
+    let rest = exprs (map expr_tree (drop (i + 1) parts)) in
+    at_drop_more (λ xs. F i nums (exprs (map expr_tree xs)) ns) parts i d inside
+    ∙ ap (λ (p : Step (Option (List ℕ))). p ns) (opens i nums (get_or parts i d) rest)
+    ∙ ap (λ (c : Bool). (argument_row c nums (row (get_or parts i d)) >>= (λ js. F (i + 1) js rest)) ns) so
+
+given-opens : (s : Scope) (ds : List TaskDirection) (i : ℕ) (nums : Option (List ℕ)) (e : Expr) (es : Exprs)
+    → given_bound s ds i nums (one_expr (expr_tree e) es)
+    ≡ (argument_row (goes_so is_given ds i) nums (bound mode.Value s (expr_tree e)) >>= (λ js. given_bound s ds (i + 1) js es))
+given-opens s ds i nums e es = refl
+
+taken-opens : (s : Scope) (ds : List TaskDirection) (i : ℕ) (nums : Option (List ℕ)) (e : Expr) (es : Exprs)
+    → taken_bound s ds i nums (one_expr (expr_tree e) es)
+    ≡ (argument_row (goes_so is_taken ds i) nums (output_bound s (expr_tree e)) >>= (λ js. taken_bound s ds (i + 1) js es))
+taken-opens s ds i nums e es = refl
+
+-- It counts: it is bound; or it doesn't.
+row-counts : (row : Step (Option ℕ)) (more : Option (List ℕ) → Step (Option (List ℕ))) (nums nums' : Option (List ℕ)) (ns ns' : Nodes)
+    (a : Option ℕ) → row ns ≡ Ok (a, ns') → nums' ≡ with_number nums a
+    → (argument_row true nums row >>= more) ns ≡ more nums' ns'
+row-counts row more nums nums' ns ns' a one same =
+    ap (λ (r : Result (Option ℕ × Nodes) Fault). and_then (and_then r (λ b. pure (with_number nums b))) more) one
+    ∙ ap (λ (n : Option (List ℕ)). more n ns') (sym same)
+
+pub given-counts : (s : Scope) (ds : List TaskDirection) (parts : List Expr) (i : ℕ) (d : Expr) (nums nums' : Option (List ℕ))
+    (ns ns' : Nodes) (a : Option ℕ) (target : Result (Option (List ℕ) × Nodes) Fault) → i < length parts → goes_so is_given ds i ≡ true
+    → given_bound s ds i nums (exprs (map expr_tree (drop i parts))) ns ≡ target
+    → bound mode.Value s (expr_tree (get_or parts i d)) ns ≡ Ok (a, ns') → nums' ≡ with_number nums a
+    → given_bound s ds (i + 1) nums' (exprs (map expr_tree (drop (i + 1) parts))) ns' ≡ target
+given-counts s ds parts i d nums nums' ns ns' a target inside so is one same =
+    let rest = exprs (map expr_tree (drop (i + 1) parts)) in
+    sym (row-counts (bound mode.Value s (expr_tree (get_or parts i d))) (λ js. given_bound s ds (i + 1) js rest) nums nums' ns ns' a one same)
+    ∙ sym (arguments-one (given_bound s ds) (goes_so is_given ds) (λ e. bound mode.Value s (expr_tree e)) (given-opens s ds) parts i d nums ns true inside so)
+    ∙ is
+
+pub given-skips : (s : Scope) (ds : List TaskDirection) (parts : List Expr) (i : ℕ) (d : Expr) (nums : Option (List ℕ)) (ns : Nodes)
+    (target : Result (Option (List ℕ) × Nodes) Fault) → i < length parts → goes_so is_given ds i ≡ false
+    → given_bound s ds i nums (exprs (map expr_tree (drop i parts))) ns ≡ target
+    → given_bound s ds (i + 1) nums (exprs (map expr_tree (drop (i + 1) parts))) ns ≡ target
+given-skips s ds parts i d nums ns target inside so is =
+    sym (arguments-one (given_bound s ds) (goes_so is_given ds) (λ e. bound mode.Value s (expr_tree e)) (given-opens s ds) parts i d nums ns false inside so)
+    ∙ is
+
+pub taken-counts : (s : Scope) (ds : List TaskDirection) (parts : List Expr) (i : ℕ) (d : Expr) (nums nums' : Option (List ℕ))
+    (ns ns' : Nodes) (a : Option ℕ) (target : Result (Option (List ℕ) × Nodes) Fault) → i < length parts → goes_so is_taken ds i ≡ true
+    → taken_bound s ds i nums (exprs (map expr_tree (drop i parts))) ns ≡ target
+    → output_bound s (expr_tree (get_or parts i d)) ns ≡ Ok (a, ns') → nums' ≡ with_number nums a
+    → taken_bound s ds (i + 1) nums' (exprs (map expr_tree (drop (i + 1) parts))) ns' ≡ target
+taken-counts s ds parts i d nums nums' ns ns' a target inside so is one same =
+    let rest = exprs (map expr_tree (drop (i + 1) parts)) in
+    sym (row-counts (output_bound s (expr_tree (get_or parts i d))) (λ js. taken_bound s ds (i + 1) js rest) nums nums' ns ns' a one same)
+    ∙ sym (arguments-one (taken_bound s ds) (goes_so is_taken ds) (λ e. output_bound s (expr_tree e)) (taken-opens s ds) parts i d nums ns true inside so)
+    ∙ is
+
+pub taken-skips : (s : Scope) (ds : List TaskDirection) (parts : List Expr) (i : ℕ) (d : Expr) (nums : Option (List ℕ)) (ns : Nodes)
+    (target : Result (Option (List ℕ) × Nodes) Fault) → i < length parts → goes_so is_taken ds i ≡ false
+    → taken_bound s ds i nums (exprs (map expr_tree (drop i parts))) ns ≡ target
+    → taken_bound s ds (i + 1) nums (exprs (map expr_tree (drop (i + 1) parts))) ns ≡ target
+taken-skips s ds parts i d nums ns target inside so is =
+    sym (arguments-one (taken_bound s ds) (goes_so is_taken ds) (λ e. output_bound s (expr_tree e)) (taken-opens s ds) parts i d nums ns false inside so)
+    ∙ is
+
+-- Numbers stay below those of the nodes, where there are more of these.
+pub later-below : (o : Option (List ℕ)) (m k : ℕ) → IfSome o (λ ns. all_before m ns ≡ true) → m ≤ k → IfSome o (λ ns. all_before k ns ≡ true)
+later-below None m k below up = tt
+later-below (Some ns) m k below up = all_before-later m k ns below up
+
+both-before : (k : ℕ) (ns ms : List ℕ) → all_before k ns ≡ true → all_before k ms ≡ true → all_before k (ns ++ ms) ≡ true
+both-before k [] ms h g = g
+both-before k (n ∷ ns) ms h g =
+    both_true (and_left (nat_lt n k) (all_before k ns) h) (both-before k ns ms (and_right (nat_lt n k) (all_before k ns) h) g)
+
+pub joined-below : (o given taken : Option (List ℕ)) (m k : ℕ) → IfSome given (λ ns. all_before m ns ≡ true) → m ≤ k
+    → IfSome taken (λ ns. all_before k ns ≡ true) → o ≡ with_numbers given taken → IfSome o (λ ns. all_before k ns ≡ true)
+joined-below o given taken m k first up last is = rw is (by given taken first last)
+  where
+    by : (x y : Option (List ℕ)) → IfSome x (λ ns. all_before m ns ≡ true) → IfSome y (λ ns. all_before k ns ≡ true)
+        → IfSome (with_numbers x y) (λ ns. all_before k ns ≡ true)
+    by None y h g = tt
+    by (Some ns) None h g = tt
+    by (Some ns) (Some ms) h g = both-before k ns ms (all_before-later m k ns h up) g

@@ -1,5 +1,5 @@
 -- Lemmas on `specs/Objects.antt` of vh_bind: what may be read, and called, is there, and of such a kind.
-use Rattle.std.proofs.Common.{◌≡◌, ◌==◌, ℕ, Bool, true, false, List, Option, Some, None, Result, Ok, Err, slice_get, refl}
+use Rattle.std.proofs.Common.{◌≡◌, ◌==◌, ℕ, Bool, true, false, List, length, Option, Some, None, Result, Ok, Err, slice_get, refl}
 use Rattle.std.specs.Prelude.{if◌then◌else◌, IfOk}
 use Rattle.std.specs.Option.{option_and_then}
 use Rattle.vh_base.specs.declared.place.Place.{Place}
@@ -24,7 +24,7 @@ use Rattle.vh_bind.specs.declared.scope.Routine.{Routine}
 use Rattle.vh_bind.specs.Steps.{Gives}
 use Rattle.vh_bind.specs.Scopes.{Scope, genvar_value}
 use Rattle.vh_bind.specs.Selects.{Outcome}
-use Rattle.vh_bind.specs.Objects.{parameter_read, object_read, there_read, genvar_read, meaning_read, found_read, alone_read, path_read, with_result, routine_of, function_at, function_meant}
+use Rattle.vh_bind.specs.Objects.{directions_of, parameter_read, object_read, there_read, genvar_read, meaning_read, found_read, alone_read, path_read, with_result, routine_of, function_at, function_meant}
 use Rattle.vh_bind_expr.specs.Kinds.{IsReadable, IsCallable}
 use Rattle.vh_bind.specs.Constants.{called}
 
@@ -91,26 +91,26 @@ pub path-readable : (s : Scope) (m : Option Meaning) → IsReadable s.objects (p
 path-readable s None = tt
 path-readable s (Some m) = meaning-readable s None m
 
-result-callable : (s : Scope) (f n : ℕ) (v : Option ℕ) → has_kind is_function s.objects f ≡ true
-    → IsCallable s.objects (with_result s f n v)
-result-callable s f n None h = tt
-result-callable s f n (Some v) h = by (has_kind is_variable s.objects v) refl
+result-callable : (s : Scope) (f : ℕ) (v : Option ℕ) → has_kind is_function s.objects f ≡ true
+    → IsCallable s.objects (with_result s f v)
+result-callable s f None h = tt
+result-callable s f (Some v) h = by (has_kind is_variable s.objects v) refl
   where
     by : (b : Bool) → has_kind is_variable s.objects v ≡ b
-        → IsCallable s.objects (if b then Some (record { id = f; result = v; arguments = n }) else None)
+        → IsCallable s.objects (if b then Some (record { id = f; result = v }) else None)
     by true is = record { function = h; variable = is }
     by false is = tt
 
 routine-callable : (s : Scope) (f : ℕ) (r : Option Routine) → has_kind is_function s.objects f ≡ true
-    → IsCallable s.objects (option_and_then (λ (x : Routine). with_result s f x.arguments x.result) r)
+    → IsCallable s.objects (option_and_then (λ (x : Routine). with_result s f x.result) r)
 routine-callable s f None h = tt
-routine-callable s f (Some r) h = result-callable s f r.arguments r.result h
+routine-callable s f (Some r) h = result-callable s f r.result h
 
 at-callable : (s : Scope) (f : ℕ) → IsCallable s.objects (function_at s f)
 at-callable s f = by (has_kind is_function s.objects f) refl
   where
     by : (b : Bool) → has_kind is_function s.objects f ≡ b
-        → IsCallable s.objects (if b then option_and_then (λ (x : Routine). with_result s f x.arguments x.result) (routine_of s f) else None)
+        → IsCallable s.objects (if b then option_and_then (λ (x : Routine). with_result s f x.result) (routine_of s f) else None)
     by true is = routine-callable s f (routine_of s f) is
     by false is = tt
 
@@ -121,21 +121,21 @@ meant-callable s means.Genvar = tt
 meant-callable s means.Blocks = tt
 meant-callable s means.Gate = tt
 
-counted-callable : (os : List ObjectInfo) (place : Place) (n : ℕ) (o : Option Function) (f : Function) → IsCallable os o
-    → called place n o ≡ Ok (Some f) → IsCallable os (Some f)
-counted-callable os place n None f h is = absurd (cc)
-counted-callable os place n (Some g) f h is = by (n == g.arguments) is
+counted-callable : (s : Scope) (place : Place) (n : ℕ) (o : Option Function) (f : Function) → IsCallable s.objects o
+    → called s place n o ≡ Ok (Some f) → IsCallable s.objects (Some f)
+counted-callable s place n None f h is = absurd (cc)
+counted-callable s place n (Some g) f h is = by (n == length (directions_of s g.id)) is
   where
     outcome : Bool → Outcome (Option Function)
     outcome b = if b then Ok (Some g) else Err (N7, place)
 
-    by : (b : Bool) → outcome b ≡ Ok (Some f) → IsCallable os (Some f)
+    by : (b : Bool) → outcome b ≡ Ok (Some f) → IsCallable s.objects (Some f)
     by true at = let same : f ≡ g = cc in rw same h
     by false at = absurd (cc)
 
 pub called-callable : (s : Scope) (place : Place) (n : ℕ) (o : Option Function) (m : Meaning) (r : Result (Option Function) ElabFault)
-    → o ≡ function_meant s m → Gives (called place n o) r → IfOk r (λ x. IsCallable s.objects x)
+    → o ≡ function_meant s m → Gives (called s place n o) r → IfOk r (λ x. IsCallable s.objects x)
 called-callable s place n o m (Ok None) same is = tt
 called-callable s place n o m (Ok (Some f)) same is =
-    counted-callable s.objects place n o f (rw same (meant-callable s m)) is
+    counted-callable s place n o f (rw same (meant-callable s m)) is
 called-callable s place n o m (Err fault) same is = tt

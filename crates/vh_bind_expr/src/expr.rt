@@ -5,25 +5,32 @@ ghost use Rattle.vh_ast.specs.Expressions;
 ghost use Rattle.vh_ast.specs.Expressions.{exprs};
 ghost use Rattle.vh_ast.specs.Views.{expr_tree, link_tree, name_tree, part_by, sel_tree};
 ghost use Rattle.vh_bind.specs.declared.scope.Mode.TheVariants as mode;
-ghost use Rattle.vh_bind.specs.Steps.{Steps};
+ghost use Rattle.std.specs.List.{list_any};
+ghost use Rattle.vh_bind.specs.Steps.{Steps, StepsOn, beside};
+ghost use Rattle.vh_bind.specs.Objects.{directions_of, is_taken};
 ghost use Rattle.vh_bind.specs.Nodes.{IsSound};
-ghost use Rattle.vh_bind.specs.Constants.{arguments_bound, bound, entries_bound, entry, form_bound, links_bound, mark_of, memory_bound, part_bound, sole_bound, system_row, vector_bound};
+ghost use Rattle.vh_bind.specs.Constants.{bound, call_row, entries_bound, entry, form_bound, given_bound, links_bound, mark_of, memory_bound, part_bound, sole_bound, system_row, taken_bound, target_pieces, targets_pieces, vector_bound};
 ghost use Rattle.vh_bind.specs.Views.{scope_seen};
+ghost use Rattle.vh_bind_expr.specs.Kinds.{IsFunction};
+ghost use Rattle.vh_bind_expr.specs.Rows.{output_bound, variable_bound};
 
+use crate::functions::{any_taken, directions_of, is_given_at, is_taken_at};
 use crate::names::{function_called, name_read};
 use crate::reads::{
-    bit_select, indexed_select, push_call, push_selected, push_system, whole_of, word_of,
+    add_number, bit_select, indexed_select, push_begin, push_call, push_selected, push_system,
+    whole_of, with_numbers, word_of,
 };
 use crate::rows::{count_at, push_chained, push_genvar, push_repeated, range_at, width_at};
 use sqlite_items::Items;
 use std::alloc::Global;
-use vh_ast::{Esel, Expr, ExprForm, Id, Link, Name, Part, Primary, Sel};
-use vh_base::{DesignFault, ExprId, ObjId, Place};
+use vh_ast::{Esel, Expr, ExprForm, Id, Link, Name, Part, Primary, Sel, TaskDirection};
+use vh_base::{DesignFault, ExprId, ObjId, Place, Sequence};
 use vh_bind::{
-    ElabFault, Mode, Readable, Scope, is_unsized, mark_of, push, push_choice, push_concat,
-    push_literal, push_marked, push_text, push_unary, sequence, with_number,
+    ElabFault, Function, Mode, Readable, Scope, is_unsized, mark_of, push, push_choice,
+    push_concat, push_literal, push_marked, push_text, push_unary, sequence, with_number,
 };
-use vh_nodes::{ExprIds, ExprKind, ExprNode, Range, Select};
+use vh_least::lesser;
+use vh_nodes::{ExprIds, ExprKind, ExprNode, Range, Select, is_variable_at};
 
 /// Adds the nodes of an expression over the objects of a design to the design's expressions, and
 /// answers the number of the last one (IEEE 1364-2005, clause 5). None where it needs a parameter
@@ -74,12 +81,11 @@ fn bind(
             Primary::Text(bytes) => push_text(scope, Mode::Value, nodes, place, bytes.as_slice()),
             Primary::Name(name, sel) => bind_name(alloc, scope, nodes, place, sel, name),
             Primary::Call(name, arguments) => {
-                let called = function_called(alloc, scope, nodes, place, name, arguments)?;
+                let called = function_called(alloc, scope, place, name, arguments)?;
                 let Some(function) = called else {
                     return Ok(None);
                 };
-                let arguments = bind_arguments(alloc, scope, nodes, arguments)?;
-                push_call(alloc, scope, nodes, place, function, arguments)
+                bind_call(alloc, scope, nodes, place, &function, arguments.as_slice())
             }
             Primary::System(id, arguments) => bind_system(alloc, scope, nodes, id, arguments),
             Primary::Paren(inner) => bind(alloc, scope, nodes, inner.get()),
@@ -88,7 +94,7 @@ fn bind(
                 push_concat(alloc, scope, Mode::Value, nodes, place, parts)
             }
             Primary::Repeat(count, parts) => {
-                let count = count_at(alloc, scope, nodes, place, count.get())?;
+                let count = count_at(alloc, scope, scope.exprs, place, count.get())?;
                 let parts = bind_entries(alloc, scope, nodes, parts)?;
                 push_repeated(alloc, scope, nodes, place, count, parts)
             }
@@ -131,7 +137,7 @@ fn bind_name(
     ensures below { IfOk result (λ o. IfSome o (λ n. n < length nodes.new.items)) }
     ensures grows { OnOk result (length nodes.old.items ≤ length nodes.new.items) }
 {
-    match name_read(alloc, scope, nodes, name)? {
+    match name_read(alloc, scope, scope.exprs, name)? {
         Readable::Wrong => Err(ElabFault::Refused(DesignFault::N1, place)),
         Readable::Unknown => Ok(None),
         Readable::Genvar(value) => { push_genvar(alloc, scope, nodes, place, value, sel) }
@@ -254,16 +260,24 @@ fn bind_part(
             Ok(bit_select(range, index))
         }
         Part::Range(left, right) => {
-            range_at(alloc, scope, nodes, bracket, range, left.get(), right.get())
+            range_at(
+                alloc,
+                scope,
+                scope.exprs,
+                bracket,
+                range,
+                left.get(),
+                right.get(),
+            )
         }
         Part::Up(base, width) => {
             let base = bind(alloc, scope, nodes, base.get())?;
-            let width = width_at(alloc, scope, nodes, bracket, width.get())?;
+            let width = width_at(alloc, scope, scope.exprs, bracket, width.get())?;
             Ok(indexed_select(true, range, base, width))
         }
         Part::Down(base, width) => {
             let base = bind(alloc, scope, nodes, base.get())?;
-            let width = width_at(alloc, scope, nodes, bracket, width.get())?;
+            let width = width_at(alloc, scope, scope.exprs, bracket, width.get())?;
             Ok(indexed_select(false, range, base, width))
         }
     }
@@ -349,30 +363,263 @@ fn bind_entries(
     Ok(sequence(numbers))
 }
 
-// The arguments of a call, in their order.
+// The call of a function: one expression, or its begin and its end where it assigns some of its
+// arguments.
 #[cycle(bind)]
-fn bind_arguments(
+fn bind_call(
     alloc: Global,
     scope: &Scope,
     nodes: &mut Vec<ExprNode>,
-    arguments: &Items<Expr>,
+    place: Place,
+    function: &Function,
+    values: &[Expr],
+) -> Result<Option<ExprId>, ElabFault>
+    requires sound { IsSound mode.Value (scope_seen scope.now) nodes.old.items }
+    requires unit { is_unit (scope_seen scope.now).precision (scope_seen scope.now).unit ≡ true }
+    requires function { IsFunction (scope_seen scope.now).objects function.now }
+    ensures step { let s = scope_seen scope.now in let ds = directions_of s function.now.id in
+        let es = exprs (map expr_tree values.now) in Steps
+        (call_row s place function.now (list_any is_taken ds) (given_bound s ds 0 (Some []) es)
+        (taken_bound s ds 0 (Some []) es) nodes.old.items) result nodes.new.items }
+    ensures sound { OnOk result (IsSound mode.Value (scope_seen scope.now) nodes.new.items) }
+    ensures below { IfOk result (λ o. IfSome o (λ n. n < length nodes.new.items)) }
+    ensures grows { OnOk result (length nodes.old.items ≤ length nodes.new.items) }
+{
+    let directions = directions_of(scope, function.id);
+    if !any_taken(directions) {
+        let given = bind_given(alloc, scope, nodes, directions, values)?;
+        return push_call(alloc, scope, nodes, place, function, given);
+    }
+    let given = bind_beside(alloc, scope, nodes, directions, values)?;
+    let given = push_begin(alloc, scope, nodes, place, function, given)?;
+    let taken = bind_taken(alloc, scope, nodes, directions, values)?;
+    let all = with_numbers(given, taken)?;
+    push_call(alloc, scope, nodes, place, function, all)
+}
+
+// The same arguments as those of `bind_given`; where one of them is wrong and an argument that is
+// assigned too, the fault that stands first.
+#[cycle(bind)]
+fn bind_beside(
+    alloc: Global,
+    scope: &Scope,
+    nodes: &mut Vec<ExprNode>,
+    directions: &[TaskDirection],
+    values: &[Expr],
+) -> Result<Option<ExprIds>, ElabFault>
+    requires sound { IsSound mode.Value (scope_seen scope.now) nodes.old.items }
+    requires unit { is_unit (scope_seen scope.now).precision (scope_seen scope.now).unit ≡ true }
+    ensures step { let s = scope_seen scope.now in let es = exprs (map expr_tree values.now) in Steps
+        (beside (given_bound s directions.now 0 (Some []) es)
+        (taken_bound s directions.now 0 (Some []) es) nodes.old.items) result nodes.new.items }
+    ensures sound { OnOk result (IsSound mode.Value (scope_seen scope.now) nodes.new.items) }
+    ensures below { IfOk result
+        (λ o. IfSome o (λ ns. all_before (length nodes.new.items) ns ≡ true)) }
+    ensures grows { OnOk result (length nodes.old.items ≤ length nodes.new.items) }
+{
+    match bind_given(alloc, scope, nodes, directions, values) {
+        Ok(given) => Ok(given),
+        Err(ElabFault::NoMemory) => Err(ElabFault::NoMemory),
+        Err(ElabFault::Refused(fault, at)) => {
+            let mut apart = Vec::new(alloc);
+            match bind_taken(alloc, scope, &mut apart, directions, values) {
+                Ok(_) => Err(ElabFault::Refused(fault, at)),
+                Err(ElabFault::NoMemory) => Err(ElabFault::NoMemory),
+                Err(ElabFault::Refused(other, there)) => {
+                    let (first, place) = lesser((fault, at), (other, there));
+                    Err(ElabFault::Refused(first, place))
+                }
+            }
+        }
+    }
+}
+
+// The arguments that are given a value, in their order.
+#[cycle(bind)]
+fn bind_given(
+    alloc: Global,
+    scope: &Scope,
+    nodes: &mut Vec<ExprNode>,
+    directions: &[TaskDirection],
+    values: &[Expr],
 ) -> Result<Option<ExprIds>, ElabFault>
     requires sound { IsSound mode.Value (scope_seen scope.now) nodes.old.items }
     requires unit { is_unit (scope_seen scope.now).precision (scope_seen scope.now).unit ≡ true }
     ensures step { Steps
-        (arguments_bound (scope_seen scope.now) (Some [])
-        (exprs (map expr_tree arguments.now)) nodes.old.items) result nodes.new.items }
+        (given_bound (scope_seen scope.now) directions.now 0 (Some [])
+        (exprs (map expr_tree values.now)) nodes.old.items) result nodes.new.items }
     ensures sound { OnOk result (IsSound mode.Value (scope_seen scope.now) nodes.new.items) }
     ensures below { IfOk result
         (λ o. IfSome o (λ ns. all_before (length nodes.new.items) ns ≡ true)) }
     ensures grows { OnOk result (length nodes.old.items ≤ length nodes.new.items) }
 {
     let mut numbers = Some(Vec::new(alloc));
-    for argument in arguments.as_slice() {
-        let number = bind(alloc, scope, nodes, argument)?;
-        numbers = with_number(numbers, number)?;
+    for (k, value) in values.iter().enumerate() {
+        if is_given_at(directions, k) {
+            let number = bind(alloc, scope, nodes, value)?;
+            numbers = with_number(numbers, number)?;
+        }
     }
     Ok(sequence(numbers))
+}
+
+// The arguments that are assigned, in their order, each as a concatenation.
+#[cycle(bind)]
+fn bind_taken(
+    alloc: Global,
+    scope: &Scope,
+    nodes: &mut Vec<ExprNode>,
+    directions: &[TaskDirection],
+    values: &[Expr],
+) -> Result<Option<ExprIds>, ElabFault>
+    requires sound { IsSound mode.Value (scope_seen scope.now) nodes.old.items }
+    requires unit { is_unit (scope_seen scope.now).precision (scope_seen scope.now).unit ≡ true }
+    ensures step { Steps
+        (taken_bound (scope_seen scope.now) directions.now 0 (Some [])
+        (exprs (map expr_tree values.now)) nodes.old.items) result nodes.new.items }
+    ensures sound { OnOk result (IsSound mode.Value (scope_seen scope.now) nodes.new.items) }
+    ensures below { IfOk result
+        (λ o. IfSome o (λ ns. all_before (length nodes.new.items) ns ≡ true)) }
+    ensures grows { OnOk result (length nodes.old.items ≤ length nodes.new.items) }
+{
+    let mut numbers = Some(Vec::new(alloc));
+    for (k, value) in values.iter().enumerate() {
+        if is_taken_at(directions, k) {
+            let number = bind_output(alloc, scope, nodes, value)?;
+            numbers = with_number(numbers, number)?;
+        }
+    }
+    Ok(sequence(numbers))
+}
+
+// An output: a concatenation of what it is assigned to.
+#[cycle(bind)]
+fn bind_output(
+    alloc: Global,
+    scope: &Scope,
+    nodes: &mut Vec<ExprNode>,
+    e: &Expr,
+) -> Result<Option<ExprId>, ElabFault>
+    requires sound { IsSound mode.Value (scope_seen scope.now) nodes.old.items }
+    requires unit { is_unit (scope_seen scope.now).precision (scope_seen scope.now).unit ≡ true }
+    ensures step { Steps
+        (output_bound (scope_seen scope.now) (expr_tree e.now) nodes.old.items)
+        result nodes.new.items }
+    ensures sound { OnOk result (IsSound mode.Value (scope_seen scope.now) nodes.new.items) }
+    ensures below { IfOk result (λ o. IfSome o (λ n. n < length nodes.new.items)) }
+    ensures grows { OnOk result (length nodes.old.items ≤ length nodes.new.items) }
+{
+    let mut parts = Vec::new(alloc);
+    if !bind_target(alloc, scope, nodes, &mut parts, e)? {
+        return Ok(None);
+    }
+    let parts = Some(Sequence::new(parts));
+    push_concat(alloc, scope, Mode::Value, nodes, e.place, parts)
+}
+
+// The variables of an output, behind others; whether none is passed over.
+#[cycle(bind)]
+fn bind_target(
+    alloc: Global,
+    scope: &Scope,
+    nodes: &mut Vec<ExprNode>,
+    parts: &mut Vec<ExprId>,
+    e: &Expr,
+) -> Result<bool, ElabFault>
+    requires sound { IsSound mode.Value (scope_seen scope.now) nodes.old.items }
+    requires unit { is_unit (scope_seen scope.now).precision (scope_seen scope.now).unit ≡ true }
+    requires parts { all_before (length nodes.old.items) parts.old.items ≡ true }
+    ensures step { StepsOn
+        (target_pieces (scope_seen scope.now) parts.old.items (expr_tree e.now) nodes.old.items)
+        result parts.new.items nodes.new.items }
+    ensures sound { OnOk result (IsSound mode.Value (scope_seen scope.now) nodes.new.items) }
+    ensures below { OnOk result (all_before (length nodes.new.items) parts.new.items ≡ true) }
+    ensures grows { OnOk result (length nodes.old.items ≤ length nodes.new.items) }
+{
+    let place = e.place;
+    match &e.form {
+        ExprForm::Primary(primary) => match primary {
+            Primary::Name(name, sel) => {
+                let Some(number) = bind_variable(alloc, scope, nodes, place, sel, name)? else {
+                    return Ok(false);
+                };
+                add_number(parts, number)?;
+                Ok(true)
+            }
+            Primary::Concat(entries) => bind_targets(alloc, scope, nodes, parts, entries),
+            Primary::Number(_)
+            | Primary::Text(_)
+            | Primary::Call(_, _)
+            | Primary::System(_, _)
+            | Primary::Paren(_)
+            | Primary::Repeat(_, _) => Err(ElabFault::Refused(DesignFault::N5, place)),
+        },
+        ExprForm::Unary(_, _) | ExprForm::Chain(_, _) | ExprForm::Choice { .. } => {
+            Err(ElabFault::Refused(DesignFault::N5, place))
+        }
+    }
+}
+
+// Those of a concatenation.
+#[cycle(bind)]
+fn bind_targets(
+    alloc: Global,
+    scope: &Scope,
+    nodes: &mut Vec<ExprNode>,
+    parts: &mut Vec<ExprId>,
+    entries: &Items<Expr>,
+) -> Result<bool, ElabFault>
+    requires sound { IsSound mode.Value (scope_seen scope.now) nodes.old.items }
+    requires unit { is_unit (scope_seen scope.now).precision (scope_seen scope.now).unit ≡ true }
+    requires parts { all_before (length nodes.old.items) parts.old.items ≡ true }
+    ensures step { StepsOn
+        (targets_pieces (scope_seen scope.now) parts.old.items (exprs (map expr_tree entries.now)) nodes.old.items)
+        result parts.new.items nodes.new.items }
+    ensures sound { OnOk result (IsSound mode.Value (scope_seen scope.now) nodes.new.items) }
+    ensures below { OnOk result (all_before (length nodes.new.items) parts.new.items ≡ true) }
+    ensures grows { OnOk result (length nodes.old.items ≤ length nodes.new.items) }
+{
+    for entry in entries.as_slice() {
+        if !bind_target(alloc, scope, nodes, parts, entry)? {
+            return Ok(false);
+        }
+    }
+    Ok(true)
+}
+
+// A variable, a word of a memory, or digits of one.
+#[cycle(bind)]
+fn bind_variable(
+    alloc: Global,
+    scope: &Scope,
+    nodes: &mut Vec<ExprNode>,
+    place: Place,
+    sel: &Option<Sel<Expr>>,
+    name: &Name<Expr>,
+) -> Result<Option<ExprId>, ElabFault>
+    requires sound { IsSound mode.Value (scope_seen scope.now) nodes.old.items }
+    requires unit { is_unit (scope_seen scope.now).precision (scope_seen scope.now).unit ≡ true }
+    ensures step { Steps
+        (variable_bound (scope_seen scope.now) place (name_tree name.now) (sel_tree sel.now) nodes.old.items)
+        result nodes.new.items }
+    ensures sound { OnOk result (IsSound mode.Value (scope_seen scope.now) nodes.new.items) }
+    ensures below { IfOk result (λ o. IfSome o (λ n. n < length nodes.new.items)) }
+    ensures grows { OnOk result (length nodes.old.items ≤ length nodes.new.items) }
+{
+    match name_read(alloc, scope, scope.exprs, name)? {
+        Readable::Wrong | Readable::Genvar(_) => Err(ElabFault::Refused(DesignFault::N1, place)),
+        Readable::Unknown => Ok(None),
+        Readable::Parameter(_, _, _) => Err(ElabFault::Refused(DesignFault::N5, place)),
+        Readable::Vector(object, range) => {
+            if !is_variable_at(scope.objects, object) {
+                return Err(ElabFault::Refused(DesignFault::N5, place));
+            }
+            bind_vector(alloc, scope, nodes, place, object, range, sel)
+        }
+        Readable::Memory(object, range) => {
+            bind_memory(alloc, scope, nodes, place, object, range, sel)
+        }
+    }
 }
 
 // The operands of a chain behind the first, from the left.

@@ -16,6 +16,7 @@ mod reads;
 mod rows;
 
 pub use expr::bind_expr;
+pub use functions::{is_given, is_taken};
 pub use names::{constant_at, name_read};
 pub use reads::{bit_select, indexed_select, push_selected, whole_of, word_of};
 pub use rows::{range_at, width_at};

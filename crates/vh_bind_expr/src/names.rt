@@ -1,14 +1,14 @@
 ghost use Rattle.std.specs.Prelude.{◌≡◌, false, true, map, IfOk};
 ghost use Rattle.vh_ast.specs.Expressions.{exprs};
 ghost use Rattle.vh_ast.specs.Views.{expr_tree, name_tree, sel_tree};
-ghost use Rattle.vh_bind.specs.declared.scope.Mode.TheVariants as mode;
 ghost use Rattle.vh_bind.specs.Steps.{Gives};
 ghost use Rattle.vh_bind.specs.Scopes.{here};
-ghost use Rattle.vh_bind.specs.Constants.{called, constant_at, count_of, function_called, genvar_bounded, name_meant, name_read, path_outcome, sel_value};
+ghost use Rattle.vh_bind.specs.Constants.{called, count_of, function_called, genvar_bounded, name_meant, name_read, path_outcome, sel_value};
 ghost use Rattle.vh_bind.specs.Views.{scope_seen};
 ghost use Rattle.vh_bind_expr.specs.Kinds.{IsReadable, IsCallable};
+ghost use Rattle.vh_bind_expr.specs.Rows.{constant_at};
 
-use crate::functions::function_meant;
+use crate::functions::{directions_of, function_meant};
 use sqlite_items::Items;
 use std::alloc::Global;
 use vh_ast::{Expr, Name, Sel};
@@ -21,8 +21,7 @@ use vh_logic::Vec4;
 use vh_nodes::{ExprNode, Range};
 use vh_scope::Top;
 
-/// A constant in an expression, in its own width: parameters have their values in the expressions
-/// so far.
+/// A constant in an expression, in its own width: parameters have their values in `nodes`.
 pub fn constant_at(
     alloc: Global,
     scope: &Scope,
@@ -30,7 +29,7 @@ pub fn constant_at(
     e: &Expr,
 ) -> Result<Option<Vec4>, ElabFault>
     ensures { Gives
-        (constant_at mode.Value (scope_seen scope.now) nodes.now (expr_tree e.now)) result }
+        (constant_at (scope_seen scope.now) nodes.now (expr_tree e.now)) result }
 {
     let here = Scope {
         names: scope.names,
@@ -102,46 +101,31 @@ fn genvar_bounded(value: Vec4) -> Option<Bounded>
 pub(crate) fn genvar_value(
     alloc: Global,
     scope: &Scope,
-    nodes: &[ExprNode],
     place: Place,
     value: Vec4,
     sel: &Option<Sel<Expr>>,
 ) -> Result<Option<Vec4>, ElabFault>
     ensures { Gives
-        (sel_value (here (scope_seen scope.now) nodes.now) place
-        (genvar_bounded value) (sel_tree sel.now)) result }
+        (sel_value (scope_seen scope.now) place (genvar_bounded value) (sel_tree sel.now)) result }
 {
-    let here = Scope {
-        names: scope.names,
-        around: scope.around,
-        top: Top {
-            id: scope.top.id,
-            name: scope.top.name,
-        },
-        genvars: scope.genvars,
-        objects: scope.objects,
-        exprs: nodes,
-        routines: scope.routines,
-        unit: scope.unit,
-        precision: scope.precision,
-    };
-    sel_value(alloc, &here, place, genvar_bounded(value), sel)
+    sel_value(alloc, scope, place, genvar_bounded(value), sel)
 }
 
 // The function that is called, with as many arguments as it declares.
 #[tactic(auto, using(crate::proofs::NamesLemmas::counted))]
 fn called(
+    scope: &Scope,
     place: Place,
     arguments: &Items<Expr>,
     function: Option<Function>,
 ) -> Result<Option<Function>, ElabFault>
     ensures { Gives
-        (called place (count_of (exprs (map expr_tree arguments.now))) function) result }
+        (called (scope_seen scope.now) place (count_of (exprs (map expr_tree arguments.now))) function) result }
 {
     let Some(function) = function else {
         return Err(ElabFault::Refused(DesignFault::N1, place));
     };
-    if arguments.as_slice().len() != function.arguments as usize {
+    if arguments.as_slice().len() != directions_of(scope, function.id).len() {
         return Err(ElabFault::Refused(DesignFault::N7, place));
     }
     Ok(Some(function))
@@ -151,7 +135,6 @@ fn called(
 pub(crate) fn function_called(
     alloc: Global,
     scope: &Scope,
-    nodes: &[ExprNode],
     place: Place,
     name: &Name<Expr>,
     arguments: &Items<Expr>,
@@ -159,25 +142,11 @@ pub(crate) fn function_called(
     ensures called { Gives
         (function_called (scope_seen scope.now) place
         (count_of (exprs (map expr_tree arguments.now)))
-        (name_meant (here (scope_seen scope.now) nodes.now) true (name_tree name.now))) result }
+        (name_meant (scope_seen scope.now) true (name_tree name.now))) result }
     ensures kinds { IfOk result (λ o. IsCallable (scope_seen scope.now).objects o) }
 {
-    let here = Scope {
-        names: scope.names,
-        around: scope.around,
-        top: Top {
-            id: scope.top.id,
-            name: scope.top.name,
-        },
-        genvars: scope.genvars,
-        objects: scope.objects,
-        exprs: nodes,
-        routines: scope.routines,
-        unit: scope.unit,
-        precision: scope.precision,
-    };
-    let Some(meaning) = meaning(alloc, &here, name, true)? else {
+    let Some(meaning) = meaning(alloc, scope, name, true)? else {
         return Ok(None);
     };
-    called(place, arguments, function_meant(scope, meaning))
+    called(scope, place, arguments, function_meant(scope, meaning))
 }

@@ -1,4 +1,4 @@
-ghost use Rattle.std.specs.Prelude.{◌≡◌, ◌<◌, ◌≤◌, true, length, map, IfOk, IfSome, OnOk};
+ghost use Rattle.std.specs.Prelude.{◌≡◌, ◌<◌, ◌≤◌, ◌++◌, ◌∷◌, [], true, length, map, IfOk, IfSome, OnOk};
 ghost use Rattle.vh_logic.specs.declared.vector.TheConstants.{MAX_WIDTH};
 ghost use Rattle.vh_nodes.specs.declared.expr.Access.TheVariants as access;
 ghost use Rattle.vh_nodes.specs.Fits.{all_before, fits_select, fits_word, is_unit};
@@ -8,14 +8,14 @@ ghost use Rattle.vh_bind.specs.declared.scope.Mode.TheVariants as mode;
 ghost use Rattle.vh_bind.specs.Steps.{Steps};
 ghost use Rattle.vh_bind.specs.Nodes.{IsSound};
 ghost use Rattle.vh_bind.specs.Objects.{word_of, bit_select, indexed_select};
-ghost use Rattle.vh_bind.specs.Constants.{call_pushed, other_system, selected_pushed, whole_of};
+ghost use Rattle.vh_bind.specs.Constants.{begun, call_pushed, other_system, selected_pushed, whole_of, with_numbers};
 ghost use Rattle.vh_bind.specs.Views.{scope_seen};
 ghost use Rattle.vh_bind_expr.specs.Kinds.{IsFunction};
 
 use sqlite_items::Items;
 use std::alloc::Global;
 use vh_ast::{Expr, Id};
-use vh_base::{Boxed, DesignFault, ExprId, ObjId, Place};
+use vh_base::{Boxed, DesignFault, ExprId, NoMemory, ObjId, Place, Sequence};
 use vh_bind::{ElabFault, Function, Mode, Scope, push};
 use vh_nodes::{Chosen, ExprIds, ExprKind, ExprNode, Range, Select, Selected};
 
@@ -104,14 +104,14 @@ pub(crate) fn push_call(
     scope: &Scope,
     nodes: &mut Vec<ExprNode>,
     place: Place,
-    function: Function,
+    function: &Function,
     arguments: Option<ExprIds>,
 ) -> Result<Option<ExprId>, ElabFault>
     requires sound { IsSound mode.Value (scope_seen scope.now) nodes.old.items }
-    requires function { IsFunction (scope_seen scope.now).objects function }
+    requires function { IsFunction (scope_seen scope.now).objects function.now }
     requires arguments { IfSome arguments (λ ns. all_before (length nodes.old.items) ns ≡ true) }
     ensures step { Steps
-        (call_pushed (scope_seen scope.now) place function arguments nodes.old.items)
+        (call_pushed (scope_seen scope.now) place function.now arguments nodes.old.items)
         result nodes.new.items }
     ensures sound { OnOk result (IsSound mode.Value (scope_seen scope.now) nodes.new.items) }
     ensures below { IfOk result (λ o. IfSome o (λ n. n < length nodes.new.items)) }
@@ -155,4 +155,64 @@ pub(crate) fn push_system(
     }
     let unit = scope.unit;
     push(scope, Mode::Value, nodes, id.place, ExprKind::Time { unit })
+}
+
+// Some numbers once more.
+fn copied(alloc: Global, numbers: &Option<ExprIds>) -> Result<Option<ExprIds>, NoMemory>
+    ensures { IfOk result (λ o. o ≡ numbers.now) }
+{
+    match numbers {
+        None => Ok(None),
+        Some(numbers) => Ok(Some(Sequence::from_slice(alloc, numbers.as_slice())?)),
+    }
+}
+
+/// The begin of a call, which has what is given to it; answers that.
+pub(crate) fn push_begin(
+    alloc: Global,
+    scope: &Scope,
+    nodes: &mut Vec<ExprNode>,
+    place: Place,
+    function: &Function,
+    given: Option<ExprIds>,
+) -> Result<Option<ExprIds>, ElabFault>
+    requires sound { IsSound mode.Value (scope_seen scope.now) nodes.old.items }
+    requires function { IsFunction (scope_seen scope.now).objects function.now }
+    requires given { IfSome given (λ ns. all_before (length nodes.old.items) ns ≡ true) }
+    ensures step { Steps
+        (begun (scope_seen scope.now) place function.now given nodes.old.items) result nodes.new.items }
+    ensures sound { OnOk result (IsSound mode.Value (scope_seen scope.now) nodes.new.items) }
+    ensures below { IfOk result (λ o. IfSome o (λ ns. all_before (length nodes.new.items) ns ≡ true)) }
+    ensures grows { OnOk result (length nodes.old.items ≤ length nodes.new.items) }
+{
+    let arguments = copied(alloc, &given)?;
+    push_call(alloc, scope, nodes, place, function, arguments)?;
+    Ok(given)
+}
+
+/// Numbers behind others, where none is passed over.
+pub(crate) fn with_numbers(
+    given: Option<ExprIds>,
+    taken: Option<ExprIds>,
+) -> Result<Option<ExprIds>, NoMemory>
+    ensures { IfOk result (λ o. o ≡ with_numbers given taken) }
+{
+    let Some(given) = given else {
+        return Ok(None);
+    };
+    let Some(taken) = taken else {
+        return Ok(None);
+    };
+    let mut numbers = given.into_vec();
+    let mut more = taken.into_vec();
+    numbers.append(&mut more)?;
+    Ok(Some(Sequence::new(numbers)))
+}
+
+/// One number more.
+pub(crate) fn add_number(numbers: &mut Vec<ExprId>, number: ExprId) -> Result<(), NoMemory>
+    ensures { OnOk result (numbers.new.items ≡ numbers.old.items ++ number ∷ []) }
+{
+    numbers.push(number)?;
+    Ok(())
 }

@@ -1,4 +1,4 @@
-ghost use Rattle.std.specs.Prelude.{◌≡◌, ◌<◌, ◌≤◌, true, length, map, IfOk, IfSome, OnOk};
+ghost use Rattle.std.specs.Prelude.{ℕ, ◌≡◌, ◌<◌, ◌≤◌, true, length, map, IfOk, IfSome, OnOk};
 ghost use Rattle.vh_logic.specs.declared.vector.TheConstants.{MAX_WIDTH};
 ghost use Rattle.vh_nodes.specs.Fits.{all_before, fits_select};
 ghost use Rattle.vh_ast.specs.Expressions;
@@ -105,7 +105,7 @@ pub fn range_at(
     ensures select { Gives
         (range_at (scope_seen scope.now) nodes.now bracket range
         (expr_tree left.now) (expr_tree right.now)) result }
-    ensures below { IfOk result (λ o. IfSome o (λ x. fits_select (length nodes.now) x ≡ true)) }
+    ensures below { (n : ℕ) → IfOk result (λ o. IfSome o (λ x. fits_select n x ≡ true)) }
 {
     let left = constant_at(alloc, scope, nodes, left)?;
     let right = constant_at(alloc, scope, nodes, right)?;
@@ -145,6 +145,6 @@ pub(crate) fn push_genvar(
     ensures below { IfOk result (λ o. IfSome o (λ n. n < length nodes.new.items)) }
     ensures grows { OnOk result (length nodes.old.items ≤ length nodes.new.items) }
 {
-    let value = genvar_value(alloc, scope, nodes, place, value, sel)?;
+    let value = genvar_value(alloc, scope, place, value, sel)?;
     push_literal(scope, Mode::Value, nodes, place, value)
 }

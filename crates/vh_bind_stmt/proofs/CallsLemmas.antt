@@ -6,7 +6,7 @@ use Rattle.vh_bind.specs.Steps.{Nodes}
 use Rattle.vh_bind_stmt.specs.Calls.{Surroundings, calls_at, calls_of, reads_at, reads_of}
 
 pub calls-more : (w : Surroundings) (ns : Nodes) (e : ℕ) → e < length ns
-    → calls_of w ns (length ns - e) e ≡ calls_at w e (slice_get ns e) ++ calls_of w ns (length ns - (e + 1)) (e + 1)
+    → calls_of w ns (length ns - e) e ≡ calls_at w ns e (slice_get ns e) ++ calls_of w ns (length ns - (e + 1)) (e + 1)
 unfolding calls_of
 calls-more w ns e inside =
     let one : length ns - e ≡ suc (length ns - (e + 1)) = omega arith in

@@ -17,10 +17,3 @@ abbrev pub AddsTo : {A : Type 0} → Option (List A) → Result Bool NoMemory �
 AddsTo outcome (Ok true) ts = outcome ≡ Some ts
 AddsTo outcome (Ok false) ts = outcome ≡ None
 AddsTo outcome (Err refused) ts = Unit {0}
-
--- A step adds to some list, or passes over it.
-abbrev pub StepsOn : {A : Type 0} → Result (Option (List A) × Nodes) Fault → Result Bool ElabFault → List A → Nodes → Type 0
-StepsOn outcome (Ok true) ts ns = outcome ≡ Ok (Some ts, ns)
-StepsOn outcome (Ok false) ts ns = outcome ≡ Ok (None, ns)
-StepsOn outcome (Err (faults.Refused fault place)) ts ns = outcome ≡ Err (fault, place)
-StepsOn outcome (Err faults.NoMemory) ts ns = Unit {0}

@@ -6,7 +6,6 @@ ghost use Rattle.vh_ast.specs.Views.{delay_tree, delay_value_tree};
 ghost use Rattle.vh_bind.specs.declared.scope.Mode.TheVariants as mode;
 ghost use Rattle.vh_bind.specs.Steps.{Steps};
 ghost use Rattle.vh_bind.specs.Nodes.{IsSound};
-ghost use Rattle.vh_bind.specs.Scopes.{here};
 ghost use Rattle.vh_bind.specs.Objects.{alone_read};
 ghost use Rattle.vh_bind.specs.Constants.{form_bound};
 ghost use Rattle.vh_bind_expr.specs.Kinds.{IsReadable};
@@ -20,28 +19,13 @@ use vh_bind::{ElabFault, Mode, Readable, Scope, alone_read, push, push_literal};
 use vh_bind_expr::{bind_expr, push_selected, whole_of};
 use vh_code::Delay as Wait;
 use vh_nodes::{ExprKind, ExprNode, Select};
-use vh_scope::Top;
 
-// What a name stands for, parameters having their values in the expressions so far.
-fn name_alone(scope: &Scope, nodes: &[ExprNode], id: &Id) -> Readable
-    ensures readable { result ≡ alone_read (here (scope_seen scope.now) nodes.now) id.now.name }
+// What a name stands for.
+fn name_alone(scope: &Scope, id: &Id) -> Readable
+    ensures readable { result ≡ alone_read (scope_seen scope.now) id.now.name }
     ensures kind { IsReadable (scope_seen scope.now).objects result }
 {
-    let here = Scope {
-        names: scope.names,
-        around: scope.around,
-        top: Top {
-            id: scope.top.id,
-            name: scope.top.name,
-        },
-        genvars: scope.genvars,
-        objects: scope.objects,
-        exprs: nodes,
-        routines: scope.routines,
-        unit: scope.unit,
-        precision: scope.precision,
-    };
-    alone_read(&here, id.name.as_slice())
+    alone_read(scope, id.name.as_slice())
 }
 
 // The value of a name alone.
@@ -54,7 +38,7 @@ fn bind_id(scope: &Scope, nodes: &mut Vec<ExprNode>, id: &Id) -> Result<Option<E
     ensures sound { OnOk result (IsSound mode.Value (scope_seen scope.now) nodes.new.items) }
 {
     let place = id.place;
-    match name_alone(scope, nodes, id) {
+    match name_alone(scope, id) {
         Readable::Wrong | Readable::Memory(_, _) => {
             Err(ElabFault::Refused(DesignFault::N1, place))
         }

@@ -3,11 +3,10 @@ ghost use Rattle.std.specs.Option.{option_copied, option_map};
 ghost use Rattle.vh_nodes.specs.Fits.{is_unit};
 ghost use Rattle.vh_ast.specs.Views.{expr_tree};
 ghost use Rattle.vh_bind.specs.declared.scope.Mode.TheVariants as mode;
-ghost use Rattle.vh_bind.specs.Steps.{Steps};
+ghost use Rattle.vh_bind.specs.Steps.{Steps, StepsOn};
 ghost use Rattle.vh_bind.specs.Nodes.{IsSound};
 ghost use Rattle.vh_bind.specs.Views.{scope_seen};
 ghost use Rattle.vh_bind_stmt.specs.Shows.{show_task, is_letter, wants_argument, with_digit, at_letter, in_conversion, scan_byte, ended, shows_of, text_of, wanted_by, wanted_behind, arguments_fit, with_show, value_bound, format_or_value, argument_bound, arguments_bound, is_number, takes_number};
-ghost use Rattle.vh_bind_stmt.specs.Views.{StepsOn};
 
 use std::alloc::Global;
 use vh_ast::{Expr, ExprForm, Primary};

@@ -3,13 +3,13 @@ ghost use Rattle.vh_nodes.specs.Fits.{is_unit};
 ghost use Rattle.vh_code.specs.Targets.{targets_width};
 ghost use Rattle.vh_ast.specs.Views.{expr_tree, name_tree, part_by, sel_tree, lv_tree, lv_part_tree};
 ghost use Rattle.vh_bind.specs.declared.scope.Mode.TheVariants as mode;
-ghost use Rattle.vh_bind.specs.Steps.{Steps, Gives};
+ghost use Rattle.vh_bind.specs.Steps.{Steps, StepsOn, Gives};
 ghost use Rattle.vh_bind.specs.Nodes.{IsSound};
 ghost use Rattle.vh_bind.specs.Constants.{part_bound};
 ghost use Rattle.vh_bind.specs.Views.{scope_seen};
 ghost use Rattle.vh_bind_stmt.specs.Targets.{with_selected, vector_target, memory_target, name_piece, piece_bound, pieces_bound, in_width, targets_bound, output_pieces, outputs_pieces, output_bound};
 ghost use Rattle.vh_ast.specs.Expressions.{exprs};
-ghost use Rattle.vh_bind_stmt.specs.Views.{AddsTo, StepsOn};
+ghost use Rattle.vh_bind_stmt.specs.Views.{AddsTo};
 
 use std::alloc::Global;
 use vh_ast::{Esel, Expr, ExprForm, Lv, LvPart, Name, Part, Primary, Sel};
@@ -65,16 +65,24 @@ fn bind_part(
             Ok(bit_select(range, index))
         }
         Part::Range(left, right) => {
-            range_at(alloc, scope, nodes, bracket, range, left.get(), right.get())
+            range_at(
+                alloc,
+                scope,
+                scope.exprs,
+                bracket,
+                range,
+                left.get(),
+                right.get(),
+            )
         }
         Part::Up(base, width) => {
             let base = bind_expr(alloc, nodes, scope, base.get())?;
-            let width = width_at(alloc, scope, nodes, bracket, width.get())?;
+            let width = width_at(alloc, scope, scope.exprs, bracket, width.get())?;
             Ok(indexed_select(true, range, base, width))
         }
         Part::Down(base, width) => {
             let base = bind_expr(alloc, nodes, scope, base.get())?;
-            let width = width_at(alloc, scope, nodes, bracket, width.get())?;
+            let width = width_at(alloc, scope, scope.exprs, bracket, width.get())?;
             Ok(indexed_select(false, range, base, width))
         }
     }

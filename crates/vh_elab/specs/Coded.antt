@@ -46,7 +46,7 @@ pub record Ready : Type 0 where
   pub routines : Routines
   pub genvars : Genvars
 
--- Where a statement stands, in a module of this time unit: parameters have their values in what is added to.
+-- Where a statement stands, in a module of this time unit.
 abbrev pub scope_in : Ready → ℕ → List ℕ → Scope
 scope_in r unit around = record {
   names = r.names;
@@ -55,7 +55,7 @@ scope_in r unit around = record {
   top_name = r.top_name;
   genvars = genvars_in r.genvars around;
   objects = r.objects;
-  exprs = [];
+  exprs = r.values;
   routines = r.routines.routines;
   unit = unit;
   precision = r.precision;

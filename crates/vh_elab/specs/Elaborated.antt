@@ -141,7 +141,7 @@ no_codes r = record {
 }
 
 abbrev pub is_taken : Ready → Bool
-is_taken r = if r.routines.gives_back then false else are_sound r.objects r.precision r.values
+is_taken r = are_sound r.objects r.precision r.values
 
 abbrev pub made_over : SourceTree → Ready → List Placed → Option Coding
 made_over ms r ps = if is_taken r then Some (instances_made ms r ps (no_codes r)) else None

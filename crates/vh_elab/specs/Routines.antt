@@ -1,8 +1,5 @@
 -- The tasks and functions of all instances, by the numbers of their bodies, and their arguments. (IEEE 1364-2005, 10.2.1 and 10.4.1)
-use Rattle.std.specs.Prelude.{ℕ, ◌+◌, Bool, true, false, ◌&&◌, ◌||◌, List, [], ◌∷◌, ◌++◌, length, if◌then◌else◌, ◌==◌, Option, Some, None}
-use Rattle.std.specs.List.{list_any}
-use Rattle.vh_ast.specs.declared.routine.TaskDirection.{TaskDirection}
-use Rattle.vh_ast.specs.declared.routine.TaskDirection.TheVariants as goes
+use Rattle.std.specs.Prelude.{ℕ, ◌+◌, Bool, true, false, List, [], ◌∷◌, ◌++◌, map, if◌then◌else◌, ◌==◌, Option, Some, None}
 use Rattle.vh_bind.specs.declared.scope.Routine.{Routine}
 use Rattle.vh_bind_stmt.specs.declared.surroundings.Argument.{Argument}
 use Rattle.vh_sites.specs.declared.site.CodeWord.{CodeWord}
@@ -47,27 +44,17 @@ abbrev pub result_number : CodeWord → ℕ → Option ℕ
 result_number w n = if is_function w then Some (n + 1) else None
 
 abbrev pub routine_of : CodeWord → ℕ → List Argument → Routine
-routine_of w n arguments = record { result = result_number w n; arguments = length arguments }
-
--- A function whose arguments aren't all inputs comes later.
-abbrev pub is_given_back : TaskDirection → Bool
-is_given_back goes.Input = false
-is_given_back goes.Output = true
-is_given_back goes.Inout = true
-
-abbrev pub gives_more : CodeWord → List Argument → Bool
-gives_more w arguments = is_function w && list_any (λ a. is_given_back a.direction) arguments
+routine_of w n arguments =
+    record { result = result_number w n; arguments = map (λ (a : Argument). a.direction) arguments }
 
 pub record Routines : Type 0 where
   pub routines : List Routine
   pub arguments : List (List Argument)
-  pub gives_back : Bool
 
 abbrev pub with_routine : CodeWord → ℕ → List Argument → Routines → Routines
 with_routine w n arguments rs = record {
   routines = rs.routines ++ routine_of w n arguments ∷ [];
   arguments = rs.arguments ++ arguments ∷ [];
-  gives_back = rs.gives_back || gives_more w arguments;
 }
 
 abbrev pub routine_declared : ℕ → Declared → List SiteTree → Routines → Routines
@@ -95,7 +82,7 @@ routines_in [] rs = rs
 routines_in (s ∷ so) rs = routines_in so (routine_declared s.number s.declared so rs)
 
 abbrev pub no_routines : Routines
-no_routines = record { routines = []; arguments = []; gives_back = false }
+no_routines = record { routines = []; arguments = [] }
 
 abbrev pub routines_from : List Placed → Routines → Routines
 routines_from [] rs = rs

@@ -26,7 +26,7 @@ use Rattle.vh_elab.specs.Elaborated.{Elaborated, made, refused, later}
 use Rattle.vh_declare.specs.Constants.{literal_node}
 
 abbrev pub routines_seen : calls.Routines → Routines
-routines_seen r = record { routines = r.routines.items; arguments = r.arguments.items; gives_back = r.gives_back }
+routines_seen r = record { routines = r.routines.items; arguments = r.arguments.items }
 
 abbrev pub coding_seen : codes.Coding → Coding
 coding_seen c = record {

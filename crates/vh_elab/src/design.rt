@@ -147,10 +147,12 @@ fn code_instance(
     alloc: Global,
     modules: Modules,
     ready: Ready,
+    parameters: &[ExprNode],
     placed: &Placed,
     coding: &mut Coding,
 ) -> Result<(), NoMemory>
     requires source { IsSource modules }
+    requires parameters { parameters.now ≡ (ready_seen ready).values }
     requires values { AreSound (ready_seen ready).objects (ready_seen ready).precision
         (ready_seen ready).values }
     requires sound { AreSound (ready_seen ready).objects (ready_seen ready).precision
@@ -165,7 +167,15 @@ fn code_instance(
         coding.passed = true;
         return Ok(());
     }
-    code_sites(alloc, modules, ready, placed.unit, &placed.sites, coding)
+    code_sites(
+        alloc,
+        modules,
+        ready,
+        parameters,
+        placed.unit,
+        &placed.sites,
+        coding,
+    )
 }
 
 // The second pass, up to the first instance that has a fault.
@@ -173,10 +183,12 @@ fn code_instances(
     alloc: Global,
     modules: Modules,
     ready: Ready,
+    parameters: &[ExprNode],
     all: &[Placed],
     coding: &mut Coding,
 ) -> Result<(), NoMemory>
     requires source { IsSource modules }
+    requires parameters { parameters.now ≡ (ready_seen ready).values }
     requires values { AreSound (ready_seen ready).objects (ready_seen ready).precision
         (ready_seen ready).values }
     requires sound { AreSound (ready_seen ready).objects (ready_seen ready).precision
@@ -189,7 +201,7 @@ fn code_instances(
         if has_ended(coding) {
             return Ok(());
         }
-        code_instance(alloc, modules, ready, placed, coding)?;
+        code_instance(alloc, modules, ready, parameters, placed, coding)?;
     }
     Ok(())
 }
@@ -207,7 +219,7 @@ fn made_over(
         (map placed_seen all.now)) }
 {
     let added = only_values(alloc, ready)?;
-    if ready.routines.gives_back || !are_sound(&added.exprs, ready.objects, ready.precision) {
+    if !are_sound(&added.exprs, ready.objects, ready.precision) {
         return Ok(None);
     }
     let mut coding = Coding {
@@ -219,7 +231,8 @@ fn made_over(
         passed: false,
         count: 0,
     };
-    code_instances(alloc, modules, ready, all, &mut coding)?;
+    let parameters = only_values(alloc, ready)?.exprs;
+    code_instances(alloc, modules, ready, &parameters, all, &mut coding)?;
     Ok(Some(coding))
 }
 

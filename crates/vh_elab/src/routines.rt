@@ -1,14 +1,13 @@
-ghost use Rattle.std.specs.Prelude.{◌≡◌, ◌++◌, ◌∷◌, [], length, map, IfOk, OnOk};
-ghost use Rattle.std.specs.List.{list_any};
+ghost use Rattle.std.specs.Prelude.{◌≡◌, ◌++◌, ◌∷◌, [], map, IfOk, OnOk};
+ghost use Rattle.vh_bind_stmt.specs.declared.surroundings.Argument.{Argument};
 ghost use Rattle.vh_sites.specs.Views.{all_seen, declared_seen, site_seen};
 ghost use Rattle.vh_elab.specs.Routines as spec;
 ghost use Rattle.vh_walk.specs.Views.{placed_seen};
 ghost use Rattle.vh_elab.specs.Views.{routines_seen};
 
 use std::alloc::Global;
-use vh_ast::TaskDirection;
 use vh_base::{NoMemory, ObjId, Sequence};
-use vh_bind::Routine;
+use vh_bind::{Directions, Routine};
 use vh_bind_stmt::{Argument, Arguments};
 use vh_declare::is_routine;
 use vh_sites::{CodeWord, Declared, Site, Thing};
@@ -19,8 +18,6 @@ use vh_walk::Placed;
 pub(crate) struct Routines {
     pub(crate) routines: Vec<Routine>,
     pub(crate) arguments: Vec<Arguments>,
-    /// Whether some function has arguments that aren't inputs.
-    pub(crate) gives_back: bool,
 }
 
 // The argument that a site is.
@@ -91,14 +88,20 @@ fn result_number(word: CodeWord, number: u32) -> Result<Option<ObjId>, NoMemory>
     Ok(Some(ObjId::new(number)))
 }
 
-fn count_of(arguments: &[Argument]) -> Result<u32, NoMemory>
-    ensures { IfOk result (λ n. n ≡ length arguments.now) }
+// Where they go.
+fn directions_of(alloc: Global, arguments: &[Argument]) -> Result<Directions, NoMemory>
+    ensures { IfOk result (λ ds. ds ≡ map (λ (a : Argument). a.direction) arguments.now) }
 {
-    u32::try_from(arguments.len()).map_err(|_| NoMemory)
+    let mut directions = Vec::new(alloc);
+    for argument in arguments {
+        directions.push(argument.direction)?;
+    }
+    Ok(Sequence::new(directions))
 }
 
 // A task or function more, with its arguments.
 fn add_routine(
+    alloc: Global,
     word: CodeWord,
     number: u32,
     arguments: Vec<Argument>,
@@ -107,13 +110,11 @@ fn add_routine(
     ensures { OnOk result (routines_seen all.new
         ≡ spec.with_routine word number arguments.items (routines_seen all.old)) }
 {
-    let more = gives_more(word, &arguments);
-    all.gives_back = all.gives_back || more;
     let result = result_number(word, number)?;
-    let count = count_of(&arguments)?;
+    let directions = directions_of(alloc, &arguments)?;
     all.routines.push(Routine {
         result,
-        arguments: count,
+        arguments: directions,
     })?;
     all.arguments.push(Sequence::new(arguments))?;
     Ok(())
@@ -138,7 +139,7 @@ fn routine_site(
         return Ok(());
     }
     let arguments = arguments_from(alloc, number, behind)?;
-    add_routine(word, number, arguments, all)
+    add_routine(alloc, word, number, arguments, all)
 }
 
 // Those of an instance.
@@ -159,32 +160,9 @@ pub(crate) fn routines_of(alloc: Global, all: &[Placed]) -> Result<Routines, NoM
     let mut routines = Routines {
         routines: Vec::new(alloc),
         arguments: Vec::new(alloc),
-        gives_back: false,
     };
     for placed in all {
         add_routines(alloc, &placed.sites, &mut routines)?;
     }
     Ok(routines)
-}
-
-fn is_given_back(direction: TaskDirection) -> bool
-    ensures { result ≡ spec.is_given_back direction }
-{
-    match direction {
-        TaskDirection::Input => false,
-        TaskDirection::Output | TaskDirection::Inout => true,
-    }
-}
-
-fn any_given_back(arguments: &[Argument]) -> bool
-    ensures { result ≡ list_any (λ a. spec.is_given_back a.direction) arguments.now }
-{
-    arguments.iter().any(|a| is_given_back(a.direction))
-}
-
-// Whether it is a function that gives more than its result.
-fn gives_more(word: CodeWord, arguments: &[Argument]) -> bool
-    ensures { result ≡ spec.gives_more word arguments.now }
-{
-    is_function(word) && any_given_back(arguments)
 }

@@ -24,6 +24,7 @@ use vh_bind::Scope;
 use vh_bind_stmt::Surroundings;
 use vh_declare::{around, genvars_in};
 use vh_flow::CodeKind;
+use vh_nodes::ExprNode;
 use vh_ports::Ports;
 use vh_scope::Top;
 use vh_sites::{CodeWord, Declared, Site, Thing};
@@ -223,6 +224,7 @@ fn code_in(
     alloc: Global,
     modules: Modules,
     ready: Ready,
+    parameters: &[ExprNode],
     unit: u8,
     inner: u32,
     number: u32,
@@ -231,6 +233,7 @@ fn code_in(
     coding: &mut Coding,
 ) -> Result<(), NoMemory>
     requires source { IsSource modules }
+    requires parameters { parameters.now ≡ (ready_seen ready).values }
     requires values { AreSound (ready_seen ready).objects (ready_seen ready).precision
         (ready_seen ready).values }
     requires sound { AreSound (ready_seen ready).objects (ready_seen ready).precision
@@ -254,7 +257,7 @@ fn code_in(
         },
         genvars: &genvars,
         objects: ready.objects,
-        exprs: &[],
+        exprs: parameters,
         routines: &ready.routines.routines,
         unit,
         precision: ready.precision,
@@ -273,11 +276,13 @@ fn code_site(
     alloc: Global,
     modules: Modules,
     ready: Ready,
+    parameters: &[ExprNode],
     unit: u8,
     site: &Site,
     coding: &mut Coding,
 ) -> Result<(), NoMemory>
     requires source { IsSource modules }
+    requires parameters { parameters.now ≡ (ready_seen ready).values }
     requires values { AreSound (ready_seen ready).objects (ready_seen ready).precision
         (ready_seen ready).values }
     requires sound { AreSound (ready_seen ready).objects (ready_seen ready).precision
@@ -299,6 +304,7 @@ fn code_site(
         alloc,
         modules,
         ready,
+        parameters,
         unit,
         inner,
         site.number,
@@ -314,11 +320,13 @@ pub(crate) fn code_sites(
     alloc: Global,
     modules: Modules,
     ready: Ready,
+    parameters: &[ExprNode],
     unit: u8,
     sites: &[Site],
     coding: &mut Coding,
 ) -> Result<(), NoMemory>
     requires source { IsSource modules }
+    requires parameters { parameters.now ≡ (ready_seen ready).values }
     requires values { AreSound (ready_seen ready).objects (ready_seen ready).precision
         (ready_seen ready).values }
     requires sound { AreSound (ready_seen ready).objects (ready_seen ready).precision
@@ -331,7 +339,7 @@ pub(crate) fn code_sites(
         (ready_seen ready.entry).precision (coding_seen coding.new).added.exprs) }
 {
     for site in sites {
-        code_site(alloc, modules, ready, unit, site, coding)?;
+        code_site(alloc, modules, ready, parameters, unit, site, coding)?;
     }
     Ok(())
 }

@@ -267,7 +267,7 @@ fn two_faults(rt: HostRuntime) -> Result<(), Fail> {
 
 // What comes later.
 static LATER: [(&[u8], &str); 1] = [(
-    b"module m; reg a; function f; input x; output y; f = x; endfunction initial a = 1; endmodule",
+    b"module m; wire [7:4] w; assign w[3 +: 4] = 1; endmodule",
     "later",
 )];
 

@@ -37,7 +37,7 @@ use Rattle.vh_bind.specs.Steps.{Fault, Nodes, Step}
 use Rattle.vh_bind_stmt.specs.Delays.{delay_bound}
 use Rattle.vh_bind_stmt.specs.Targets.{targets_bound, output_bound}
 use Rattle.vh_bind_stmt.specs.declared.surroundings.Argument.{Argument}
-use Rattle.vh_bind_stmt.specs.Calls.{Surroundings, arguments_of, calls_in, calls_at, calls_of}
+use Rattle.vh_bind_stmt.specs.Calls.{Surroundings, arguments_of, begin_of, end_of, calls_in, calls_at, calls_of}
 use Rattle.vh_bind_stmt.specs.Shows.{show_task, arguments_fit, arguments_bound, takes_number}
 use Rattle.vh_nodes.specs.Kinds.{is_event, is_disable_target}
 use Rattle.vh_flow.specs.declared.code_kind.CodeKind.{CodeKind}
@@ -112,32 +112,39 @@ two-plain : (front behind : List Operation) (first last : Operation) → Plain f
 two-plain front behind first last h k l m =
     plain-push (rows.and_then front first ++ behind) last (plain-both (rows.and_then front first) behind (plain-push front first h l) k) m
 
--- The calls that expressions make.
-calls-in-plain : (w : Surroundings) (e : ℕ) (k : ExprKind) → Plain (calls_in w e k)
-calls-in-plain w e (kind.Literal v) = refl
-calls-in-plain w e (kind.Selected s) = refl
-calls-in-plain w e (kind.Unary o part) = refl
-calls-in-plain w e (kind.Arithmetic first rest) = refl
-calls-in-plain w e (kind.Shift first rest) = refl
-calls-in-plain w e (kind.Comparison first rest) = refl
-calls-in-plain w e (kind.Logic first rest) = refl
-calls-in-plain w e (kind.Choice condition a b) = refl
-calls-in-plain w e (kind.Join first rest) = refl
-calls-in-plain w e (kind.Repeat count part) = refl
-calls-in-plain w e (kind.Marked part signed) = refl
-calls-in-plain w e (kind.Time unit) = refl
-calls-in-plain w e (kind.Call function result arguments) = refl
-calls-in-plain w e (kind.SysCall o) = refl
+-- The calls that expressions make: a begin, an end, or both.
+one-plain : (b : Bool) (o : Operation) → is_plain o ≡ true → Plain (if b then o ∷ [] else [])
+one-plain true o h = both h refl
+one-plain false o h = refl
 
-calls-at-plain : (w : Surroundings) (e : ℕ) (n : Option ExprNode) → Plain (calls_at w e n)
-calls-at-plain w e None = refl
-calls-at-plain w e (Some n) = calls-in-plain w e n.kind
+calls-in-plain : (w : Surroundings) (ns : Nodes) (e : ℕ) (k : ExprKind) → Plain (calls_in w ns e k)
+calls-in-plain w ns e (kind.Literal v) = refl
+calls-in-plain w ns e (kind.Selected s) = refl
+calls-in-plain w ns e (kind.Unary o part) = refl
+calls-in-plain w ns e (kind.Arithmetic first rest) = refl
+calls-in-plain w ns e (kind.Shift first rest) = refl
+calls-in-plain w ns e (kind.Comparison first rest) = refl
+calls-in-plain w ns e (kind.Logic first rest) = refl
+calls-in-plain w ns e (kind.Choice condition a b) = refl
+calls-in-plain w ns e (kind.Join first rest) = refl
+calls-in-plain w ns e (kind.Repeat count part) = refl
+calls-in-plain w ns e (kind.Marked part signed) = refl
+calls-in-plain w ns e (kind.Time unit) = refl
+calls-in-plain w ns e (kind.Call function result arguments) =
+    let all = arguments_of w function in
+    plain-both (begin_of function all arguments) (end_of ns all arguments (record { call = e; variable = result }))
+    (one-plain _ _ refl) (one-plain _ _ refl)
+calls-in-plain w ns e (kind.SysCall o) = refl
+
+calls-at-plain : (w : Surroundings) (ns : Nodes) (e : ℕ) (n : Option ExprNode) → Plain (calls_at w ns e n)
+calls-at-plain w ns e None = refl
+calls-at-plain w ns e (Some n) = calls-in-plain w ns e n.kind
 
 calls-plain : (w : Surroundings) (ns : Nodes) (k e : ℕ) → Plain (calls_of w ns k e)
 unfolding calls_of
 calls-plain w ns zero e = refl
 calls-plain w ns (suc k) e =
-    plain-both (calls_at w e (slice_get ns e)) (calls_of w ns k (e + 1)) (calls-at-plain w e (slice_get ns e)) (calls-plain w ns k (e + 1))
+    plain-both (calls_at w ns e (slice_get ns e)) (calls_of w ns k (e + 1)) (calls-at-plain w ns e (slice_get ns e)) (calls-plain w ns k (e + 1))
 
 abbrev Behind : {A : Type 0} → A × List Operation → Type 0
 Behind v = Plain v.1

@@ -21,14 +21,15 @@ use vh_flow::CodeKind;
 use vh_lex::Lexer;
 use vh_logic::Vec4;
 use vh_lower::{Added, LowerFault, drive_code, initial_code, lower};
-use vh_nodes::{Detail, ExprKind, Kind, ObjectInfo, Range};
+use vh_nodes::{Detail, ExprKind, ExprNode, Kind, ObjectInfo, Range};
 use vh_parse_stmt::parse_stmt;
 use vh_scope::{Meaning, Names, Top};
 
 // What is declared in the module: the parameter `P` [7:0], which is 5; the net `w`; `r` and `q`
 // [7:0], `k` an integer and `s` of one digit; the memory `m` of 4 bytes; the event `e`; the function
 // `f` of one argument with its result, its argument `x`; the task `t` with an input `i` and an output
-// `o`, the task `u` without any, the task `v` with an `inout`; the blocks `b` and `j`.
+// `o`, the task `u` without any, the task `v` with an `inout`; the blocks `b` and `j`; the function `h` of an
+// output, an input and an `inout`.
 #[derive(Drop)]
 struct World {
     names: Names,
@@ -77,7 +78,12 @@ impl World {
         self.vector(alloc, Kind::Task, b"v", 1, Detail::Routine(3))?;
         self.object(alloc, Kind::Reg, 8, Detail::Plain)?;
         self.vector(alloc, Kind::NamedBegin, b"b", 1, Detail::Plain)?;
-        self.vector(alloc, Kind::NamedFork, b"j", 1, Detail::Plain)
+        self.vector(alloc, Kind::NamedFork, b"j", 1, Detail::Plain)?;
+        self.vector(alloc, Kind::Function, b"h", 1, Detail::Routine(4))?;
+        for _variable in 0..4 {
+            self.object(alloc, Kind::Reg, 8, Detail::Plain)?;
+        }
+        Ok(())
     }
 
     fn vector(
@@ -144,19 +150,40 @@ fn arguments(alloc: Global) -> Result<Vec<Arguments>, NoMemory> {
     all.push(Sequence::from_slice(alloc, &[])?)?;
     let both = [argument(17, TaskDirection::Inout)];
     all.push(Sequence::from_slice(alloc, &both)?)?;
+    let three = [
+        argument(22, TaskDirection::Output),
+        argument(23, TaskDirection::Input),
+        argument(24, TaskDirection::Inout),
+    ];
+    all.push(Sequence::from_slice(alloc, &three)?)?;
     Ok(all)
 }
 
+fn routine(
+    alloc: Global,
+    variable: Option<u32>,
+    directions: &[TaskDirection],
+) -> Result<Routine, NoMemory> {
+    Ok(Routine {
+        result: variable.map(ObjId::new),
+        arguments: Sequence::from_slice(alloc, directions)?,
+    })
+}
+
 fn routines(alloc: Global) -> Result<Vec<Routine>, NoMemory> {
-    let one = Routine {
-        result: Some(ObjId::new(10)),
-        arguments: 1,
-    };
-    let other = Routine {
-        result: None,
-        arguments: 0,
-    };
-    Ok(Vec::from_slice(alloc, &[one, other, other, other])?)
+    let mut all = Vec::new(alloc);
+    all.push(routine(alloc, Some(10), &[TaskDirection::Input])?)?;
+    let two = [TaskDirection::Input, TaskDirection::Output];
+    all.push(routine(alloc, None, &two)?)?;
+    all.push(routine(alloc, None, &[])?)?;
+    all.push(routine(alloc, None, &[TaskDirection::Inout])?)?;
+    let three = [
+        TaskDirection::Output,
+        TaskDirection::Input,
+        TaskDirection::Inout,
+    ];
+    all.push(routine(alloc, Some(21), &three)?)?;
+    Ok(all)
 }
 
 const PLACE: Place = Place {
@@ -257,6 +284,12 @@ fn lowered(
     wanted: Wanted,
     stmt: &Stmt,
 ) -> Result<(Code, Added), LowerFault> {
+    let five = ExprNode {
+        kind: ExprKind::Literal(Vec4::from_planes(8, 5, 0, false)),
+        width: 8,
+        signed: false,
+    };
+    let values = [five];
     let scope = Scope {
         names: &world.names,
         around: &world.around,
@@ -266,7 +299,7 @@ fn lowered(
         },
         genvars: &world.genvars,
         objects: &world.objects,
-        exprs: &[],
+        exprs: &values,
         routines: &world.routines,
         unit: 9,
         precision: 6,
@@ -560,6 +593,9 @@ m[f(1)] = #5 2; => !h{0}>1 ({0}>2 ){0}>3 s{0}>b
 if (f(1)) r = 1; => !({0}>1 ){0}>2 t/b{0}>3 !={1}>b
 while (f(1)) r = 1; => !({0}>1 ){0}>2 t/b{0}>3 !={1}>4 ({0}>5 ){0}>6 t/b{0}>3
 t(f(1), m[f(2)]); => !({0}>1 ){0}>2 ({0}>3 ({0}>4 ){0}>5 ){0}>b
+r = h(q, 1, s); => !({0}>1 ){0}>2 ={0}>b
+r = h(m[f(1)], f(2), {s, q}); => !({0}>1 ){0}>2 ({0}>3 ({0}>4 ){0}>5 ){0}>6 ={0}>b
+r = h(q, h(r, 1, s), m[h(q, 1, k)]); => !({0}>1 ){0}>2 ({0}>3 ){0}>4 ({0}>5 ({0}>6 ){0}>7 ){0}>8 ={0}>b
 $display("%d", f(r)); => !({0}>1 ){0}>2 ${0}>b
 #(f(1)) ; => !({0}>1 ){0}>2 #{0}>b
 repeat (f(1)) r = 1; => !({0}>1 ){0}>2 r/b{0}>3 !={1}>4 a/b{0}>3
@@ -601,6 +637,17 @@ t(r); => N7 1
 r; => N1 1
 t(r, 1); => N5 6
 t(r, w); => N5 6
+r = h(w, 1, s); => N5 7
+r = h(q, 1, 1); => N5 13
+r = h(P, 1, s); => N5 7
+r = h(m, 1, s); => N1 7
+r = h(q + 1, 1, s); => N5 7
+r = h({q, w}, 1, s); => N5 11
+r = h({k, k, s}, 1, s); => N3 7
+r = h(w, z, s); => N5 7
+r = h(q, z, w); => N1 10
+r = h(z, z, w); => N1 7
+r = h(q, 1); => N7 5
 $foo; => N10 1
 $finish(r); => N10 1
 $display("%d"); => N10 1

@@ -108,6 +108,38 @@ endmodule
 0 out "5"
 0 end none
 
+// A function assigns its outputs at its end, as a task does.
+module top;
+ function integer f(input integer a, output reg [3:0] b, inout time c); begin b = a + 1; c = c * 2; f = a - 5; end endfunction
+ reg [3:0] q; time t; integer i;
+ initial begin t = 65; i = f(4, q, t); $write("%0d %b %0d", i, q, t); end
+endmodule
+= pick = enter = = = leave = $write end finish over
+0 out "-1 0101 130"
+0 end none
+
+// What is given is worked out before the begin, also where it stands behind an output; the index of that behind the body.
+module top; reg [3:0] m [0:3]; reg [3:0] r;
+ function [1:0] g(input [1:0] i); begin $write("%0d", i); g = i; end endfunction
+ function [3:0] f(output [3:0] o, input [3:0] i); begin $write("f"); o = i + 4; f = i; end endfunction
+ initial begin r = f(m[g(2)], g(3)); $write("%0d %0d", r, m[2]); end
+endmodule
+= pick enter $write = leave enter $write = = enter $write = leave leave = $write end finish over
+0 out "3"
+0 out "f"
+0 out "2"
+0 out "3 7"
+0 end none
+
+// A concatenation as an output, and the call twice in an expression.
+module top; reg [3:0] a, b; reg [7:0] s;
+ function [3:0] f(input [3:0] i, output [7:0] o); begin o = {i, ~i}; f = i + 1; end endfunction
+ initial begin s = f(2, {a, b}) + f(f(5, {b, a}), s); $write("%0d %0d %0d %b", s, a, b, {a, b}); end
+endmodule
+= pick enter = = leave enter = = leave enter = = leave = $write end finish over
+0 out "10 10 5 10100101"
+0 end none
+
 // A function that calls itself.
 module top;
  function [7:0] f(input [7:0] n); if (n > 1) f = f(n - 1) + 1; else f = 1; endfunction
