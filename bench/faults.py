@@ -11,6 +11,8 @@ TOP = pathlib.Path(__file__).resolve().parent.parent
 PAGE = (TOP / "docs/FAULTS.md").read_text()
 PROGRAM = TOP / ".vhost/vhost"
 TEXT = re.compile(r"The text (?:`` (.*?) ``|`([^`]*)`) gets\n\n```\n(.*?)\n```", re.S)
+MADE = re.compile(r"The text of the pieces (.*?) gets\n\n```\n(.*?)\n```", re.S)
+PIECE = re.compile(r"`([^`]*)`(?: ([\d,]+)\s+times)?")
 SCRIPT = re.compile(r"The script `([^`]*)`, in a file `([^`]*)`,\s+gets\n\n```\n(.*?)\n```", re.S)
 BESIDE = re.compile(r"Beside\s+`([^`]*)`\s+the\s+script\n\n```\n(.*?)\n```\n\nwrites among its lines\n\n```\n(.*?)\n```", re.S)
 MANY = re.compile(
@@ -34,6 +36,9 @@ def examples():
     """Each example of the page: its files, the words of its call, and the test of what it writes."""
     for marked, plain, told in TEXT.findall(PAGE):
         yield {"a.v": marked or plain}, ["a.v"], lambda out, err, told=told: ends_so(out, told) and err == told + "\n"
+    for pieces, told in MADE.findall(PAGE):
+        text = "".join(piece * int(times.replace(",", "") or 1) for piece, times in PIECE.findall(pieces))
+        yield {"a.v": text}, ["a.v"], lambda out, err, told=told: ends_so(out, told) and err == told + "\n"
     for text, name, told in SCRIPT.findall(PAGE):
         files = {"a.v": "module top; endmodule", name: text}
         yield files, ["a.v", name], lambda out, err, told=told: out == "" and err == told + "\n"

@@ -99,7 +99,7 @@ unset BROKEN
 
 # words that have no reading
 fresh_repository
-for words in '' 'run' 'walk a.v' 'run a.app' 'run a.txt' 'run 1.v 2.v 3.v 4.v 5.v 6.v 7.v 8.v 9.v' 'run a.v b.app c.app' 'run -a.v' 'run a.v -b.app' \
+for words in '' 'run' 'walk a.v' 'run a.app' 'run a.txt' 'run 1.v 2.v 3.v 4.v 5.v 6.v 7.v 8.v 9.v' 'run a.app b.app' 'run -a.v' 'run a.v -b.app' \
     'run --order fifo --order=lifo a.v' 'run a.v --order' 'run --budget 0 a.v' 'run -- --order fifo a.v' 'run --order=random a.v' 'run - a.v'; do
     run "$full" ./vhost $words
     holds [ "$status" = 1 ]
@@ -115,9 +115,9 @@ holds grep -q "^design refused: S3 at 1:1:1$" "$work/out"
 holds [ "$(grep -c '^## ' "$work/out")" = 1 ]
 run "$bare" ./vhost explain e13
 holds [ "$(head -n 1 "$work/out")" = "## E13" ]
-run "$bare" ./vhost explain N8
+run "$bare" ./vhost explain E3
 holds [ "$(wc -l <"$work/out" | tr -d ' ')" = 1 ]
-holds grep -q '`N8`' "$work/out"
+holds grep -q '`E3`' "$work/out"
 for code in L1 L2 L3 L4 L5 L6 S1 S2 S3 N1 N2 N3 N4 N5 N6 N7 N8 N9 N10 N11 A1 A2 A3 A4 A5 F1 F2 F3 F4 \
     E1 E2 E3 E4 E5 E6 E7 E8 E9 E10 E11 E12 E13 E14 E15 E16; do
     run "$bare" ./vhost explain "$code"
@@ -142,38 +142,140 @@ for words in '--order lifo run a.v' 'run --order=seeded:3 a.v --budget 5' 'run -
     holds [ "$(builds)" = 1 ]
 done
 
-# eight files
+# eight files, any number of which are scripts
 run "$full" ./vhost run 1.v 2.v 3.v 4.v 5.v 6.v 7.v a.app
 holds [ "$(cat "$work/out")" = "ran run 1.v 2.v 3.v 4.v 5.v 6.v 7.v a.app" ]
+fresh_repository
+run "$full" ./vhost run a.v b.app c.app
+holds [ "$(cat "$work/out")" = "ran run a.v b.app c.app" ]
+holds [ "$(builds)" = 1 ]
 
 # a word of a file may be its ending alone
 run "$full" ./vhost run .v .app
 holds [ "$(cat "$work/out")" = "ran run .v .app" ]
 
-# the part of the page is named where standard error is a terminal, and nowhere else
+# Where standard error is a terminal, a refusal is followed by the line of the text with a caret under the column, a sentence on
+# the code, and the part of the page; elsewhere by nothing.
 export TELLS ENDS
-refused() {
+# refused_so LINE STATUS WORD..: the program tells this line and ends so; $work/behind has what a terminal gets behind it.
+refused_so() {
     TELLS=$1 ENDS=$2
-    run "$full" ./vhost run a.v
-    holds [ "$status" = "$2" ]
-    holds [ "$(cat "$work/out")" = "ran run a.v" ]
-    printf '%s\n' "$1" >"$work/wanted"
+    shift 2
+    run "$full" ./vhost "$@"
+    holds [ "$status" = "$ENDS" ]
+    holds [ "$(cat "$work/out")" = "ran $*" ]
+    printf '%s\n' "$TELLS" >"$work/wanted"
     holds cmp -s "$work/err" "$work/wanted"
-    if command -v script >/dev/null; then
-        run "$full" script -qec "./vhost run a.v >$work/text" /dev/null
-        holds [ "$status" = "$2" ]
-        holds [ "$(cat "$work/text")" = "ran run a.v" ]
-        [ -z "$3" ] || printf '%s\n' "vhost: see docs/FAULTS.md#$3" >>"$work/wanted"
-        tr -d '\r' <"$work/out" | grep -a 'refused\|fault\|vhost' >"$work/lines"
-        holds cmp -s "$work/lines" "$work/wanted"
-    fi
+    on_terminal "$@"
+    cat "$work/behind" >>"$work/wanted"
+    holds cmp -s "$work/lines" "$work/wanted"
 }
-refused "design refused: S3 at 1:1:1" 2 s3
-refused "design refused: N11 at 2:30:400" 2 n11
-refused "application refused: b.app: A2 at 1:1" 3 a2
-refused "application refused: a refused: X1 at 1:1 b.app: A2 at 1:1" 3 a2
-refused "run fault: F2" 4 ''
-refused "cannot read design refused: S3 at 1:1:1 .v" 6 ''
+# on_terminal WORD..: what a call with these words writes to a terminal as its standard error goes to $work/lines.
+on_terminal() {
+    cat >"$work/call" <<'CALL'
+import os, pty, sys
+parent, child = pty.fork()
+if parent == 0:
+    with open(sys.argv[1], "wb") as text:
+        os.dup2(text.fileno(), 1)
+    os.execv("./vhost", ["./vhost"] + sys.argv[3:])
+shown = b""
+while True:
+    try:
+        piece = os.read(child, 65536)
+    except OSError:
+        break
+    if not piece:
+        break
+    shown += piece
+with open(sys.argv[2], "wb") as lines:
+    lines.write(shown.replace(b"\r\n", b"\n"))
+sys.exit(os.waitstatus_to_exitcode(os.waitpid(parent, 0)[1]))
+CALL
+    run "$full" python3 "$work/call" "$work/text" "$work/lines" "$@"
+    holds [ "$status" = "$ENDS" ]
+    holds [ "$(cat "$work/text")" = "ran $*" ]
+}
+# behind NAME:LINE:COLUMN TEXT CARET CODE: what is wanted behind a refusal.
+behind() {
+    printf '%s\n%s\n%s\n' "$1" "$2" "$3" >"$work/behind"
+    behind_alone "$4" >>"$work/behind"
+}
+# behind_alone CODE: the same where there is no line to show.
+behind_alone() {
+    case $1 in
+        N2) echo "vhost: N2: A name is declared twice in one scope, or two modules have one name." ;;
+        F4) echo "vhost: F4: 256 calls of tasks and functions stood one within another, and one more was due." ;;
+        A2) echo "vhost: A2: A token stands where no script has it, or a name stands for a variable that isn't declared, or the script ends too early." ;;
+    esac
+    echo "vhost: see docs/FAULTS.md#$(echo "$1" | tr '[:upper:]' '[:lower:]')"
+}
+tab=$(printf '\t')
+refusals_on_a_terminal() {
+    printf 'module top;\n  reg a;\n\t reg\ta;\nendmodule\n' >a.v
+    behind a.v:3:7 "$tab reg${tab}a;" "$tab    $tab^" N2
+    refused_so "design refused: N2 at 1:3:7" 2 run a.v
+    # the files are numbered among the words that are files, scripts too, and options may stand anywhere before `--`
+    echo 'app b; startup { print "on" }' >b.app
+    behind a.v:2:7 "  reg a;" "      ^" N2
+    refused_so "design refused: N2 at 2:2:7" 2 run b.app a.v
+    refused_so "design refused: N2 at 2:2:7" 2 --order lifo run b.app --budget=5 a.v
+    refused_so "design refused: N2 at 3:2:7" 2 run --budget 9 b.app --order=seeded:4 b.app -- a.v
+    behind b.app:1:29 'app b; startup { print "on" }' "                            ^" A2
+    refused_so "application refused: b.app: A2 at 1:29" 3 run a.v b.app
+    # names that a shell could mistake
+    mkdir -p "odd at 1:1" && cp a.v "odd at 1:1/-n \$(x) *.v" && cp a.v -- -e.v && cp b.app "odd at 1:1/b: A9 at 2:2.app"
+    behind "odd at 1:1/-n \$(x) *.v:2:7" "  reg a;" "      ^" N2
+    refused_so "design refused: N2 at 1:2:7" 2 run "odd at 1:1/-n \$(x) *.v"
+    behind "-e.v:2:7" "  reg a;" "      ^" N2
+    refused_so "design refused: N2 at 1:2:7" 2 run -- -e.v
+    behind "odd at 1:1/b: A9 at 2:2.app:1:29" 'app b; startup { print "on" }' "                            ^" A2
+    refused_so "application refused: odd at 1:1/b: A9 at 2:2.app: A2 at 1:29" 3 run a.v "odd at 1:1/b: A9 at 2:2.app"
+    newline='a
+b.v'
+    cp a.v "$newline"
+    behind "a b.v:2:7" "  reg a;" "      ^" N2
+    refused_so "design refused: N2 at 1:2:7" 2 run "$newline"
+    # a place behind the last line, in an empty file, in a file that is gone, in one that may not be read twice
+    behind a.v:5:1 endmodule "         ^" N2
+    refused_so "design refused: N2 at 1:5:1" 2 run a.v
+    : >empty.v && mkfifo pipe.v
+    echo "empty.v:1:1" >"$work/behind" && behind_alone N2 >>"$work/behind"
+    refused_so "design refused: N2 at 1:1:1" 2 run empty.v
+    behind_alone N2 >"$work/behind"
+    refused_so "design refused: N2 at 1:1:1" 2 run gone.v
+    refused_so "design refused: N2 at 1:1:1" 2 run pipe.v
+    refused_so "design refused: N2 at 4:1:1" 2 run a.v
+    # bytes that a terminal would obey, and those of UTF-8, of which the first one of each character takes room
+    printf 'a \033[31m\r\n\342\204\246 \303\251 reg\r\n' >c.v
+    behind c.v:1:8 "a  [31m " "       ^" N2
+    refused_so "design refused: N2 at 1:1:8" 2 run c.v
+    behind c.v:2:8 "$(printf '\342\204\246 \303\251 reg ')" "    ^" N2
+    refused_so "design refused: N2 at 1:2:8" 2 run c.v
+    # a long line is cut around the column
+    awk 'BEGIN { for (i = 0; i < 1000; i++) printf "%d", i % 10; print "" }' >long.v
+    behind long.v:1:500 "$(cut -c401-600 long.v)" "$(printf '%99s^' '')" N2
+    refused_so "design refused: N2 at 1:1:500" 2 run long.v
+    behind long.v:1:3 "$(cut -c1-200 long.v)" "  ^" N2
+    refused_so "design refused: N2 at 1:1:3" 2 run long.v
+    # each code of a refusal has its sentence
+    for code in L1 L2 L3 L4 L5 L6 S1 S2 S3 N1 N2 N3 N4 N5 N6 N7 N8 N9 N10 N11 A1 A2 A3 A4 A5; do
+        TELLS="design refused: $code at 1:1:1" ENDS=2
+        on_terminal run a.v
+        holds grep -q "^vhost: $code: [A-Z].*\.\$" "$work/lines"
+        holds grep -q "^vhost: see docs/FAULTS.md#$(echo "$code" | tr '[:upper:]' '[:lower:]')\$" "$work/lines"
+    done
+    # a run that ended with a fault has no place
+    behind_alone F4 >"$work/behind"
+    refused_so "run fault: F4" 4 run a.v
+    # what is neither is followed by nothing
+    : >"$work/behind"
+    refused_so "budget spent" 5 run a.v
+    refused_so "run fault: design refused: N2 at 1:1:1" 4 run a.v
+    refused_so "cannot read design refused: N2 at 1:1:1 .v" 6 run a.v
+    refused_so "a line of something else" 2 run a.v
+}
+if command -v python3 >/dev/null; then refusals_on_a_terminal; else echo "python3 isn't there, so no terminal was tried"; fi
 # a status line that is missing names no part, and a closed standard output is the program's to tell
 refused_silently() {
     TELLS= ENDS=8

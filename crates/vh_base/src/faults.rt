@@ -50,14 +50,17 @@ impl Cause {
 /// A number of the machine that a run would exceed; the run ends there. (own)
 #[derive(Clone, Copy, Debug, PartialEq, Eq, Error)]
 pub enum Fault {
+    /// An occurrence within an activation within an occurrence, and so on. (own)
     #[error("a 65th frame of callbacks would stand")]
     F1,
+    /// The present time and the delay together. (own)
     #[error("a delay of the design leads to a time above 2^63-1")]
     F2,
     /// 1,048,576 entries stand and the design adds one; or 2^63 serials, or occurrence or process
     /// numbers, were given.
     #[error("the event queue is full, or a number is used up")]
     F3,
+    /// A branch of a fork inherits its parent's number. (own)
     #[error("a 257th nested call of functions or tasks in one thread")]
     F4,
 }
@@ -114,6 +117,7 @@ pub enum DesignFault {
     /// Also a use of one of another kind, as of a module's name in an expression.
     #[error("a name, a module, a port or a parameter that isn't declared")]
     N1,
+    /// At the second declaration's name (IEEE 1364-2005, 12.7).
     #[error("a name declared twice in one scope, or two modules of one name")]
     N2,
     /// A width outside 1 to 64, a bound outside 0 to 2^31-1, above 65,536 words, a replication below
@@ -134,8 +138,10 @@ pub enum DesignFault {
     /// terminal of another width than 1 (IEEE 1364-2005, 12.2 and 12.3).
     #[error("connections, parameter entries or gate terminals that don't fit")]
     N7,
+    /// At the module's name in the item that stands on the circle (IEEE 1364-2005, 12.1).
     #[error("a module that instantiates itself, directly or through others")]
     N8,
+    /// At the first byte of the first file (IEEE 1364-2005, 12.1.1).
     #[error("no top module, or more than one")]
     N9,
     /// Wrong are the arguments or a format (IEEE 1364-2005, 17).
@@ -180,14 +186,17 @@ impl DesignFault {
 /// Why an application's script is refused. (own)
 #[derive(Clone, Copy, Debug, PartialEq, Eq, Error)]
 pub enum AppFault {
+    /// At its first byte. (own)
     #[error("bytes that are no token, or a number above 2^64-1")]
     A1,
     /// Also a `calltf` or `compiletf` that is no procedure of the script, a function's size outside 1
     /// to 64, or a malformed system name.
     #[error("a token that no script has here, or an unknown variable")]
     A2,
+    /// At the word. (own)
     #[error("an unknown routine, reason, relation, property, format or mode")]
     A3,
+    /// At the name where it stands again. (own)
     #[error("a variable, a procedure or a script's name declared twice")]
     A4,
     /// A name above 100 bytes, a text above 255, nesting above 64, or more than 65,536 commands.

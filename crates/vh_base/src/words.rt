@@ -43,13 +43,16 @@ impl Reason {
 /// What is wrong with an order that is refused. (own)
 #[derive(Clone, Copy, Debug, PartialEq, Eq, Error)]
 pub enum Code {
+    /// It was freed, or never given. (own)
     #[error("a handle that isn't live, or null where one is needed")]
     E1,
     /// Also an order that only a callback's activation may give.
     #[error("a handle of the wrong kind")]
     E2,
+    /// As asked for by `get`, `get_str`, `handle` or `iterate` (IEEE 1364-2005, 26.6).
     #[error("no such property or relation for this kind")]
     E3,
+    /// As given to `put_value`. (own)
     #[error("a text that is no value in this format")]
     E4,
     /// A parameter, a constant, an operation; a system function call other than the running one,
@@ -64,6 +67,7 @@ pub enum Code {
     /// registration with delay 0.
     #[error("a change at the present time in a read-only synch")]
     E7,
+    /// Nothing is put or scheduled then. (own)
     #[error("the run has passed its finish")]
     E8,
     /// A startup registers no reason that needs an object, and only a startup registers system tasks.
@@ -75,15 +79,19 @@ pub enum Code {
     /// 65,536, or 2^63 were given.
     #[error("as many callbacks are live as may be")]
     E11,
+    /// As named in a registration. (own)
     #[error("no native of this name is in stock")]
     E12,
+    /// As named in a registration. (own)
     #[error("no script has this procedure")]
     E13,
+    /// As named in a registration. (own)
     #[error("a system name that is built in or registered")]
     E14,
     /// 1,048,576 entries stand, or 2^63 serials were given.
     #[error("the event queue is full")]
     E15,
+    /// As asked for by `get_value`, or given to `put_value`. (own)
     #[error("a value or a text that doesn't fit the format")]
     E16,
 }

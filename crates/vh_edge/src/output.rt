@@ -1,9 +1,11 @@
 ghost use Rattle.std.specs.Prelude.{◌≡◌, ◌≢◌, ◌<◌, ◌≤◌, ◌+◌, ℕ, None, length, IfOk};
 
 use std::io::ErrorKind;
+use std::os::unix::fs::FileTypeExt;
+use std::{fs, rt};
 use vh_base::{Sink, SinkFault};
 
-/// Standard output as a sink, which tells nothing. It writes the whole of each piece itself.
+/// Standard output as a sink, which tells nothing. It writes the whole of each piece itself, at once.
 #[derive(Drop)]
 pub struct Output<'a, R> {
     rt: &'a R,
@@ -30,6 +32,14 @@ impl<R: Print> Sink for Output<'_, R> {
             }
             Err(SinkFault::NoMemory) => Err(SinkFault::NoMemory),
         }
+    }
+}
+
+/// Is standard output a file or a pipe? What the system doesn't tell counts as neither.
+pub fn is_file_or_pipe<R: rt::Files>(rt: &R) -> bool {
+    match fs::metadata(rt, "/dev/stdout") {
+        Ok(found) => found.is_file() || found.file_type().is_fifo(),
+        Err(_) => false,
     }
 }
 

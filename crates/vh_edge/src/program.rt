@@ -1,19 +1,23 @@
-ghost use Rattle.std.specs.Prelude.{◌≡◌, drop, IfOk};
+ghost use Rattle.std.specs.Prelude.{◌≡◌, drop, IfOk, IsTrue, IsFalse};
 ghost use Rattle.std.specs.Process.{exit_status};
 ghost use Rattle.std.specs.Vec.Iter.{into_iter_items};
 ghost use Rattle.vh_host.specs.Report.{exit_of};
 
-use crate::output::Output;
+use crate::holding::Holding;
+use crate::output::{Output, is_file_or_pipe};
 use crate::source::Source;
 use std::alloc::Global;
 use std::env::Args;
 use std::io::ErrorKind;
 use std::process::ExitCode;
-use std::rt::Env;
+use std::rt::{Clock, Env};
 use std::{env, rt};
 use thiserror::Error;
 use vh_base::NoMemory;
 use vh_host::{Status, exit_number, run, status_line};
+
+// How many bytes of the transcript are held at most.
+const ROOM: usize = 65_536;
 
 // Why there are no words.
 #[derive(Clone, Copy, Debug, PartialEq, Eq, Error)]
@@ -26,13 +30,15 @@ enum WordsFault {
 
 /// Runs what the program's words ask for, writes the transcript to standard output and the
 /// status line to standard error, and gives the number to exit with.
-pub fn run_program<R: Env + rt::Files + Print + Eprint + AllocGlobal>(rt: &R) -> ExitCode {
+pub fn run_program<R: Env + rt::Files + Print + Eprint + Clock + AllocGlobal>(rt: &R) -> ExitCode {
     match words_of(rt) {
         Ok(words) => {
             let mut files = Source::new(rt);
-            let mut out = Output::new(rt);
+            let room = if is_file_or_pipe(rt) { ROOM } else { 0 };
+            let mut out = Holding::new(Output::new(rt), rt, rt.alloc(), room);
             let status = run(rt.alloc(), &words, &mut files, &mut out);
-            tell(rt, &words, &status)
+            let is_written = out.flush().is_ok();
+            tell(rt, &words, &once_written(status, is_written))
         }
         Err(WordsFault::NoText) => tell(rt, &Vec::new(rt.alloc()), &Status::Usage),
         Err(WordsFault::NoMemory) => ExitCode::from(exit_number(&Status::NoMemory)),
@@ -73,6 +79,18 @@ fn without_name(words: Vec<String>) -> Vec<String>
         let _name = words.remove(0);
     }
     words
+}
+
+// The status once what was held is written out. Where that failed, a failed write is told.
+fn once_written(status: Status, is_written: bool) -> Status
+    ensures written { IsTrue is_written → result ≡ status }
+    ensures unwritten { IsFalse is_written → result ≡ Status.WriteFault }
+{
+    if is_written {
+        status
+    } else {
+        Status::WriteFault
+    }
 }
 
 // Writes the status line to standard error where there is one, and gives the exit number.

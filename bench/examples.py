@@ -1,0 +1,91 @@
+#!/usr/bin/env python3
+"""Runs the examples of examples/README.md with the program that ./vhost built, or with the one that is named, and compares
+what is written with the transcripts, byte for byte. Checks also that each file of the folder stands in its table; that each
+block of a page which shows one of them is a part of it (the page names the file in a comment above the block, as
+<!-- examples/once.txt -->), and no transcript, design or script is shown without; and that the stored runs of the gate have the
+same designs, scripts and transcripts. Prints a line for each thing that isn't so, and at the end how many were tried; ends with
+1 where one wasn't so. With --files it runs nothing."""
+import pathlib
+import re
+import subprocess
+import sys
+
+TOP = pathlib.Path(__file__).resolve().parent.parent
+FOLDER = TOP / "examples"
+ROW = re.compile(r"^\| `([^`]+)` \| `(\w+\.txt)` \|", re.M)
+BLOCK = re.compile(r"(?:<!-- (\S+) -->\n+)?^```\n(.*?)^```$", re.M | re.S)
+SHOWN = re.compile(r"^(\d+ (startup|do|occ|fire|done|out|end) |module |app \w+;)", re.M)
+PAGES = ["README.md", "docs/APPLICATIONS.md", "docs/ARCHITECTURE.md", "docs/LANGUAGE.md", "docs/TRANSCRIPT.md"]
+
+tried = failed = 0
+
+
+def holds(is_so, told):
+    global tried, failed
+    tried += 1
+    if not is_so:
+        failed += 1
+        print(told)
+
+
+def runs(table, program):
+    """Each row writes its transcript, nothing else, and exits with 0."""
+    for words, transcript in table:
+        done = subprocess.run([program, "run", *words], cwd=FOLDER, capture_output=True, timeout=120)
+        same = done.stdout == (FOLDER / transcript).read_bytes()
+        told = "" if same else first_difference(done.stdout, (FOLDER / transcript).read_bytes())
+        call = " ".join(words)
+        holds(same and done.stderr == b"" and done.returncode == 0, f"{call}: exit {done.returncode} {done.stderr!r} {told}")
+
+
+def first_difference(found, wanted):
+    for number, (one, other) in enumerate(zip(found.split(b"\n"), wanted.split(b"\n")), 1):
+        if one != other:
+            return f"line {number}: {one!r}, wanted {other!r}"
+    return f"{len(found)} bytes, wanted {len(wanted)}"
+
+
+def is_part(part, whole):
+    lines, count = whole.split("\n"), len(part)
+    return any(lines[at : at + count] == part for at in range(len(lines)))
+
+
+def pages():
+    """Each block that shows an example is a part of its file, and names it."""
+    for page in PAGES:
+        for name, block in BLOCK.findall((TOP / page).read_text()):
+            part = block.rstrip("\n").split("\n")
+            if name:
+                holds(is_part(part, (TOP / name).read_text()), f"{page} shows what isn't in {name}: {part[0]}")
+            else:
+                holds(not SHOWN.search(block), f"{page} shows a block of no file: {part[0]}")
+
+
+def stored(table):
+    """A stored run of a design of the folder has its bytes and its transcript."""
+    for crate in sorted(TOP.glob("crates/vh_sim*/data")):
+        for file in crate.iterdir():
+            if (FOLDER / file.name).exists():
+                same = file.read_bytes() == (FOLDER / file.name).read_bytes()
+                holds(same, f"{file.relative_to(TOP)} isn't examples/{file.name}")
+        mode, *words = (crate.parent / "args").read_text().split()
+        for transcript in (text for row, text in table if mode == "run" and row == words):
+            same = (crate.parent / "stdout").read_bytes() == (FOLDER / transcript).read_bytes()
+            holds(same, f"stdout of {crate.parent.name} isn't examples/{transcript}")
+
+
+def main():
+    words = sys.argv[1:]
+    table = [(row.split(), text) for row, text in ROW.findall((FOLDER / "README.md").read_text())]
+    named = {name for row, text in table for name in [*row, text]}
+    for file in sorted(FOLDER.iterdir()):
+        holds(file.name in named | {"README.md"}, f"{file.name} stands in no row of examples/README.md")
+    pages()
+    stored(table)
+    if words != ["--files"]:
+        runs(table, pathlib.Path(words[0] if words else TOP / ".vhost/vhost").resolve())
+    print(f"{tried} tried, {failed} not so")
+    sys.exit(1 if failed or not table else 0)
+
+
+main()

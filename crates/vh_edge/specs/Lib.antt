@@ -1,0 +1,2 @@
+-- What is held of what was given to a sink.
+pub mod Kept
