@@ -67,7 +67,7 @@ pub enum Code {
     /// registration with delay 0.
     #[error("a change at the present time in a read-only synch")]
     E7,
-    /// Nothing is put or scheduled then. (own)
+    /// Nothing is put, scheduled, cancelled or ended then. (own)
     #[error("the run has passed its finish")]
     E8,
     /// A startup registers no reason that needs an object, and only a startup registers system tasks.
@@ -91,7 +91,7 @@ pub enum Code {
     /// 1,048,576 entries stand, or 2^63 serials were given.
     #[error("the event queue is full")]
     E15,
-    /// As asked for by `get_value`, or given to `put_value`. (own)
+    /// Of `get_value` and `put_value`, and of a text of more than 255 bytes that is asked for. (own)
     #[error("a value or a text that doesn't fit the format")]
     E16,
 }
