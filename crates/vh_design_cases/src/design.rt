@@ -373,6 +373,7 @@ fn driver(object: u32, width: u32) -> DriverInfo {
     DriverInfo {
         object: ObjId::new(object),
         low: 0,
+        below: 0,
         width,
     }
 }
@@ -867,5 +868,5 @@ fn a_block_a_wait_or_a_display_call_that_breaks_a_rule_is_refused(
 fn objects_and_expressions_are_small(rt: HostRuntime) {
     assert_eq!(rt; size_of::<ObjectInfo>(), 96);
     assert_eq!(rt; size_of::<ExprNode>(), 48);
-    assert_eq!(rt; size_of::<DriverInfo>(), 12);
+    assert_eq!(rt; size_of::<DriverInfo>(), 16);
 }

@@ -42,13 +42,27 @@ fn objects(alloc: Global) -> Result<Vec<ObjectInfo>, NoMemory> {
     Ok(all)
 }
 
-// Two drivers of each of three nets, and one that has its highest digit alone.
+// Two drivers of each of three nets; of the fourth one whose lowest digit has the net's highest place, one whose highest digit has
+// its lowest, and one of which no digit has a place.
+const DRIVERS: [(u32, u32, u32); 9] = [
+    (W, 0, 0),
+    (W, 0, 0),
+    (A, 0, 0),
+    (A, 0, 0),
+    (O, 0, 0),
+    (O, 0, 0),
+    (N, 1, 0),
+    (N, 0, 1),
+    (N, 0, 2),
+];
+
 fn drivers(alloc: Global) -> Result<Vec<DriverInfo>, NoMemory> {
     let mut all = Vec::new(alloc);
-    for (net, low) in [(W, 0), (W, 0), (A, 0), (A, 0), (O, 0), (O, 0), (N, 1)] {
+    for (net, low, below) in DRIVERS {
         all.push(DriverInfo {
             object: ObjId::new(net),
             low,
+            below,
             width: 2,
         })?;
     }
@@ -171,7 +185,12 @@ const ROWS: &[(Doing, u32, &[u8; 2])] = &[
     (Doing::Drive(5, b"z0"), O, b"01"),
     (Doing::Write(N, b"11"), N, b"zz"),
     (Doing::Drive(6, b"10"), N, b"0z"),
-    (Doing::Drive(9, b"11"), N, b"0z"),
+    (Doing::Drive(7, b"10"), N, b"01"),
+    (Doing::Drive(7, b"1x"), N, b"01"),
+    (Doing::Drive(7, b"0x"), N, b"00"),
+    (Doing::Drive(8, b"11"), N, b"00"),
+    (Doing::Drive(6, b"z1"), N, b"10"),
+    (Doing::Drive(9, b"11"), N, b"10"),
 ];
 
 fn shows(store: &Store, o: u32, text: &[u8; 2]) -> bool {

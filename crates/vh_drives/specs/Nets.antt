@@ -32,38 +32,35 @@ abbrev pub width_at : List ObjectInfo → ℕ → ℕ
 width_at os o = unwrap_or (option_map (λ i. i.width) (slice_get os o)) 1
 
 abbrev pub driver : ℕ → ℕ → ℕ → DriverInfo
-driver o low width = record { object = o; low = low; width = width }
+driver o low width = record { object = o; low = low; below = 0; width = width }
 
 -- A driver of no digit of a net: it stands past all of them. (own)
 abbrev pub past : List ObjectInfo → ℕ → ℕ → DriverInfo
 past os o width = driver o (width_at os o) width
 
--- So many digits from a place on, of which 0 is the lowest. One that begins below it and has some of the net's digits comes later.
-abbrev pub hangs_below : ℕ → ℤ → Bool
-hangs_below width (pos place) = false
-hangs_below width (negsuc below) = nat_lt (below + 1) width
+-- So many digits from a place on, of which 0 is the lowest; a place below it has that many digits below the net.
+abbrev pub from_place : List ObjectInfo → ℕ → ℕ → Option ℕ → DriverInfo
+from_place os o width None = past os o width
+from_place os o width (Some low) = driver o low width
 
-abbrev pub low_or_past : List ObjectInfo → ℕ → Option ℕ → ℕ
-low_or_past os o None = width_at os o
-low_or_past os o (Some low) = low
+abbrev pub placed : List ObjectInfo → ℕ → ℕ → ℤ → DriverInfo
+placed os o width (pos place) = from_place os o width (address_of (Some (pos place)))
+placed os o width (negsuc n) =
+    if nat_lt (n + 1) width then record { object = o; low = 0; below = n + 1; width = width } else past os o width
 
-abbrev pub placed : List ObjectInfo → ℕ → ℕ → ℤ → Option DriverInfo
-placed os o width place =
-    if hangs_below width place then None else Some (driver o (low_or_past os o (address_of (Some place))) width)
-
-abbrev pub indexed : List ObjectInfo → ℕ → Range → Bool → ℕ → Option ℤ → Option DriverInfo
-indexed os o r upwards width None = Some (past os o width)
+abbrev pub indexed : List ObjectInfo → ℕ → Range → Bool → ℕ → Option ℤ → DriverInfo
+indexed os o r upwards width None = past os o width
 indexed os o r upwards width (Some i) = placed os o width (place_of r (lowest_index r upwards i width))
 
 -- Selects are constant: one that isn't known, or is outside, drives no digit. (own)
 abbrev pub bit_driver : Scope → ℕ → Range → ExprTree → Outcome (Option DriverInfo)
 bit_driver s o r i =
-    with_ok (constant s 0 i) (λ v. with_some v (λ x. Ok (indexed s.objects o r true 1 (integer_of x))))
+    with_ok (constant s 0 i) (λ v. with_some v (λ x. Ok (Some (indexed s.objects o r true 1 (integer_of x)))))
 
 abbrev pub slice_driver : List ObjectInfo → ℕ → Select → Option DriverInfo
 slice_driver os o select.Whole = None
 slice_driver os o (select.Bit r e) = None
-slice_driver os o (select.Slice r lowest width) = placed os o width (place_of r (pos lowest))
+slice_driver os o (select.Slice r lowest width) = Some (placed os o width (place_of r (pos lowest)))
 slice_driver os o (select.Indexed upwards r e width) = None
 
 abbrev pub range_driver : Scope → Place → ℕ → Range → ExprTree → ExprTree → Outcome (Option DriverInfo)
@@ -75,7 +72,7 @@ abbrev pub indexed_driver : Scope → Place → ℕ → Range → Bool → ExprT
 indexed_driver s bracket o r upwards base width =
     with_ok (constant s 0 base) (λ b.
     with_ok (with_ok (constant s 0 width) (number_in bracket 1 MAX_WIDTH)) (λ w.
-    with_some b (λ i. with_some w (λ n. Ok (indexed s.objects o r upwards n (integer_of i))))))
+    with_some b (λ i. with_some w (λ n. Ok (Some (indexed s.objects o r upwards n (integer_of i)))))))
 
 abbrev pub part_driver : Scope → ℕ → Range → Place → PartTree → Outcome (Option DriverInfo)
 part_driver s o r bracket (at i) = bit_driver s o r i

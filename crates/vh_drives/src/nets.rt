@@ -30,26 +30,17 @@ pub fn object_width(objects: &[ObjectInfo], object: ObjId) -> u32
 fn past(objects: &[ObjectInfo], object: ObjId, width: u32) -> DriverInfo
     ensures { result ≡ Nets.past objects.now object width }
 {
+    driver(object, object_width(objects, object), width)
+}
+
+fn driver(object: ObjId, low: u32, width: u32) -> DriverInfo
+    ensures { result ≡ Nets.driver object low width }
+{
     DriverInfo {
         object,
-        low: object_width(objects, object),
+        low,
+        below: 0,
         width,
-    }
-}
-
-// Whether so many digits begin below the lowest digit of a net and have some of its.
-fn hangs_below(width: u32, place: i128) -> bool
-    ensures { result ≡ Nets.hangs_below width place }
-{
-    place < 0 && place > -i128::from(width)
-}
-
-fn low_or_past(objects: &[ObjectInfo], object: ObjId, low: Option<u32>) -> u32
-    ensures { result ≡ Nets.low_or_past objects.now object low }
-{
-    match low {
-        None => object_width(objects, object),
-        Some(low) => low,
     }
 }
 
@@ -59,15 +50,28 @@ fn address_of(place: i128) -> Option<u32>
     u32::try_from(place).ok()
 }
 
-// So many digits from a place on; those that begin below the lowest come later.
-fn placed(objects: &[ObjectInfo], object: ObjId, width: u32, place: i128) -> Option<DriverInfo>
+fn from_place(objects: &[ObjectInfo], object: ObjId, width: u32, low: Option<u32>) -> DriverInfo
+    ensures { result ≡ Nets.from_place objects.now object width low }
+{
+    match low {
+        None => past(objects, object, width),
+        Some(low) => driver(object, low, width),
+    }
+}
+
+// So many digits from a place on, which may lie below the net's lowest digit.
+fn placed(objects: &[ObjectInfo], object: ObjId, width: u32, place: i128) -> DriverInfo
     ensures { result ≡ Nets.placed objects.now object width place }
 {
-    if hangs_below(width, place) {
-        return None;
+    if place >= 0 || place <= -i128::from(width) {
+        return from_place(objects, object, width, address_of(place));
     }
-    let low = low_or_past(objects, object, address_of(place));
-    Some(DriverInfo { object, low, width })
+    DriverInfo {
+        object,
+        low: 0,
+        below: place.unsigned_abs() as u32,
+        width,
+    }
 }
 
 // The place of an index in a net that was declared so.
@@ -107,13 +111,13 @@ fn indexed(
     up: bool,
     width: u32,
     index: Option<i128>,
-) -> Option<DriverInfo>
+) -> DriverInfo
     requires below { IfSome index (λ z. z <ℤ pos (2 ^ 64)) }
     requires above { IfSome index (λ z. neg_ℤ (pos (2 ^ 64)) <ℤ z) }
     ensures { result ≡ Nets.indexed objects.now object range up width index }
 {
     match index {
-        None => Some(past(objects, object, width)),
+        None => past(objects, object, width),
         Some(index) => {
             let place = place_of(range, lowest_index(range, up, index, width));
             placed(objects, object, width, place)
@@ -136,7 +140,8 @@ fn bit_driver(
     let Some(index) = constant_at(alloc, scope, nodes, index)? else {
         return Ok(None);
     };
-    Ok(indexed(scope.objects, object, range, true, 1, integer(&index)))
+    let index = integer(&index);
+    Ok(Some(indexed(scope.objects, object, range, true, 1, index)))
 }
 
 fn slice_driver(objects: &[ObjectInfo], object: ObjId, select: Select) -> Option<DriverInfo>
@@ -147,7 +152,10 @@ fn slice_driver(objects: &[ObjectInfo], object: ObjId, select: Select) -> Option
             range,
             lowest,
             width,
-        } => placed(objects, object, width, place_of(range, i128::from(lowest))),
+        } => {
+            let place = place_of(range, i128::from(lowest));
+            Some(placed(objects, object, width, place))
+        }
         Select::Whole | Select::Bit { .. } | Select::Indexed { .. } => None,
     }
 }
@@ -197,14 +205,14 @@ fn indexed_driver(
     let Some(width) = width else {
         return Ok(None);
     };
-    Ok(indexed(
+    Ok(Some(indexed(
         scope.objects,
         object,
         range,
         up,
         width as u32,
         integer(&base),
-    ))
+    )))
 }
 
 // Some digits, by the last bracket of a select.
@@ -272,11 +280,7 @@ fn net_driver(
         (sel_tree sel.now)) result }
 {
     match sel {
-        None => Ok(Some(DriverInfo {
-            object,
-            low: 0,
-            width: object_width(scope.objects, object),
-        })),
+        None => Ok(Some(driver(object, 0, object_width(scope.objects, object)))),
         Some(Sel::Index(_, index)) => bit_driver(alloc, scope, nodes, object, range, index.get()),
         Some(Sel::Both { .. }) => Err(ElabFault::Refused(DesignFault::N1, place)),
         Some(Sel::Part(last)) => part_driver(alloc, scope, nodes, object, range, last),

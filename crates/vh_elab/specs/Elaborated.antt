@@ -1,5 +1,5 @@
--- The design of a source, or its least fault; or neither, where it has what comes later: functions with outputs, and drivers that begin
--- below their net. (IEEE 1364-2005, clause 12)
+-- The design of a source, or its least fault; or neither, where what is made of it keeps not each rule of a design, which no text is known
+-- to do. (IEEE 1364-2005, clause 12)
 use Rattle.std.specs.Prelude.{ℕ, Bool, true, false, not, ◌||◌, List, [], ◌∷◌, ◌++◌, length, map, if◌then◌else◌, Option, Some, None, is_some}
 use Rattle.vh_base.specs.declared.place.Place.{Place}
 use Rattle.vh_ast.specs.Expressions.{ExprTree}

@@ -330,6 +330,7 @@ fn whole_driver(alloc: Global, objects: &[ObjectInfo], object: ObjId) -> Result<
     drivers.push(DriverInfo {
         object,
         low: 0,
+        below: 0,
         width: object_width(objects, object),
     })?;
     Ok(Sequence::new(drivers))

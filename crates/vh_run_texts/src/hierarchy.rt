@@ -124,6 +124,14 @@ initial begin a = 0; #5 a = 1; #2 a = 0; #5 a = 1; #4 $display("%b", w); end end
 16 out "1\n"
 16 end none
 
+// Drivers with digits below their net, above it, and with none in it; one digit has two drivers.
+module top; reg [3:0] v; wire [7:4] w; wire [4:7] u; wire [3:0] x; wire [7:4] y;
+assign w[3 +: 4] = v, w[4] = 0, u[6 +: 4] = v, x[5:2] = v, y[3:0] = v;
+initial begin v = 9; #1 $display("%b %b %b %b", w, u, x, y); #1 v = 6; #1 $display("%b %b %b %b", w, u, x, y); end endmodule
+1 out "z100 zz10 01zz zzzz\n"
+3 out "z01x zz01 10zz zzzz\n"
+3 end none
+
 // Gates, one of which has a delay.
 module top; reg a, b; wire [5:0] y; wire n, f;
 and (y[5], a, b); nand (y[4], a, b); or (y[3], a, b); nor (y[2], a, b); xor (y[1], a, b); xnor (y[0], a, b);

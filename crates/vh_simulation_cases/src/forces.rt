@@ -146,6 +146,7 @@ fn parts(alloc: Global, statements: &[Does]) -> Result<Parts, NoMemory> {
     drivers.push(DriverInfo {
         object: ObjId::new(W),
         low: 0,
+        below: 0,
         width: 1,
     })?;
     let mut first = Vec::new(alloc);

@@ -189,6 +189,7 @@ fn parts(alloc: Global) -> Result<Parts, NoMemory> {
     drivers.push(DriverInfo {
         object: ObjId::new(W),
         low: 0,
+        below: 0,
         width: 1,
     })?;
     let mut waits = Vec::new(alloc);

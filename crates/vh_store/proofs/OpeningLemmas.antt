@@ -1,5 +1,5 @@
 -- Which drivers a net has before all.
-use Rattle.std.proofs.Common.{◌≡◌, ◌∙◌, ◌≢◌, ◌==◌, ℕ, zero, suc, List, [], ◌∷◌, ◌++◌, map, filter, Bool, true, false, cond, Option, Some, None, slice_get, slice_set, refl, ap, sym, append_assoc}
+use Rattle.std.proofs.Common.{◌≡◌, ◌∙◌, ◌≢◌, ◌==◌, ◌+◌, ℕ, zero, suc, List, [], ◌∷◌, ◌++◌, map, filter, take, length, Bool, true, false, cond, Option, Some, None, slice_get, slice_set, refl, ap, sym, arith, append_assoc, length-append}
 use Rattle.std.specs.List.{fold}
 use Rattle.std.specs.Option.{option_map}
 use Rattle.std.proofs.lemmas.Bool.{eqb-true, eqb-false}
@@ -12,9 +12,10 @@ use Rattle.vh_nodes.specs.declared.object.ObjectInfo.{ObjectInfo}
 use Rattle.vh_nodes.specs.Kinds.{rank, is_net, is_memory}
 use Rattle.vh_design.specs.Shape.{Shape}
 use Rattle.vh_store.specs.declared.net.Driven.{Driven}
+use Rattle.vh_store.specs.declared.store.DriverPlace.{DriverPlace}
 use Rattle.vh_store.specs.Contents.{Record, Net, net, plain, with_record}
-use Rattle.vh_store.specs.Opening.{table_of, undriven, opening_record, opening_driver, with_one_driver, Wired, wired}
-use Rattle.vh_store.specs.Laws.{drives, HasItsDrivers}
+use Rattle.vh_store.specs.Opening.{table_of, undriven, opening_record, opening_driver, opening_wired, with_one_driver, count_at, Wired, wired}
+use Rattle.vh_store.specs.Laws.{drives, HasItsDrivers, HasItsPlace}
 
 -- One record is set.
 set-here : {X : Type 0} (rs : List X) (o : ℕ) (r new : X) → slice_get rs o ≡ Some r → slice_get (slice_set rs o new) o ≡ Some new
@@ -82,3 +83,84 @@ has-its-drivers d o i there is =
     (record { table = table_of i.detail; undriven = undriven i; drivers = [] }) []
     (slice_get-map (opening_record d.exprs) d.objects o ∙ ap (λ (x : Option ObjectInfo). option_map (opening_record d.exprs) x) there
     ∙ ap Some (net-base d i is))
+
+-- A list that gets longer keeps what it has; the last comes to its end.
+get-front : {X : Type 0} (xs ys : List X) (k : ℕ) (x : X) → slice_get xs k ≡ Some x → slice_get (xs ++ ys) k ≡ Some x
+get-front [] ys k x there = absurd (cc)
+get-front (z ∷ xs) ys zero x there = there
+get-front (z ∷ xs) ys (suc k) x there = get-front xs ys k x there
+
+get-last : {X : Type 0} (xs : List X) (x : X) → slice_get (xs ++ x ∷ []) (length xs) ≡ Some x
+get-last [] x = refl
+get-last (z ∷ xs) x = get-last xs x
+
+-- What has its place keeps it.
+place-stays : (w : Wired) (xs : List DriverInfo) (k : ℕ) (p : DriverPlace) → slice_get w.drivers k ≡ Some p
+    → slice_get (fold wired w xs).drivers k ≡ Some p
+place-stays w [] k p there = there
+place-stays w (x ∷ xs) k p there = place-stays (wired w x) xs k p (get-front w.drivers _ k p there)
+
+count-of : (r : Option Record) (n : Net) (ys : List Driven) → r ≡ Some (driven_net n ys) → count_at r ≡ length ys
+count-of r n ys is = ap count_at is
+
+-- A net has one driver more, or is left alone.
+one-more : (w : Wired) (x : DriverInfo) (o : ℕ) (n : Net) (ys : List Driven) → slice_get w.records o ≡ Some (driven_net n ys)
+    → (b : Bool) → drives o x ≡ b
+    → (zs : List Driven) × (slice_get (wired w x).records o ≡ Some (driven_net n zs)) × (length zs ≡ length (filter (drives o) (x ∷ [])) + length ys)
+one-more w x o n ys there true is =
+    let here : x.object ≡ o = eqb-true x.object o is in (
+      ys ++ opening_driver x ∷ [],
+      ap (λ (p : ℕ). slice_get (with_record (slice_get w.records p) p (with_one_driver x) w.records) o) here
+          ∙ one-here w.records o x n ys (slice_get w.records o) refl there,
+      length-append ys (opening_driver x ∷ []) ∙ (omega arith ∙ ap (λ (b : Bool). length (cond b (x ∷ []) []) + length ys) (sym is)),
+    )
+one-more w x o n ys there false is =
+    let other : o ≢ x.object = λ e. eqb-false x.object o is (sym e) in
+    let nothing : length ys ≡ 0 + length ys = omega arith in (
+      ys,
+      one-there w.records o x.object x (slice_get w.records x.object) other ∙ there,
+      nothing ∙ ap (λ (b : Bool). length (cond b (x ∷ []) []) + length ys) (sym is),
+    )
+
+more-before : (o : ℕ) (x : DriverInfo) (xs : List DriverInfo) (b : Bool) → drives o x ≡ b
+    → length (filter (drives o) (x ∷ xs)) ≡ length (filter (drives o) (x ∷ [])) + length (filter (drives o) xs)
+more-before o x xs true is = rw is (omega arith)
+more-before o x xs false is = rw is (omega arith)
+
+abbrev driver_place : ℕ → ℕ → DriverPlace
+driver_place o k = record { object = o; index = k }
+
+its-place : (w : Wired) (xs : List DriverInfo) (x : ℕ) (i : DriverInfo) (n : Net) (ys : List Driven) → slice_get xs x ≡ Some i
+    → slice_get w.records i.object ≡ Some (driven_net n ys)
+    → slice_get (fold wired w xs).drivers (length w.drivers + x)
+    ≡ Some (record { object = i.object; index = length ys + length (filter (drives i.object) (take x xs)) })
+its-place w [] x i n ys here there = absurd (cc)
+its-place w (j ∷ xs) zero i n ys here there =
+    let same : j ≡ i = cc in
+    let count = count-of (slice_get w.records i.object) n ys there in
+    let place = get-last w.drivers (record { object = j.object; index = count_at (slice_get w.records j.object) }) in
+    let at : length w.drivers ≡ length w.drivers + 0 = omega arith in
+    let none : length ys ≡ length ys + 0 = omega arith in
+    ap (λ (k : ℕ). slice_get (fold wired w (j ∷ xs)).drivers k) (sym at)
+    ∙ (place-stays (wired w j) xs (length w.drivers) _ place
+    ∙ (ap (λ (y : DriverInfo). Some (driver_place y.object (count_at (slice_get w.records y.object)))) same
+    ∙ ap (λ (c : ℕ). Some (driver_place i.object c)) (count ∙ none)))
+its-place w (j ∷ xs) (suc x) i n ys here there =
+    let more = one-more w j i.object n ys there (drives i.object j) refl in
+    let long = length-append w.drivers (record { object = j.object; index = count_at (slice_get w.records j.object) } ∷ []) in
+    let at : length (wired w j).drivers + x ≡ length w.drivers + suc x = omega (arith, long) in
+    let sum = more-before i.object j (take x xs) (drives i.object j) refl in
+    ap (λ (k : ℕ). slice_get (fold wired (wired w j) xs).drivers k) (sym at)
+    ∙ (its-place (wired w j) xs x i n more.0 here more.1
+    ∙ ap (λ (c : ℕ). Some (driver_place i.object c)) (omega (arith, sum, more.2)))
+
+pub has-its-place : HasItsPlace
+has-its-place d x i o here there is =
+    let none : x ≡ 0 + x = omega arith in
+    let all : length (filter (drives i.object) (take x d.drivers)) ≡ 0 + length (filter (drives i.object) (take x d.drivers)) = omega arith in
+    ap (λ (k : ℕ). slice_get (opening_wired d).drivers k) none
+    ∙ (its-place (record { records = map (opening_record d.exprs) d.objects; drivers = [] }) d.drivers x i
+    (record { table = table_of o.detail; undriven = undriven o; drivers = [] }) [] here
+    (slice_get-map (opening_record d.exprs) d.objects i.object ∙ ap (λ (y : Option ObjectInfo). option_map (opening_record d.exprs) y) there
+    ∙ ap Some (net-base d o is))
+    ∙ ap (λ (c : ℕ). Some (driver_place i.object c)) (sym all))

@@ -1,5 +1,5 @@
 -- What the definitions mean for the drivers of a net. (IEEE 1364-2005, 4.6 and 6.1)
-use Rattle.std.specs.Prelude.{◌≡◌, ◌<◌, ◌==◌, ℕ, Bool, true, List, ◌∷◌, ◌++◌, map, filter, Some, slice_get, slice_index_or}
+use Rattle.std.specs.Prelude.{◌≡◌, ◌+◌, ◌-◌, ◌<◌, ◌==◌, nat_lt, if◌then◌else◌, ℕ, Bool, true, List, ◌∷◌, ◌++◌, map, filter, take, length, Some, slice_get, slice_index_or}
 use Rattle.std.specs.List.{fold}
 use Rattle.vh_logic.specs.declared.digits.Digit.{Digit}
 use Rattle.vh_logic.specs.declared.digits.Digit.TheVariants.{Z}
@@ -10,19 +10,21 @@ use Rattle.vh_nodes.specs.declared.object.ObjectInfo.{ObjectInfo}
 use Rattle.vh_nodes.specs.Kinds.{is_net}
 use Rattle.vh_design.specs.Shape.{Shape}
 use Rattle.vh_store.specs.declared.net.Driven.{Driven}
+use Rattle.vh_store.specs.declared.store.DriverPlace.{DriverPlace}
 use Rattle.vh_store.specs.Contents.{Record, net, plain}
 use Rattle.vh_store.specs.Opening.{table_of, undriven, opening_driver, opening_wired}
-use Rattle.vh_store.specs.Resolution.{digit_joined, placed, resolution}
+use Rattle.vh_store.specs.Resolution.{digit_joined, resolution}
 
--- The digit that a driver gives a place of its net.
-abbrev pub digit_given : Vector → ℕ → Driven → Digit
-digit_given undriven i d = slice_index_or (placed undriven d.low d.value).digits i Z
+-- The digit that a driver gives a place of its net: the one as far above those that lie below the net as the place is above
+-- where the driver begins; z where it has none.
+abbrev pub digit_given : ℕ → Driven → Digit
+digit_given i d = if nat_lt i d.low then Z else slice_index_or d.value.digits (d.below + (i - d.low)) Z
 
 -- Each digit of a net is the join of the digits that its drivers give its place, by the table of its type.
 abbrev pub JoinsDigits : Type 0
 JoinsDigits = (t : NetType) (w : ℕ) (g : Bool) (ds : List Driven) (i : ℕ) → i < w
     → slice_index_or (resolution t (filled w Z g) ds).digits i Z
-    ≡ fold (digit_joined t) Z (map (digit_given (filled w Z g) i) ds)
+    ≡ fold (digit_joined t) Z (map (digit_given i) ds)
 
 -- Their order doesn't matter: two neighbours may change places.
 abbrev pub HasNoOrder : Type 0
@@ -43,3 +45,12 @@ net_before xs o i = plain (net (record {
 abbrev pub HasItsDrivers : Type 0
 HasItsDrivers = (d : Shape) (o : ℕ) (i : ObjectInfo) → slice_get d.objects o ≡ Some i → is_net i.kind ≡ true
     → slice_get (opening_wired d).records o ≡ Some (net_before d.drivers o i)
+
+-- A driver's place is how many of the drivers before it drive the same net.
+abbrev pub place_before : List DriverInfo → ℕ → DriverInfo → DriverPlace
+place_before xs x i = record { object = i.object; index = length (filter (drives i.object) (take x xs)) }
+
+abbrev pub HasItsPlace : Type 0
+HasItsPlace = (d : Shape) (x : ℕ) (i : DriverInfo) (o : ObjectInfo) → slice_get d.drivers x ≡ Some i
+    → slice_get d.objects i.object ≡ Some o → is_net o.kind ≡ true
+    → slice_get (opening_wired d).drivers x ≡ Some (place_before d.drivers x i)

@@ -81,7 +81,7 @@ pub record Wired : Type 0 where
 
 -- A driver is z at each digit, behind those that its net has.
 abbrev pub opening_driver : DriverInfo → Driven
-opening_driver x = record { low = x.low; value = filled x.width Z false }
+opening_driver x = record { low = x.low; below = x.below; value = filled x.width Z false }
 
 abbrev pub one_driver_more : DriverInfo → Assigned → Assigned
 one_driver_more x (variable v) = variable v

@@ -1,5 +1,5 @@
 -- What a net shows by its drivers. (IEEE 1364-2005, 4.6)
-use Rattle.std.specs.Prelude.{ℕ, ◌-◌, List, if◌then◌else◌, min, nat_lt}
+use Rattle.std.specs.Prelude.{ℕ, ◌-◌, List, ◌&&◌, if◌then◌else◌, min, nat_lt}
 use Rattle.std.specs.List.{fold}
 use Rattle.vh_logic.specs.declared.digits.Digit.{Digit}
 use Rattle.vh_logic.specs.declared.digits.Digit.TheVariants.{Z}
@@ -41,14 +41,19 @@ digit_joined net.TriOr = wired_or_digit
 abbrev pub joined : NetType → Vector → Vector → Vector
 joined t a b = record { digits = zip_digits (digit_joined t) a.digits b.digits; signed = a.signed }
 
--- The digits of a driver at their place in a net, z at all others; digits past the net's are driven nowhere.
-abbrev pub placed : Vector → ℕ → Vector → Vector
-placed undriven low v =
-    if nat_lt low (width_of undriven) then replaced undriven low (part_of v 0 (min (width_of v) (width_of undriven - low)))
+-- The digits of a driver that have a place in a net, those below the net's lowest and past its highest being driven nowhere.
+abbrev pub digits_inside : ℕ → Driven → Vector
+digits_inside width d = part_of d.value d.below (min (width_of d.value - d.below) (width - d.low))
+
+-- These digits at their place in the net, z at all others.
+abbrev pub placed : Vector → Driven → Vector
+placed undriven d =
+    if nat_lt d.low (width_of undriven) && nat_lt d.below (width_of d.value)
+    then replaced undriven d.low (digits_inside (width_of undriven) d)
     else undriven
 
 abbrev pub with_driver : NetType → Vector → Vector → Driven → Vector
-with_driver t undriven v d = joined t v (placed undriven d.low d.value)
+with_driver t undriven v d = joined t v (placed undriven d)
 
 -- What a net shows: its drivers joined one after another, and without drivers z at each digit.
 abbrev pub resolution : NetType → Vector → List Driven → Vector

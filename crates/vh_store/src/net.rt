@@ -12,10 +12,12 @@ use vh_base::NoMemory;
 use vh_logic::{Vec4, replace, select};
 use vh_nodes::NetType;
 
-// A driver of a net: the place of its lowest digit, and its value.
+// A driver of a net: its value, of whose digits so many lie below the net's lowest, and the place
+// of the next.
 #[derive(Clone, Copy)]
 pub(crate) struct Driven {
     pub(crate) low: u32,
+    pub(crate) below: u32,
     pub(crate) value: Vec4,
 }
 
@@ -47,16 +49,18 @@ impl Model for Net {
 }
 
 // The digits of a driver at their place in a net.
-fn placed(undriven: &Vec4, low: u32, v: &Vec4) -> Vec4
-    ensures value { result ≡ placed undriven.now low v.now }
+fn placed(undriven: &Vec4, driver: &Driven) -> Vec4
+    ensures value { result ≡ placed undriven.now driver.now }
     ensures width { width_of result ≡ width_of undriven.now }
 {
     let width = undriven.width();
-    if low >= width {
+    let most = driver.value.width();
+    if driver.low >= width || driver.below >= most {
         return *undriven;
     }
-    let part = select(v, 0, v.width().min(width - low));
-    replace(undriven, low, &part)
+    let inside = (most - driver.below).min(width - driver.low);
+    let part = select(&driver.value, driver.below, inside);
+    replace(undriven, driver.low, &part)
 }
 
 // What drivers make of a net: it goes once over them.
@@ -66,7 +70,7 @@ fn resolve(table: NetType, undriven: &Vec4, drivers: &[Driven]) -> Vec4
 {
     let mut all = *undriven;
     for driver in drivers {
-        let digits = placed(undriven, driver.low, &driver.value);
+        let digits = placed(undriven, driver);
         all = join(table, &all, &digits);
     }
     all
@@ -120,17 +124,16 @@ impl Net {
     }
 
     // A driver more; answers how many there were.
-    pub(crate) fn add(&mut self, low: u32, value: Vec4) -> Result<u32, NoMemory>
+    pub(crate) fn add(&mut self, driver: Driven) -> Result<u32, NoMemory>
         ensures count { IfOk result (λ i. i ≡ length self.old.drivers) }
-        ensures net { IfOk result (λ i. self.new ≡ record self.old {
-          drivers = self.old.drivers ++ record { low = low; value = value } ∷ [];
-        }) }
+        ensures net { IfOk result
+            (λ i. self.new ≡ record self.old { drivers = self.old.drivers ++ driver ∷ [] }) }
     {
         let Ok(index) = u32::try_from(self.drivers.len()) else {
             return Err(NoMemory);
         };
-        let digits = placed(&self.undriven, low, &value);
-        self.drivers.push(Driven { low, value })?;
+        let digits = placed(&self.undriven, &driver);
+        self.drivers.push(driver)?;
         self.resolved = join(self.table, &self.resolved, &digits);
         Ok(index)
     }

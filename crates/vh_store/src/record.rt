@@ -5,7 +5,7 @@ ghost use Rattle.vh_store.specs.Contents.{is_net, plain, assigned_at, assigned, 
 ghost use Rattle.vh_store.specs.Views.{assigned_of, record_of};
 ghost use Rattle.vh_store.specs.Acts.{acted};
 
-use crate::net::Net;
+use crate::net::{Driven, Net};
 use vh_base::{ExprId, NoMemory};
 use vh_design::DriverInfo;
 use vh_logic::{Digit, Vec4};
@@ -82,7 +82,11 @@ impl Base {
             (λ i. assigned_of self.new ≡ one_driver_more x.now (assigned_of self.old)) }
     {
         match self {
-            Base::Net(net) => net.add(x.low, Vec4::filled(x.width, Digit::Z, false)),
+            Base::Net(net) => net.add(Driven {
+                low: x.low,
+                below: x.below,
+                value: Vec4::filled(x.width, Digit::Z, false),
+            }),
             Base::Value(_) | Base::Words(..) => Ok(0),
         }
     }
