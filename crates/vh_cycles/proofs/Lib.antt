@@ -4,3 +4,5 @@ pub mod CyclesLemmas
 pub mod LaidLemmas
 -- What is seen, and what waits
 pub mod WalkLemmas
+-- Depths, and numbers of nodes by so much higher
+pub mod DepthsLemmas

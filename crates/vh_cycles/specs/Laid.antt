@@ -1,5 +1,5 @@
 -- How the code lays out a graph, and goes over it.
-use Rattle.std.specs.Prelude.{◌≡◌, ℕ, ◌+◌, ◌<◌, max, List, [], ◌∷◌, ◌++◌, length, Bool, true, ◌||◌, ◌==◌, nat_lt, if◌then◌else◌, slice_index_or, slice_set}
+use Rattle.std.specs.Prelude.{◌≡◌, ℕ, ◌+◌, ◌-◌, ◌<◌, ◌≤◌, max, min, List, [], ◌∷◌, ◌++◌, length, Bool, true, ◌||◌, ◌==◌, nat_lt, if◌then◌else◌, slice_index_or, slice_set}
 use Rattle.vh_cycles.specs.declared.ranks.TheConstants.{NO_RANK}
 use Rattle.vh_cycles.specs.Cycles.{Edge}
 
@@ -47,3 +47,33 @@ is_falling ranks e = nat_lt (rank_of ranks e.1) (rank_of ranks e.0)
 
 abbrev pub may_fall : List ℕ → Edge → Bool
 may_fall ranks e = (rank_of ranks e.0 == NO_RANK) || is_falling ranks e
+
+-- The least number of a node, up to a bound.
+abbrev pub least_from : ℕ → List Edge → ℕ
+least_from n [] = n
+least_from n (e ∷ es) = least_from (min (min n e.0) e.1) es
+
+-- No node has a lesser number.
+abbrev pub NotBelow : ℕ → List Edge → Type 0
+NotBelow base es =
+    (k : ℕ) (d : Edge) → k < length es → (base ≤ (slice_index_or es k d).0) × (base ≤ (slice_index_or es k d).1)
+
+-- Edges whose nodes have numbers by so much higher.
+abbrev pub raised : ℕ → List Edge → List Edge
+raised base [] = []
+raised base (e ∷ es) = (e.0 + base, e.1 + base) ∷ raised base es
+
+-- The depth of a node by a table, and by one that begins with this node.
+abbrev pub depth_in : List ℕ → ℕ → ℕ
+depth_in depths x = slice_index_or depths x 0
+
+abbrev pub depth_behind : ℕ → List ℕ → ℕ → ℕ
+depth_behind base depths x = if nat_lt x base then 0 else depth_in depths (x - base)
+
+-- The beginning of an edge is deeper than its end is by a table.
+abbrev pub deepened : List ℕ → List ℕ → Edge → List ℕ
+deepened depths next e = slice_set next e.0 (max (slice_index_or next e.0 0) (depth_in depths e.1 + 1))
+
+abbrev pub all_deepened : List ℕ → List ℕ → List Edge → List ℕ
+all_deepened depths next [] = next
+all_deepened depths next (e ∷ es) = all_deepened depths (deepened depths next e) es

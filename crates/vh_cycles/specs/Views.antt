@@ -1,5 +1,5 @@
 -- How contracts see what the code holds.
-use Rattle.std.specs.Prelude.{ℕ, List, map, Vec}
+use Rattle.std.specs.Prelude.{ℕ, List, map, Option, Some, None, Vec}
 use Rattle.vh_cycles.specs.declared.edge.Edge as of
 use Rattle.vh_cycles.specs.declared.walk.Walk as held
 use Rattle.vh_cycles.specs.Cycles.{Edge}
@@ -16,3 +16,7 @@ rows_seen rows = map (λ r. r.items) rows
 
 abbrev pub walk_seen : held.Walk → Walk
 walk_seen w = (w.seen.items, w.waiting.items)
+
+abbrev pub depths_seen : {A : Type 0} → Option (Vec ℕ A) → Option (List ℕ)
+depths_seen None = None
+depths_seen (Some v) = Some v.items

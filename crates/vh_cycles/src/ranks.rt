@@ -93,7 +93,11 @@ fn add_ends(counts: &[u32], ranked: &mut Vec<u32>) -> Result<(), NoMemory> {
 }
 
 // The nodes from which no way leads to a cycle, each behind those to which its edges lead.
-fn ranked_nodes(alloc: Global, nodes: usize, edges: &[Edge]) -> Result<Vec<u32>, NoMemory> {
+pub(crate) fn ranked_nodes(
+    alloc: Global,
+    nodes: usize,
+    edges: &[Edge],
+) -> Result<Vec<u32>, NoMemory> {
     let mut counts = count_out(alloc, nodes, edges)?;
     let begins = begins_of(alloc, nodes, edges)?;
     let mut ranked = Vec::new(alloc);

@@ -7,7 +7,7 @@ use std::alloc::Global;
 use vh_base::NoMemory;
 
 // More than the number of each node.
-fn node_count(edges: &[Edge]) -> usize
+pub(crate) fn node_count(edges: &[Edge]) -> usize
     ensures { result ≡ Laid.nodes_from 0 (edges_seen edges.now) }
 {
     let mut count = 0;
