@@ -1,0 +1,4 @@
+pub mod DigitsLemmas
+pub mod FoundLemmas
+pub mod StopsLemmas
+pub mod NumbersLemmas
