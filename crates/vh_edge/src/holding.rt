@@ -121,12 +121,16 @@ impl<'a, K: Sink, C: Clock> Holding<'a, K, C> {
             && self.held.extend_from_slice(piece).is_ok()
     }
 
-    // Has the oldest of what is held been held long enough? It has where the clock can't be read.
+    // Has the oldest of what is held been held long enough? It has where the clock can't be read; the
+    // clock isn't read where nothing is held.
     fn is_due(&mut self) -> bool
         ensures held { self.new.held.items ≡ self.old.held.items }
         ensures sink { self.new.sink ≡ self.old.sink }
         ensures room { self.new.room ≡ self.old.room }
     {
+        if self.held.is_empty() {
+            return false;
+        }
         let Ok(now) = Instant::now(self.clock) else {
             return true;
         };

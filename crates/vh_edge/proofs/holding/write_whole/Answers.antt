@@ -1,5 +1,5 @@
 use Rattle.std.proofs.Common.{arith, ◌∙◌}
-use Rattle.vh_edge.proofs.Appended.{appended_front, sliced_rest}
+use Rattle.vh_host.proofs.Appended.{appended_front, sliced_rest}
 use Rattle.vh_edge.proofs.holding.write_whole.Goals as goal
 
 pub loop-done-preserved : goal.loop-done-preserved
