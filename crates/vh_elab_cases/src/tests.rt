@@ -265,19 +265,384 @@ fn two_faults(rt: HostRuntime) -> Result<(), Fail> {
     check_all(&rt, rt.alloc(), &TWO_FAULTS)
 }
 
-// What comes later.
-static LATER: [(&[u8], &str); 1] = [(
-    b"module m; wire [7:4] w; assign w[3 +: 4] = 1; endmodule",
-    "later",
-)];
+// Each two of the faults in one text, in either order: `N9` and `N8` come first, then the faults of the first pass, then those of
+// the second, and of one pass the first by its place. (own)
+static PAIRS: [(&[u8], &str); 99] = [
+    (b"module m; initial a = 1; reg b, b; endmodule", "N2 1:33"),
+    (b"module m; reg b, b; initial a = 1; endmodule", "N2 1:18"),
+    (
+        b"module m; initial a = 1; reg [64:0] c; endmodule",
+        "N3 1:30",
+    ),
+    (
+        b"module m; reg [64:0] c; initial a = 1; endmodule",
+        "N3 1:15",
+    ),
+    (
+        b"module m; initial a = 1; parameter D = D; endmodule",
+        "N4 1:36",
+    ),
+    (
+        b"module m; parameter D = D; initial a = 1; endmodule",
+        "N4 1:21",
+    ),
+    (
+        b"module m; initial a = 1; wire g; initial g = 1; endmodule",
+        "N1 1:19",
+    ),
+    (
+        b"module m; wire g; initial g = 1; initial a = 1; endmodule",
+        "N5 1:27",
+    ),
+    (
+        b"module m; initial a = 1; reg h; initial @(h + 1) ; endmodule",
+        "N1 1:19",
+    ),
+    (
+        b"module m; reg h; initial @(h + 1) ; initial a = 1; endmodule",
+        "N6 1:28",
+    ),
+    (
+        b"module m; initial a = 1; wire k; and (k, k); endmodule",
+        "N1 1:19",
+    ),
+    (
+        b"module m; wire k; and (k, k); initial a = 1; endmodule",
+        "N7 1:19",
+    ),
+    (
+        b"module m; initial a = 1; endmodule module s; s t(); endmodule",
+        "N8 1:46",
+    ),
+    (
+        b"module m; initial a = 1; endmodule module z; endmodule",
+        "N9 1:1",
+    ),
+    (
+        b"module m; initial a = 1; initial $foo; endmodule",
+        "N1 1:19",
+    ),
+    (
+        b"module m; initial $foo; initial a = 1; endmodule",
+        "N10 1:19",
+    ),
+    (
+        b"module m; initial a = 1; reg w0 [0:65535], w1 [0:65535], w2 [0:65535], w3 [0:65535], w4 [0:65535], w5 [0:65535], w6 [0:65535], w7 [0:65535], w8 [0:65535], w9 [0:65535], w10 [0:65535], w11 [0:65535], w12 [0:65535], w13 [0:65535], w14 [0:65535], w15 [0:65535], v [0:0]; endmodule",
+        "N11 1:260",
+    ),
+    (
+        b"module m; reg w0 [0:65535], w1 [0:65535], w2 [0:65535], w3 [0:65535], w4 [0:65535], w5 [0:65535], w6 [0:65535], w7 [0:65535], w8 [0:65535], w9 [0:65535], w10 [0:65535], w11 [0:65535], w12 [0:65535], w13 [0:65535], w14 [0:65535], w15 [0:65535], v [0:0]; initial a = 1; endmodule",
+        "N11 1:245",
+    ),
+    (b"module m; reg b, b; reg [64:0] c; endmodule", "N2 1:18"),
+    (b"module m; reg [64:0] c; reg b, b; endmodule", "N3 1:15"),
+    (b"module m; reg b, b; parameter D = D; endmodule", "N2 1:18"),
+    (b"module m; parameter D = D; reg b, b; endmodule", "N4 1:21"),
+    (
+        b"module m; reg b, b; wire g; initial g = 1; endmodule",
+        "N2 1:18",
+    ),
+    (
+        b"module m; wire g; initial g = 1; reg b, b; endmodule",
+        "N2 1:41",
+    ),
+    (
+        b"module m; reg b, b; reg h; initial @(h + 1) ; endmodule",
+        "N2 1:18",
+    ),
+    (
+        b"module m; reg h; initial @(h + 1) ; reg b, b; endmodule",
+        "N2 1:44",
+    ),
+    (
+        b"module m; reg b, b; wire k; and (k, k); endmodule",
+        "N2 1:18",
+    ),
+    (
+        b"module m; wire k; and (k, k); reg b, b; endmodule",
+        "N2 1:38",
+    ),
+    (
+        b"module m; reg b, b; endmodule module s; s t(); endmodule",
+        "N8 1:41",
+    ),
+    (
+        b"module m; reg b, b; endmodule module z; endmodule",
+        "N9 1:1",
+    ),
+    (b"module m; reg b, b; initial $foo; endmodule", "N2 1:18"),
+    (b"module m; initial $foo; reg b, b; endmodule", "N2 1:32"),
+    (
+        b"module m; reg b, b; reg w0 [0:65535], w1 [0:65535], w2 [0:65535], w3 [0:65535], w4 [0:65535], w5 [0:65535], w6 [0:65535], w7 [0:65535], w8 [0:65535], w9 [0:65535], w10 [0:65535], w11 [0:65535], w12 [0:65535], w13 [0:65535], w14 [0:65535], w15 [0:65535], v [0:0]; endmodule",
+        "N2 1:18",
+    ),
+    (
+        b"module m; reg w0 [0:65535], w1 [0:65535], w2 [0:65535], w3 [0:65535], w4 [0:65535], w5 [0:65535], w6 [0:65535], w7 [0:65535], w8 [0:65535], w9 [0:65535], w10 [0:65535], w11 [0:65535], w12 [0:65535], w13 [0:65535], w14 [0:65535], w15 [0:65535], v [0:0]; reg b, b; endmodule",
+        "N11 1:245",
+    ),
+    (
+        b"module m; reg [64:0] c; parameter D = D; endmodule",
+        "N3 1:15",
+    ),
+    (
+        b"module m; parameter D = D; reg [64:0] c; endmodule",
+        "N4 1:21",
+    ),
+    (
+        b"module m; reg [64:0] c; wire g; initial g = 1; endmodule",
+        "N3 1:15",
+    ),
+    (
+        b"module m; wire g; initial g = 1; reg [64:0] c; endmodule",
+        "N3 1:38",
+    ),
+    (
+        b"module m; reg [64:0] c; reg h; initial @(h + 1) ; endmodule",
+        "N3 1:15",
+    ),
+    (
+        b"module m; reg h; initial @(h + 1) ; reg [64:0] c; endmodule",
+        "N3 1:41",
+    ),
+    (
+        b"module m; reg [64:0] c; wire k; and (k, k); endmodule",
+        "N3 1:15",
+    ),
+    (
+        b"module m; wire k; and (k, k); reg [64:0] c; endmodule",
+        "N3 1:35",
+    ),
+    (
+        b"module m; reg [64:0] c; endmodule module s; s t(); endmodule",
+        "N8 1:45",
+    ),
+    (
+        b"module m; reg [64:0] c; endmodule module z; endmodule",
+        "N9 1:1",
+    ),
+    (
+        b"module m; reg [64:0] c; initial $foo; endmodule",
+        "N3 1:15",
+    ),
+    (
+        b"module m; initial $foo; reg [64:0] c; endmodule",
+        "N3 1:29",
+    ),
+    (
+        b"module m; reg [64:0] c; reg w0 [0:65535], w1 [0:65535], w2 [0:65535], w3 [0:65535], w4 [0:65535], w5 [0:65535], w6 [0:65535], w7 [0:65535], w8 [0:65535], w9 [0:65535], w10 [0:65535], w11 [0:65535], w12 [0:65535], w13 [0:65535], w14 [0:65535], w15 [0:65535], v [0:0]; endmodule",
+        "N3 1:15",
+    ),
+    (
+        b"module m; reg w0 [0:65535], w1 [0:65535], w2 [0:65535], w3 [0:65535], w4 [0:65535], w5 [0:65535], w6 [0:65535], w7 [0:65535], w8 [0:65535], w9 [0:65535], w10 [0:65535], w11 [0:65535], w12 [0:65535], w13 [0:65535], w14 [0:65535], w15 [0:65535], v [0:0]; reg [64:0] c; endmodule",
+        "N11 1:245",
+    ),
+    (
+        b"module m; parameter D = D; wire g; initial g = 1; endmodule",
+        "N4 1:21",
+    ),
+    (
+        b"module m; wire g; initial g = 1; parameter D = D; endmodule",
+        "N4 1:44",
+    ),
+    (
+        b"module m; parameter D = D; reg h; initial @(h + 1) ; endmodule",
+        "N4 1:21",
+    ),
+    (
+        b"module m; reg h; initial @(h + 1) ; parameter D = D; endmodule",
+        "N4 1:47",
+    ),
+    (
+        b"module m; parameter D = D; wire k; and (k, k); endmodule",
+        "N4 1:21",
+    ),
+    (
+        b"module m; wire k; and (k, k); parameter D = D; endmodule",
+        "N4 1:41",
+    ),
+    (
+        b"module m; parameter D = D; endmodule module s; s t(); endmodule",
+        "N8 1:48",
+    ),
+    (
+        b"module m; parameter D = D; endmodule module z; endmodule",
+        "N9 1:1",
+    ),
+    (
+        b"module m; parameter D = D; initial $foo; endmodule",
+        "N4 1:21",
+    ),
+    (
+        b"module m; initial $foo; parameter D = D; endmodule",
+        "N4 1:35",
+    ),
+    (
+        b"module m; parameter D = D; reg w0 [0:65535], w1 [0:65535], w2 [0:65535], w3 [0:65535], w4 [0:65535], w5 [0:65535], w6 [0:65535], w7 [0:65535], w8 [0:65535], w9 [0:65535], w10 [0:65535], w11 [0:65535], w12 [0:65535], w13 [0:65535], w14 [0:65535], w15 [0:65535], v [0:0]; endmodule",
+        "N4 1:21",
+    ),
+    (
+        b"module m; reg w0 [0:65535], w1 [0:65535], w2 [0:65535], w3 [0:65535], w4 [0:65535], w5 [0:65535], w6 [0:65535], w7 [0:65535], w8 [0:65535], w9 [0:65535], w10 [0:65535], w11 [0:65535], w12 [0:65535], w13 [0:65535], w14 [0:65535], w15 [0:65535], v [0:0]; parameter D = D; endmodule",
+        "N11 1:245",
+    ),
+    (
+        b"module m; wire g; initial g = 1; reg h; initial @(h + 1) ; endmodule",
+        "N5 1:27",
+    ),
+    (
+        b"module m; reg h; initial @(h + 1) ; wire g; initial g = 1; endmodule",
+        "N6 1:28",
+    ),
+    (
+        b"module m; wire g; initial g = 1; wire k; and (k, k); endmodule",
+        "N5 1:27",
+    ),
+    (
+        b"module m; wire k; and (k, k); wire g; initial g = 1; endmodule",
+        "N7 1:19",
+    ),
+    (
+        b"module m; wire g; initial g = 1; endmodule module s; s t(); endmodule",
+        "N8 1:54",
+    ),
+    (
+        b"module m; wire g; initial g = 1; endmodule module z; endmodule",
+        "N9 1:1",
+    ),
+    (
+        b"module m; wire g; initial g = 1; initial $foo; endmodule",
+        "N5 1:27",
+    ),
+    (
+        b"module m; initial $foo; wire g; initial g = 1; endmodule",
+        "N10 1:19",
+    ),
+    (
+        b"module m; wire g; initial g = 1; reg w0 [0:65535], w1 [0:65535], w2 [0:65535], w3 [0:65535], w4 [0:65535], w5 [0:65535], w6 [0:65535], w7 [0:65535], w8 [0:65535], w9 [0:65535], w10 [0:65535], w11 [0:65535], w12 [0:65535], w13 [0:65535], w14 [0:65535], w15 [0:65535], v [0:0]; endmodule",
+        "N11 1:268",
+    ),
+    (
+        b"module m; reg w0 [0:65535], w1 [0:65535], w2 [0:65535], w3 [0:65535], w4 [0:65535], w5 [0:65535], w6 [0:65535], w7 [0:65535], w8 [0:65535], w9 [0:65535], w10 [0:65535], w11 [0:65535], w12 [0:65535], w13 [0:65535], w14 [0:65535], w15 [0:65535], v [0:0]; wire g; initial g = 1; endmodule",
+        "N11 1:245",
+    ),
+    (
+        b"module m; reg h; initial @(h + 1) ; wire k; and (k, k); endmodule",
+        "N6 1:28",
+    ),
+    (
+        b"module m; wire k; and (k, k); reg h; initial @(h + 1) ; endmodule",
+        "N7 1:19",
+    ),
+    (
+        b"module m; reg h; initial @(h + 1) ; endmodule module s; s t(); endmodule",
+        "N8 1:57",
+    ),
+    (
+        b"module m; reg h; initial @(h + 1) ; endmodule module z; endmodule",
+        "N9 1:1",
+    ),
+    (
+        b"module m; reg h; initial @(h + 1) ; initial $foo; endmodule",
+        "N6 1:28",
+    ),
+    (
+        b"module m; initial $foo; reg h; initial @(h + 1) ; endmodule",
+        "N10 1:19",
+    ),
+    (
+        b"module m; reg h; initial @(h + 1) ; reg w0 [0:65535], w1 [0:65535], w2 [0:65535], w3 [0:65535], w4 [0:65535], w5 [0:65535], w6 [0:65535], w7 [0:65535], w8 [0:65535], w9 [0:65535], w10 [0:65535], w11 [0:65535], w12 [0:65535], w13 [0:65535], w14 [0:65535], w15 [0:65535], v [0:0]; endmodule",
+        "N11 1:271",
+    ),
+    (
+        b"module m; reg w0 [0:65535], w1 [0:65535], w2 [0:65535], w3 [0:65535], w4 [0:65535], w5 [0:65535], w6 [0:65535], w7 [0:65535], w8 [0:65535], w9 [0:65535], w10 [0:65535], w11 [0:65535], w12 [0:65535], w13 [0:65535], w14 [0:65535], w15 [0:65535], v [0:0]; reg h; initial @(h + 1) ; endmodule",
+        "N11 1:245",
+    ),
+    (
+        b"module m; wire k; and (k, k); endmodule module s; s t(); endmodule",
+        "N8 1:51",
+    ),
+    (
+        b"module m; wire k; and (k, k); endmodule module z; endmodule",
+        "N9 1:1",
+    ),
+    (
+        b"module m; wire k; and (k, k); initial $foo; endmodule",
+        "N7 1:19",
+    ),
+    (
+        b"module m; initial $foo; wire k; and (k, k); endmodule",
+        "N10 1:19",
+    ),
+    (
+        b"module m; wire k; and (k, k); reg w0 [0:65535], w1 [0:65535], w2 [0:65535], w3 [0:65535], w4 [0:65535], w5 [0:65535], w6 [0:65535], w7 [0:65535], w8 [0:65535], w9 [0:65535], w10 [0:65535], w11 [0:65535], w12 [0:65535], w13 [0:65535], w14 [0:65535], w15 [0:65535], v [0:0]; endmodule",
+        "N11 1:265",
+    ),
+    (
+        b"module m; reg w0 [0:65535], w1 [0:65535], w2 [0:65535], w3 [0:65535], w4 [0:65535], w5 [0:65535], w6 [0:65535], w7 [0:65535], w8 [0:65535], w9 [0:65535], w10 [0:65535], w11 [0:65535], w12 [0:65535], w13 [0:65535], w14 [0:65535], w15 [0:65535], v [0:0]; wire k; and (k, k); endmodule",
+        "N11 1:245",
+    ),
+    (
+        b"module m; endmodule module s; s t(); endmodule module z; endmodule",
+        "N9 1:1",
+    ),
+    (
+        b"module m; initial $foo; endmodule module s; s t(); endmodule",
+        "N8 1:45",
+    ),
+    (
+        b"module m; reg w0 [0:65535], w1 [0:65535], w2 [0:65535], w3 [0:65535], w4 [0:65535], w5 [0:65535], w6 [0:65535], w7 [0:65535], w8 [0:65535], w9 [0:65535], w10 [0:65535], w11 [0:65535], w12 [0:65535], w13 [0:65535], w14 [0:65535], w15 [0:65535], v [0:0]; endmodule module s; s t(); endmodule",
+        "N8 1:274",
+    ),
+    (
+        b"module m; initial $foo; endmodule module z; endmodule",
+        "N9 1:1",
+    ),
+    (
+        b"module m; reg w0 [0:65535], w1 [0:65535], w2 [0:65535], w3 [0:65535], w4 [0:65535], w5 [0:65535], w6 [0:65535], w7 [0:65535], w8 [0:65535], w9 [0:65535], w10 [0:65535], w11 [0:65535], w12 [0:65535], w13 [0:65535], w14 [0:65535], w15 [0:65535], v [0:0]; endmodule module z; endmodule",
+        "N9 1:1",
+    ),
+    (
+        b"module m; initial $foo; reg w0 [0:65535], w1 [0:65535], w2 [0:65535], w3 [0:65535], w4 [0:65535], w5 [0:65535], w6 [0:65535], w7 [0:65535], w8 [0:65535], w9 [0:65535], w10 [0:65535], w11 [0:65535], w12 [0:65535], w13 [0:65535], w14 [0:65535], w15 [0:65535], v [0:0]; endmodule",
+        "N11 1:259",
+    ),
+    (
+        b"module m; reg w0 [0:65535], w1 [0:65535], w2 [0:65535], w3 [0:65535], w4 [0:65535], w5 [0:65535], w6 [0:65535], w7 [0:65535], w8 [0:65535], w9 [0:65535], w10 [0:65535], w11 [0:65535], w12 [0:65535], w13 [0:65535], w14 [0:65535], w15 [0:65535], v [0:0]; initial $foo; endmodule",
+        "N11 1:245",
+    ),
+    (b"module m; parameter P = q; reg b, b; endmodule", "N1 1:25"),
+    (b"module m; reg b, b; parameter P = q; endmodule", "N2 1:18"),
+    (
+        b"module m; parameter P = q; reg [64:0] c; endmodule",
+        "N1 1:25",
+    ),
+    (
+        b"module m; reg [64:0] c; parameter P = q; endmodule",
+        "N3 1:15",
+    ),
+    (
+        b"module m; parameter P = q; parameter D = D; endmodule",
+        "N1 1:25",
+    ),
+    (
+        b"module m; parameter D = D; parameter P = q; endmodule",
+        "N4 1:21",
+    ),
+    (
+        b"module m; parameter P = q; reg w0 [0:65535], w1 [0:65535], w2 [0:65535], w3 [0:65535], w4 [0:65535], w5 [0:65535], w6 [0:65535], w7 [0:65535], w8 [0:65535], w9 [0:65535], w10 [0:65535], w11 [0:65535], w12 [0:65535], w13 [0:65535], w14 [0:65535], w15 [0:65535], v [0:0]; endmodule",
+        "N1 1:25",
+    ),
+    (
+        b"module m; reg w0 [0:65535], w1 [0:65535], w2 [0:65535], w3 [0:65535], w4 [0:65535], w5 [0:65535], w6 [0:65535], w7 [0:65535], w8 [0:65535], w9 [0:65535], w10 [0:65535], w11 [0:65535], w12 [0:65535], w13 [0:65535], w14 [0:65535], w15 [0:65535], v [0:0]; parameter P = q; endmodule",
+        "N11 1:245",
+    ),
+];
 
 #[test]
-fn what_comes_later(rt: HostRuntime) -> Result<(), Fail> {
-    check_all(&rt, rt.alloc(), &LATER)
+fn each_two_faults(rt: HostRuntime) -> Result<(), Fail> {
+    check_all(&rt, rt.alloc(), &PAIRS)
 }
 
 // Designs.
-static MADE: [(&[u8], &str); 14] = [
+static MADE: [(&[u8], &str); 17] = [
     (b"module m; endmodule", "m:1 |"),
     (
         b"module m; reg a; reg signed [7:0] b; integer i; time t; endmodule",
@@ -306,6 +671,18 @@ static MADE: [(&[u8], &str); 14] = [
     (
         b"module m; parameter [7:0] P = 255; parameter [P[3:2]:0] Q = 0; endmodule",
         "m:1 P:8 Q:4 |",
+    ),
+    (
+        b"module m; parameter A = B + 1; parameter B = C + 1; parameter C = D + 1; parameter D = E + 1; parameter E = 2; reg [A:0] a; reg [D:0] d; endmodule",
+        "m:1 A:32s B:32s C:32s D:32s E:32s a:7 d:4 |",
+    ),
+    (
+        b"module m; parameter A = D + 1; parameter D = B + 1; parameter B = E + C; parameter E = C; parameter C = 1; reg [A:0] a; reg [D:0] d; reg [B:0] b; reg [E:0] e; endmodule",
+        "m:1 A:32s D:32s B:32s E:32s C:32s a:5 d:4 b:3 e:2 |",
+    ),
+    (
+        b"module m; parameter [B:0] A = C; parameter B = C; parameter C = 2; reg [A:0] a; endmodule",
+        "m:1 A:3 B:32s C:32s a:3 |",
     ),
     (
         b"module m; reg a = 1; initial begin : b integer i = 2; i = 3; end reg c = 0; endmodule",
@@ -339,7 +716,7 @@ fn designs(rt: HostRuntime) -> Result<(), Fail> {
 }
 
 // Faults of sources with nets, ports, instances and generate constructs.
-static TREE_FAULTS: [(&[u8], &str); 46] = [
+static TREE_FAULTS: [(&[u8], &str); 47] = [
     (b"module m; m u(); endmodule", "N9 1:1"),
     (
         b"module a; b u(); endmodule module b; a u(); endmodule",
@@ -442,6 +819,10 @@ static TREE_FAULTS: [(&[u8], &str); 46] = [
         "N4 1:21",
     ),
     (b"module t; parameter P = P; endmodule", "N4 1:21"),
+    (
+        b"module t; parameter A = B; parameter P = P; parameter B = 1; endmodule",
+        "N4 1:38",
+    ),
     (b"module t; parameter [P:0] P = 1; endmodule", "N4 1:27"),
     (
         b"module t; for (i = 0; i < 2; i = i + 1) reg a; endmodule",
@@ -472,7 +853,7 @@ fn faults_of_trees(rt: HostRuntime) -> Result<(), Fail> {
 }
 
 // Their designs.
-static TREES: [(&[u8], &str); 17] = [
+static TREES: [(&[u8], &str); 18] = [
     (b"module m; wire w; endmodule", "m:1 w:1 |"),
     (
         b"module m; wire [3:0] a = 1, b; endmodule",
@@ -501,6 +882,10 @@ static TREES: [(&[u8], &str); 17] = [
     (
         b"module s; parameter P = 1; reg [P:0] r; endmodule module m; s #(3) u(); s #(.P(7)) v(); s w(); endmodule",
         "m:1 u:1 P:32s r:4 v:1 P:32s r:8 w:1 P:32s r:2 |",
+    ),
+    (
+        b"module s; parameter P = Q; parameter Q = 1; reg [P:0] r; endmodule module m; s #(3) u(); s #(.Q(7)) v(); endmodule",
+        "m:1 u:1 P:32s Q:32s r:4 v:1 P:32s Q:32s r:8 |",
     ),
     (
         b"module s; t a(); endmodule module t; endmodule module m; s u(); s v(); reg r; endmodule",
