@@ -1,12 +1,15 @@
 #!/bin/sh
-# Runs the measurements of docs/PERFORMANCE.md that are made with the program, and prints the page's tables: "Runs",
-# "Behavioural designs", "Reading and elaborating", "Callbacks", "Scripts" and "Tokens", with the figures of Icarus Verilog
-# where it is there ("-" where it isn't). Run it after ./vhost has built the program; it takes half an hour where valgrind is there.
+# Runs the measurements of docs/PERFORMANCE.md, and prints the page's tables: what the launcher adds, "Runs", "Behavioural
+# designs", "Reading and elaborating", "Callbacks", "Scripts" and "Tokens", with the figures of Icarus Verilog where it is there
+# ("-" where it isn't); and, where `rt` is there, those of single crates. Run it after ./vhost has built the program; it takes
+# half an hour and more where valgrind is there.
 folder=$(dirname -- "$0")
 
 # figure NAME: the number behind these words in what a script said, or "-".
 figure() { printf '%s\n' "$said" | sed -n "s/^\(.* \)*$1 \([0-9.]*\).*\$/\2/p" | head -1 | grep . || echo -; }
 
+sh "$folder/start.sh" || exit 1
+echo
 echo '| Blocks | Labels | Lines | `vhost run` | Labels a second | Instructions a label | `vvp` |'
 echo '|---|---|---|---|---|---|---|'
 for blocks in 1000 5000 10000; do
@@ -32,4 +35,8 @@ for row in '1000 2000 0' '10 20000 0' '10 20000 1000' '10 20000 10000' '10 20000
         "$(figure 'instructions a fire')" "$(figure seconds)" "$(figure 'icarus seconds')"
 done
 echo
-python3 "$folder/texts.py"
+python3 "$folder/texts.py" || exit 1
+if command -v valgrind >/dev/null && command -v rt >/dev/null; then
+    echo
+    sh "$folder/crates.sh"
+fi

@@ -25,6 +25,10 @@ LENGTHS = [
     ("counter_ports", "a toggle of the clock", 4000, 24000, int),
     ("datapath", "an edge of the clock", 1000, 6000, int),
     ("delays", "an event", 20000, 60000, events),
+    ("drivers", "a change of one of the 1,000 drivers of a net", 1000, 3000, int),
+    ("woken", "a change that wakes one of 1,000 waiting processes", 1000, 3000, int),
+    ("woken_of_many", "the same of 40,000", 1000, 3000, int),
+    ("sum", "an assignment of a sum of 1,001 operands", 1000, 3000, int),
 ]
 BUDGETS = [("turns", "a label, of which three are a turn"), ("nothing", "a label")]
 

@@ -9,20 +9,26 @@ holds() {
     "$@" || { failed=$((failed + 1)) && echo "not so: $*"; }
 }
 
-# A repository with the launcher, two crates, and a stand-in on PATH that counts its builds.
+# A repository with the launcher, two crates, and a stand-in on PATH that notes its calls.
 fresh_repository() {
     rm -rf "$work/top" && mkdir -p "$work/top/crates/vh_sim/src" "$work/top/crates/vh_sim/data" "$work/top/crates/vh_low/src" "$work/bin"
+    mkdir -p "$work/top/crates/vh_low/specs" "$work/top/crates/vh_beside/src"
     mkdir -p "$work/top/docs" && cp "$here/docs/FAULTS.md" "$work/top/docs/"
     cp "$here/vhost" "$work/top/" && cd "$work/top" || exit 1
-    printf '# a comment\nvh_low:\nvh_sim: vh_low std\n' >crates.txt
+    printf '# a comment\nvh_sim: vh_low std\nvh_beside: vh_low\nvh_low:\n' >crates.txt
+    echo 'Handles allowed: none.' >HANDLES
+    echo 'pub mod Words' >crates/vh_low/specs/Lib.antt
+    echo 'fn beside() {}' >crates/vh_beside/src/lib.rt
     echo 'fn main() {}' >crates/vh_sim/src/main.rt
     echo 'fn low() {}' >crates/vh_low/src/lib.rt
     echo 'module top; endmodule' >a.v
     cat >"$work/bin/rt" <<'STAND_IN'
 #!/bin/sh
-echo build >>"$BUILDS"
-echo 'rt: chose --jobs 2 for vh_low' && echo 'checked vh_low::low, 1 of 2' && sleep "${SLOW:-0}" && echo 'logic=proved functions=2'
-[ -z "$BROKEN" ] || exit 1
+crate=${PWD##*/}
+echo "$1 $crate" >>"$BUILDS"
+echo "rt: chose --jobs 2 for $crate" && sleep "${SLOW:-0}" && echo 'logic=proved functions=2'
+[ "$BROKEN" != "$crate" ] || exit 1
+[ "$1" != lib ] || { mkdir -p out/rlib; exit; }
 mkdir -p out && cat >out/vh_sim <<'PROGRAM' && chmod +x out/vh_sim
 #!/bin/sh
 echo "ran $*"
@@ -30,15 +36,19 @@ echo "ran $*"
 exit "${ENDS:-7}"
 PROGRAM
 STAND_IN
-    chmod +x "$work/bin/rt"
+    printf '#!/bin/sh\necho look >>"$LOOKS"\nexec %s "$@"\n' "$(PATH=$bare command -v cksum)" >"$work/bin/cksum"
+    chmod +x "$work/bin/rt" "$work/bin/cksum"
     : >"$BUILDS"
+    : >"$LOOKS"
 }
 BUILDS=$work/builds
-export BUILDS
+LOOKS=$work/looks
+export BUILDS LOOKS
 full=$work/bin:$PATH
 bare=$PATH
 [ -z "$(command -v rt)" ] || bare=$(printf '%s' "$PATH" | tr ':' '\n' | while read -r folder; do [ -x "$folder/rt" ] || printf '%s:' "$folder"; done)
-builds() { wc -l <"$BUILDS" | tr -d ' '; }
+builds() { grep -c '^run vh_sim$' "$BUILDS"; }
+looks() { wc -l <"$LOOKS" | tr -d ' '; }
 run() {
     PATH=$1
     export PATH
@@ -57,45 +67,131 @@ run "$full" ./vhost run a.v
 unset SLOW
 holds [ "$status" = 7 ]
 holds [ "$(cat "$work/out")" = "ran run a.v" ]
-holds [ "$(builds)" = 1 ]
-holds grep -q "0 of 2 crates proved, at work on vh_low (1 of 2 functions)" "$work/err"
-run "$full" ./vhost run a.v
-holds [ "$(builds)" = 1 ]
-holds [ ! -s "$work/err" ]
+holds [ "$(cat "$BUILDS")" = "lib vh_low
+run vh_sim" ]
+holds [ "$(grep -vc '^vhost: \(at work on\|passed\) vh_[a-z]*$\|^rt: chose\|^logic=proved' .vhost/log)" = 0 ]
+holds grep -q "^vhost: 0 of 2 crates proved, at work on vh_low, 0:0[0-9]\$" "$work/err"
+holds grep -q "^vhost: 1 of 2 crates proved, at work on vh_sim, 0:0[0-9]\$" "$work/err"
 
-# by a link, and by a link to a link
-mkdir -p "$work/links" && ln -sf "$work/top/vhost" "$work/links/one" && ln -sf one "$work/links/two"
-cp a.v "$work/links/" && cd "$work/links" && run "$full" ./two run a.v
-holds [ "$(cat "$work/out")" = "ran run a.v" ]
+# a call that is up to date reads no source, says nothing, and passes the status on; so it does where rt isn't on PATH
+up_to_date() {
+    : >"$LOOKS"
+    run "$1" ./vhost run a.v
+    holds [ "$status" = 7 ]
+    holds [ "$(cat "$work/out")" = "ran run a.v" ]
+    holds [ ! -s "$work/err" ]
+    holds [ "$(looks)" = 0 ]
+}
+run "$full" ./vhost run a.v # the folder of the build's results is new: a look, and no more
+up_to_date "$full"
+up_to_date "$bare"
 holds [ "$(builds)" = 1 ]
+
+# by a link, and by a link to a link, and from other folders
+mkdir -p "$work/links" && ln -sf "$work/top/vhost" "$work/links/one" && ln -sf one "$work/links/two"
+cp a.v "$work/links/"
+for call in "$work/links ./two" "$work/top/crates ../vhost" "$work ../$(basename "$work")/top/vhost" "$work top/vhost" "/ $work/links/one"; do
+    cd "${call%% *}" && CDPATH=$work && export CDPATH && run "$full" "${call#* }" run a.v
+    unset CDPATH
+    holds [ "$(cat "$work/out")" = "ran run a.v" ]
+done
+holds [ "$(builds)" = 1 ]
+holds [ "$(looks)" = 0 ]
 cd "$work/top" || exit 1
 
-# a source with another time and the same bytes needs no build, one with other bytes does
-sleep 1
+# a source with another time and the same bytes needs no build, and is looked at once
+sleep 0.1
 touch crates/vh_low/src/lib.rt
 run "$full" ./vhost run a.v
 holds [ "$(builds)" = 1 ]
-sleep 1
-echo 'fn other() {}' >>crates/vh_low/src/lib.rt
-run "$full" ./vhost run a.v
-holds [ "$(builds)" = 2 ]
+holds [ "$(looks)" -gt 0 ]
+up_to_date "$full"
 
-# without rt: a program that is up to date runs, one that isn't is told
+# what changes the sources needs a build: a file of any crate that has other bytes, that is new or gone, also with its folder
+seen() {
+    sleep 0.1
+    eval "$1"
+    run "$bare" ./vhost run a.v
+    holds [ "$1: $status" = "$1: 125" ]
+    holds grep -q "isn't on PATH" "$work/err"
+    before=$(builds)
+    run "$full" ./vhost run a.v
+    holds [ "$status" = 7 ]
+    holds [ "$1: $(builds)" = "$1: $((before + 1))" ]
+    run "$full" ./vhost run a.v
+    up_to_date "$full"
+    up_to_date "$bare"
+    holds [ "$1: $(builds)" = "$1: $((before + 1))" ]
+}
+for change in 'echo "fn other() {}" >>crates/vh_low/src/lib.rt' 'echo "fn other() {}" >>crates/vh_beside/src/lib.rt' \
+    'echo "-- other" >>crates/vh_low/specs/Lib.antt' 'echo "// more" >>crates/vh_sim/src/main.rt' \
+    'echo "fn more() {}" >crates/vh_low/src/more.rt' 'rm crates/vh_low/src/more.rt' \
+    'mkdir crates/vh_low/src/deep && echo "fn deep() {}" >crates/vh_low/src/deep/more.rt' \
+    'echo "fn deeper() {}" >>crates/vh_low/src/deep/more.rt' 'rm -r crates/vh_low/src/deep' \
+    'mkdir crates/vh_sim/specs && echo "-- new" >crates/vh_sim/specs/Lib.antt' 'rm -r crates/vh_sim/specs' \
+    'mkdir -p crates/vh_new/src && echo "fn new() {}" >crates/vh_new/src/lib.rt' 'rm -r crates/vh_new' \
+    'echo "fn odd() {}" >"crates/vh_low/src/an odd name.rt"' 'rm "crates/vh_low/src/an odd name.rt"' \
+    'echo "# more" >>crates.txt' 'echo "Handles allowed: Wait." >HANDLES' 'rm HANDLES' 'echo "Handles allowed: none." >HANDLES' \
+    'rm .vhost/vhost'; do
+    seen "$change"
+done
+
+# so it is where `find` is an older one
+mkdir -p "$work/older"
+printf '#!/bin/sh\ncase " $* " in *" -files0-from "*) exit 1 ;; esac\nexec %s "$@"\n' "$(command -v find)" >"$work/older/find"
+chmod +x "$work/older/find"
+newer_full=$full newer_bare=$bare full=$work/older:$full bare=$work/older:$bare
+PATH=$full
+up_to_date "$full"
+for change in 'echo "fn again() {}" >>crates/vh_beside/src/lib.rt' 'echo "fn more() {}" >crates/vh_low/src/more.rt' \
+    'rm crates/vh_low/src/more.rt' 'mkdir crates/vh_sim/specs && echo "-- new" >crates/vh_sim/specs/Lib.antt' \
+    'rm -r crates/vh_sim/specs' 'rm HANDLES'; do
+    seen "$change"
+done
+full=$newer_full bare=$newer_bare
+PATH=$full
+
+# a toolchain that is younger is looked at, and what a program was built with before there was a list of what is looked at
+sleep 0.1
+touch "$work/bin/rt"
+: >"$LOOKS"
+run "$full" ./vhost run a.v
+holds [ "$(looks)" -gt 0 ]
+up_to_date "$full"
+rm .vhost/watched
 run "$bare" ./vhost run a.v
 holds [ "$status" = 7 ]
-sleep 1
-echo 'fn third() {}' >>crates/vh_low/src/lib.rt
-run "$bare" ./vhost run a.v
-holds [ "$status" = 125 ]
-holds grep -q "isn't on PATH" "$work/err"
+up_to_date "$bare"
 
-# a build that fails
-BROKEN=1
+# a build that fails says so, and where; the next goes on where it stood
+: >"$BUILDS"
+BROKEN=vh_low
 export BROKEN
+sleep 0.1
+echo 'fn third() {}' >>crates/vh_low/src/lib.rt
 run "$full" ./vhost run a.v
 holds [ "$status" = 125 ]
-holds grep -q "the build failed" "$work/err"
+holds grep -q "^vhost: the build failed at vh_low; what it said is in .*/.vhost/log\$" "$work/err"
+holds [ "$(cat "$BUILDS")" = "lib vh_low" ]
+BROKEN=vh_sim
+run "$full" ./vhost run a.v
+holds [ "$status" = 125 ]
+holds grep -q "^vhost: the build failed at vh_sim" "$work/err"
 unset BROKEN
+: >"$BUILDS"
+run "$full" ./vhost run a.v
+holds [ "$status" = 7 ]
+holds [ "$(cat "$BUILDS")" = "run vh_sim" ]
+# but not where its results are gone
+rm -r crates/*/out .vhost/vhost
+: >"$BUILDS"
+run "$full" ./vhost run a.v
+holds [ "$(cat "$BUILDS")" = "lib vh_low
+run vh_sim" ]
+rm .vhost/vhost crates.txt
+run "$full" ./vhost run a.v
+holds [ "$status" = 125 ]
+holds grep -q "crates.txt" "$work/err"
 
 # words that have no reading
 fresh_repository
@@ -111,7 +207,7 @@ holds [ "$(builds)" = 0 ]
 run "$bare" ./vhost explain S3
 holds [ "$status" = 0 ]
 holds [ "$(head -n 1 "$work/out")" = "## S3" ]
-holds grep -q "^design refused: S3 at 1:1:1$" "$work/out"
+holds grep -q "^design refused: S3 at 1:1:13$" "$work/out"
 holds [ "$(grep -c '^## ' "$work/out")" = 1 ]
 run "$bare" ./vhost explain e13
 holds [ "$(head -n 1 "$work/out")" = "## E13" ]
@@ -286,7 +382,23 @@ refused_silently() {
     holds [ "$status" = 2 ]
     holds [ "$(grep -ac FAULTS "$work/out")" = 0 ]
 }
-if command -v script >/dev/null; then refused_silently; else echo "script isn't there, so no terminal was tried"; fi
+# how far a build is stands in one line, which is written over; nothing of it is left when the program begins
+told_on_a_terminal() {
+    unset TELLS ENDS
+    fresh_repository
+    SLOW=2
+    export SLOW
+    run "$full" script -qec "./vhost run a.v" /dev/null
+    unset SLOW
+    holds [ "$status" = 7 ]
+    # a | for what goes back and clears the line
+    tr -d '\r' <"$work/out" | sed "s/$(printf '\033')\[K/|/g" >"$work/lines"
+    holds [ "$(grep -c "crates proved" "$work/lines")" = 1 ]
+    holds grep -q "|vhost: 0 of 2 crates proved, at work on vh_low, 0:0[0-9]|" "$work/lines"
+    holds grep -q "|vhost: 1 of 2 crates proved, at work on vh_sim, 0:0[0-9]|" "$work/lines"
+    holds grep -q "|ran run a.v" "$work/lines"
+}
+if command -v script >/dev/null; then refused_silently && told_on_a_terminal; else echo "script isn't there, so no terminal was tried"; fi
 unset TELLS ENDS
 
 # 40 first calls at one time: one build, and each runs the program
@@ -303,17 +415,23 @@ holds [ "$(cat "$work"/many.* | grep -c 'ran run a.v')" = 40 ]
 holds [ "$(cat "$work"/status.* | sort -u)" = 7 ]
 unset SLOW
 
-# an interrupted build is begun again
+# an interrupted build ends its call of rt, and the next goes on where it stood
 fresh_repository
-SLOW=5
+SLOW=2
 export SLOW
 ./vhost run a.v >/dev/null 2>&1 &
-sleep 1
+while [ "$(builds)" = 0 ]; do sleep 0.1; done
 kill "$!"
 wait "$!" 2>/dev/null
+holds [ "$?" = 125 ]
+sleep 3
+holds [ ! -e crates/vh_sim/out/vh_sim ]
 unset SLOW
 run "$full" ./vhost run a.v
 holds [ "$status" = 7 ]
+holds [ "$(cat "$BUILDS")" = "lib vh_low
+run vh_sim
+run vh_sim" ]
 
 echo "$tried tried, $failed failed"
 [ "$failed" = 0 ]
