@@ -5,7 +5,8 @@ use crate::operator::{Binary, Unary};
 use crate::token::{Id, Number};
 use sqlite_items::{Boxed, Items};
 use std::alloc::Global;
-use vh_base::{Bytes, NoMemory, Place};
+use vh_base::{NoMemory, Place};
+use vh_shared::SharedBytes;
 
 /// `prim`, over expressions `E` (IEEE 1364-2005, 5.2 and Annex A.8.4).
 #[derive(Drop)]
@@ -13,7 +14,7 @@ pub enum Primary<E> {
     /// `NUMBER`
     Number(Number),
     /// `STRING`, after its escapes.
-    Text(Bytes),
+    Text(SharedBytes),
     /// `name [ sel ]`
     Name(Name<E>, Option<Sel<E>>),
     /// `name "(" expr { "," expr } ")"`

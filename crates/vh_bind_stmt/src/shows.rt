@@ -10,11 +10,12 @@ ghost use Rattle.vh_bind_stmt.specs.Shows.{show_task, is_letter, wants_argument,
 
 use std::alloc::Global;
 use vh_ast::{Expr, ExprForm, Primary};
-use vh_base::{Bytes, NoMemory, Sequence};
+use vh_base::{NoMemory, Sequence};
 use vh_bind::{ElabFault, Scope};
 use vh_bind_expr::bind_expr;
 use vh_code::{ShowArg, ShowArgs, ShowTask};
 use vh_nodes::ExprNode;
+use vh_shared::SharedBytes;
 
 /// The display task of this name (IEEE 1364-2005, 17.1).
 pub fn show_task(name: &[u8]) -> Option<ShowTask>
@@ -175,7 +176,7 @@ fn shows_of(format: &[u8]) -> Option<usize>
 }
 
 // A string, where the argument is one.
-fn text_of(e: &Expr) -> Option<&Bytes>
+fn text_of(e: &Expr) -> Option<&SharedBytes>
     ensures { option_copied result ≡ text_of (expr_tree e.now) }
 {
     match &e.form {

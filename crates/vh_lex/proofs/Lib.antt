@@ -5,4 +5,4 @@ pub mod Gaps
 pub mod Using
 pub mod Stepping
 pub mod LawLemmas
-pub mod ShortWords
+pub mod GroupLemmas

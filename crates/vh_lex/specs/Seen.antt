@@ -1,6 +1,8 @@
 -- How contracts see what the code holds: without where it lies in memory.
-use Rattle.std.specs.Prelude.{ℕ, List}
+use Rattle.std.specs.Prelude.{ℕ, List, nat_eq}
 use Rattle.std.specs.Borrow.{Bor}
+use Rattle.std.specs.List.{filter}
+use Rattle.vh_lex.specs.Bytes.{begins}
 use Rattle.vh_lex.specs.declared.name.Named.{Named as HeldNamed}
 use Rattle.vh_lex.specs.declared.macro_text.Next.{Next as HeldNext}
 use Rattle.vh_lex.specs.declared.scale.Found.{Found as HeldFound}
@@ -11,6 +13,10 @@ use Rattle.vh_lex.specs.MacroTexts.{Turn}
 -- a row of a table
 abbrev pub row_seen : {A : Type 0} → Bor (List ℕ) × A → List ℕ × A
 row_seen row = (row.0.now, row.1)
+
+-- the rows of a table whose spelling has this first byte
+abbrev pub rows_from : {A : Type 0} → ℕ → List (List ℕ × A) → List (List ℕ × A)
+rows_from first rows = filter (λ row. begins (λ b. nat_eq b first) row.0) rows
 
 -- a name of the code
 abbrev pub named_seen : HeldNamed → Named

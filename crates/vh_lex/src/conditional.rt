@@ -7,7 +7,7 @@ use vh_base::{NoMemory, Place};
 
 /// What is done with a branch of a conditional (IEEE 1364-2005, 19.4).
 #[derive(Clone, Copy, Debug, PartialEq, Eq)]
-pub(crate) enum Branch {
+pub enum Branch {
     /// It is skipped, and a later branch may be read.
     Sought,
     /// It is read.
@@ -20,10 +20,10 @@ pub(crate) enum Branch {
 /// A conditional that is open: where its `` `ifdef `` or `` `ifndef `` stands, what is done with its
 /// branch, and whether `` `else `` was there.
 #[derive(Clone, Copy, Debug, PartialEq, Eq)]
-pub(crate) struct Conditional {
-    pub(crate) place: Place,
-    pub(crate) branch: Branch,
-    pub(crate) has_else: bool,
+pub struct Conditional {
+    pub place: Place,
+    pub branch: Branch,
+    pub has_else: bool,
 }
 
 /// The conditionals that are open, the innermost last.

@@ -6,7 +6,7 @@ use vh_base::is_name_start;
 
 /// A directive (IEEE 1364-2005, clause 19).
 #[derive(Clone, Copy, PartialEq, Eq)]
-pub(crate) enum Directive {
+pub enum Directive {
     Define,
     Undef,
     Ifdef,

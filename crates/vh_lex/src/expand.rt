@@ -11,7 +11,7 @@ use crate::piece::Part;
 use crate::setting::Setting;
 use crate::token::Kind;
 use std::alloc::Global;
-use vh_base::{Bytes, DesignFault, NoMemory, Place};
+use vh_base::{DesignFault, NoMemory, Place};
 
 /// The greatest number of uses of macros that are open at one time.
 const LEVEL_LIMIT: usize = 64;
@@ -71,7 +71,7 @@ fn read_on<'a>(
         };
         frames.push(behind)?;
         match part {
-            Part::Token(kind) => made.push(copied_kind(alloc, kind)?, around.place)?,
+            Part::Token(kind) => made.push(copied_kind(kind)?, around.place)?,
             Part::Module => made.push(Kind::Module(around.setting), around.place)?,
             Part::Use(name) => return Ok(Some(used(around, name.as_slice())?)),
             Part::Wrong(fault) => return Err(Halt::Fault(*fault)),
@@ -93,17 +93,17 @@ fn used<'a>(around: &Around<'a>, name: &[u8]) -> Result<&'a [Part], Halt>
     }
 }
 
-// The same kind once more.
-fn copied_kind(alloc: Global, kind: &Kind) -> Result<Kind, NoMemory>
+// The same kind once more, which shares its bytes.
+fn copied_kind(kind: &Kind) -> Result<Kind, NoMemory>
     ensures { IfOk result (λ copy. copy ≡ kind.now) }
 {
     match kind {
         Kind::Module(setting) => Ok(Kind::Module(*setting)),
         Kind::Word(keyword) => Ok(Kind::Word(*keyword)),
         Kind::Mark(mark) => Ok(Kind::Mark(*mark)),
-        Kind::Name(name) => Ok(Kind::Name(Bytes::from_slice(alloc, name.as_slice())?)),
-        Kind::SysName(name) => Ok(Kind::SysName(Bytes::from_slice(alloc, name.as_slice())?)),
-        Kind::Text(text) => Ok(Kind::Text(Bytes::from_slice(alloc, text.as_slice())?)),
+        Kind::Name(name) => Ok(Kind::Name(name.share()?)),
+        Kind::SysName(name) => Ok(Kind::SysName(name.share()?)),
+        Kind::Text(text) => Ok(Kind::Text(text.share()?)),
         Kind::Number(value, is_sized) => Ok(Kind::Number(*value, *is_sized)),
     }
 }

@@ -12,6 +12,7 @@ use crate::text::text_at;
 use crate::token::Kind;
 use std::alloc::Global;
 use vh_base::{Bytes, DesignFault, NoMemory, is_digit, is_name_start, is_space};
+use vh_shared::SharedBytes;
 
 /// What the bytes begin with (IEEE 1364-2005, clause 3). It takes time in the number of bytes of
 /// that piece, and of white space behind it.
@@ -74,7 +75,7 @@ fn name_piece(alloc: Global, name: &[u8], len: usize) -> Result<Piece, NoMemory>
         return Ok(Piece::Fault(DesignFault::L6, 0));
     }
     Ok(Piece::Kept(
-        Part::Token(Kind::Name(Bytes::from_slice(alloc, name)?)),
+        Part::Token(Kind::Name(SharedBytes::from_slice(alloc, name)?)),
         len,
     ))
 }
@@ -92,7 +93,7 @@ fn system_at(alloc: Global, bytes: &[u8]) -> Result<Piece, NoMemory>
         return Ok(Piece::Fault(DesignFault::L6, 0));
     }
     Ok(Piece::Kept(
-        Part::Token(Kind::SysName(Bytes::from_slice(alloc, name)?)),
+        Part::Token(Kind::SysName(SharedBytes::from_slice(alloc, name)?)),
         name.len(),
     ))
 }

@@ -11,7 +11,7 @@ use vh_base::{NoMemory, Sequence};
 
 /// Within what a byte of a macro's text stands.
 #[derive(Clone, Copy, PartialEq, Eq)]
-pub(crate) enum Mode {
+pub enum Mode {
     Plain,
     /// A string.
     Quoted,

@@ -1,6 +1,6 @@
-ghost use Rattle.std.specs.Prelude.{◌≡◌, ◌≤◌, length, IfSome};
+ghost use Rattle.std.specs.Prelude.{◌≡◌, ◌≤◌, length, map, IfSome};
 ghost use Rattle.vh_lex.specs.Marks;
-ghost use Rattle.vh_lex.specs.Seen.{row_seen};
+ghost use Rattle.vh_lex.specs.Seen.{row_seen, rows_from};
 ghost use Rattle.std.specs.Option.{option_map};
 
 use crate::table::begun;
@@ -102,60 +102,77 @@ pub enum Mark {
     Question,
 }
 
-/// The operators and marks, the longest first (IEEE 1364-2005, 3.4, Table 5-1 and Annex A).
-static MARKS: [(&[u8], Mark); 46] = [
-    (b"<<<", Mark::ArithmeticShiftLeft),
-    (b">>>", Mark::ArithmeticShiftRight),
-    (b"===", Mark::CaseEqual),
-    (b"!==", Mark::CaseUnequal),
-    (b"==", Mark::LogicalEqual),
-    (b"!=", Mark::LogicalUnequal),
-    (b"&&", Mark::AndAnd),
-    (b"||", Mark::OrOr),
-    (b"~&", Mark::TildeAnd),
-    (b"~|", Mark::TildeOr),
-    (b"~^", Mark::TildeCaret),
-    (b"^~", Mark::CaretTilde),
-    (b"**", Mark::StarStar),
-    (b"<<", Mark::ShiftLeft),
-    (b">>", Mark::ShiftRight),
-    (b"<=", Mark::LessEqual),
-    (b">=", Mark::GreaterEqual),
-    (b"->", Mark::Arrow),
-    (b"+:", Mark::PlusColon),
-    (b"-:", Mark::MinusColon),
-    (b"(", Mark::LeftParen),
-    (b")", Mark::RightParen),
-    (b"[", Mark::LeftBracket),
-    (b"]", Mark::RightBracket),
-    (b"{", Mark::LeftBrace),
-    (b"}", Mark::RightBrace),
-    (b";", Mark::Semicolon),
-    (b",", Mark::Comma),
-    (b".", Mark::Dot),
-    (b":", Mark::Colon),
-    (b"#", Mark::Hash),
-    (b"@", Mark::At),
-    (b"=", Mark::Equal),
-    (b"+", Mark::Plus),
-    (b"-", Mark::Minus),
-    (b"*", Mark::Star),
-    (b"/", Mark::Slash),
-    (b"%", Mark::Percent),
-    (b"!", Mark::Bang),
-    (b"~", Mark::Tilde),
-    (b"&", Mark::Ampersand),
-    (b"|", Mark::Bar),
-    (b"^", Mark::Caret),
-    (b"<", Mark::Less),
-    (b">", Mark::Greater),
-    (b"?", Mark::Question),
-];
+// The operators and marks with this first byte, the longest first (IEEE 1364-2005, 3.4, Table 5-1
+// and Annex A).
+fn marks_from(first: u8) -> &'static [(&'static [u8], Mark)]
+    ensures { map row_seen result.now ≡ rows_from first Marks.mark_rows }
+{
+    match first {
+        b'!' => &[
+            (b"!==", Mark::CaseUnequal),
+            (b"!=", Mark::LogicalUnequal),
+            (b"!", Mark::Bang),
+        ],
+        b'#' => &[(b"#", Mark::Hash)],
+        b'%' => &[(b"%", Mark::Percent)],
+        b'&' => &[(b"&&", Mark::AndAnd), (b"&", Mark::Ampersand)],
+        b'(' => &[(b"(", Mark::LeftParen)],
+        b')' => &[(b")", Mark::RightParen)],
+        b'*' => &[(b"**", Mark::StarStar), (b"*", Mark::Star)],
+        b'+' => &[(b"+:", Mark::PlusColon), (b"+", Mark::Plus)],
+        b',' => &[(b",", Mark::Comma)],
+        b'-' => &[
+            (b"->", Mark::Arrow),
+            (b"-:", Mark::MinusColon),
+            (b"-", Mark::Minus),
+        ],
+        b'.' => &[(b".", Mark::Dot)],
+        b'/' => &[(b"/", Mark::Slash)],
+        b':' => &[(b":", Mark::Colon)],
+        b';' => &[(b";", Mark::Semicolon)],
+        b'<' => &[
+            (b"<<<", Mark::ArithmeticShiftLeft),
+            (b"<<", Mark::ShiftLeft),
+            (b"<=", Mark::LessEqual),
+            (b"<", Mark::Less),
+        ],
+        b'=' => &[
+            (b"===", Mark::CaseEqual),
+            (b"==", Mark::LogicalEqual),
+            (b"=", Mark::Equal),
+        ],
+        b'>' => &[
+            (b">>>", Mark::ArithmeticShiftRight),
+            (b">>", Mark::ShiftRight),
+            (b">=", Mark::GreaterEqual),
+            (b">", Mark::Greater),
+        ],
+        b'?' => &[(b"?", Mark::Question)],
+        b'@' => &[(b"@", Mark::At)],
+        b'[' => &[(b"[", Mark::LeftBracket)],
+        b']' => &[(b"]", Mark::RightBracket)],
+        b'^' => &[(b"^~", Mark::CaretTilde), (b"^", Mark::Caret)],
+        b'{' => &[(b"{", Mark::LeftBrace)],
+        b'|' => &[(b"||", Mark::OrOr), (b"|", Mark::Bar)],
+        b'}' => &[(b"}", Mark::RightBrace)],
+        b'~' => &[
+            (b"~&", Mark::TildeAnd),
+            (b"~|", Mark::TildeOr),
+            (b"~^", Mark::TildeCaret),
+            (b"~", Mark::Tilde),
+        ],
+        _ => &[],
+    }
+}
 
-/// The longest mark with which the bytes begin, and its bytes.
+/// The longest mark with which the bytes begin, and its bytes. It compares with the marks that have
+/// the same first byte alone.
 pub(crate) fn mark_at(bytes: &[u8]) -> Option<(&'static [u8], Mark)>
     ensures value { option_map row_seen result ≡ Marks.mark_at bytes.now }
     ensures inside { IfSome result (λ row. length row.0.now ≤ length bytes.now) }
 {
-    begun(&MARKS, bytes)
+    let Some((first, _)) = bytes.split_first() else {
+        return None;
+    };
+    begun(marks_from(*first), bytes)
 }

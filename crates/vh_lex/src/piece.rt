@@ -3,7 +3,7 @@ use vh_base::{Bytes, DesignFault};
 
 /// A part of a text that is not dropped.
 #[derive(Drop)]
-pub(crate) enum Part {
+pub enum Part {
     /// A token other than the reserved word `module`.
     Token(Kind),
     /// The reserved word `module`.
@@ -16,7 +16,7 @@ pub(crate) enum Part {
 
 /// What bytes begin with, and how many bytes that is.
 #[derive(Drop)]
-pub(crate) enum Piece {
+pub enum Piece {
     /// White space, a comment or an attribute.
     Blank(usize),
     /// A part.

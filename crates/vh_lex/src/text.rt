@@ -7,6 +7,7 @@ use crate::piece::{Part, Piece};
 use crate::token::Kind;
 use std::alloc::Global;
 use vh_base::{Bytes, DesignFault, NoMemory};
+use vh_shared::SharedBytes;
 
 /// The greatest number of bytes of a string, after its escapes.
 const TEXT_LIMIT: usize = 4096;
@@ -33,7 +34,10 @@ pub(crate) fn text_at(alloc: Global, bytes: &[u8]) -> Result<Piece, NoMemory>
     }
     match wrong {
         Some(at) => Ok(Piece::Fault(DesignFault::L4, at + 1)),
-        None => Ok(Piece::Kept(Part::Token(Kind::Text(text)), len + 2)),
+        None => {
+            let text = SharedBytes::from_vec(text.into_vec())?;
+            Ok(Piece::Kept(Part::Token(Kind::Text(text)), len + 2))
+        }
     }
 }
 

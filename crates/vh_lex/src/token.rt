@@ -1,8 +1,9 @@
 use crate::keyword::Keyword;
 use crate::mark::Mark;
 use crate::setting::Setting;
-use vh_base::{Bytes, Place};
+use vh_base::Place;
 use vh_logic::Vec4;
+use vh_shared::SharedBytes;
 
 /// What a token is (IEEE 1364-2005, 3.1).
 #[derive(Drop)]
@@ -14,11 +15,11 @@ pub enum Kind {
     /// An operator or a mark.
     Mark(Mark),
     /// A name that is not reserved, without the backslash of an escaped one.
-    Name(Bytes),
+    Name(SharedBytes),
     /// A system name, with its dollar sign.
-    SysName(Bytes),
+    SysName(SharedBytes),
     /// A string, after its escapes.
-    Text(Bytes),
+    Text(SharedBytes),
     /// A number, and whether a size was written.
     Number(Vec4, bool),
 }

@@ -72,10 +72,10 @@ fn no_range<'t>(barred: bool, at: At<'t>) -> Read<'t, ()>
 }
 
 /// `ID`, behind which a range is left out where it is so.
-pub fn bare_id<'t>(alloc: Global, barred: bool, at: At<'t>) -> Read<'t, Id>
+pub fn bare_id<'t>(barred: bool, at: At<'t>) -> Read<'t, Id>
     ensures { Reads (λ i. i) 0 (parts.bare_id barred) at.entry result }
 {
-    let (id, more) = id(alloc, at)?;
+    let (id, more) = id(at)?;
     let ((), rest) = no_range(barred, more)?;
     Ok((id, rest))
 }
@@ -102,7 +102,7 @@ fn var_part<'t>(alloc: Global, depth: usize, at: At<'t>) -> Read<'t, VarPart>
 fn var<'t>(alloc: Global, depth: usize, at: At<'t>) -> Read<'t, Var>
     ensures { Reads var_tree depth a_var at.entry result }
 {
-    let (id, more) = id(alloc, at)?;
+    let (id, more) = id(at)?;
     let (part, rest) = var_part(alloc, depth, more)?;
     Ok((Var { id, part }, rest))
 }
@@ -112,7 +112,7 @@ fn var<'t>(alloc: Global, depth: usize, at: At<'t>) -> Read<'t, Var>
 fn init<'t>(alloc: Global, depth: usize, at: At<'t>) -> Read<'t, Init>
     ensures { Reads init_tree depth an_init at.entry result }
 {
-    let (id, more) = bare_id(alloc, true, at)?;
+    let (id, more) = bare_id(true, at)?;
     let (value, rest) = value(alloc, depth, more)?;
     Ok((Init { id, value }, rest))
 }

@@ -28,7 +28,7 @@ fn delay_value<'t>(alloc: Global, depth: usize, at: At<'t>) -> Read<'t, DelayVal
         return delay_number(at);
     }
     if at.next_is(Class::Name) {
-        let (id, rest) = id(alloc, at)?;
+        let (id, rest) = id(at)?;
         return Ok((DelayValue::Id(id), rest));
     }
     let (value, rest) = behind(alloc, depth, true, Sign::LeftParen, at)?;

@@ -171,7 +171,6 @@ fn esel<'t>(
 // `"." ID`
 #[tactic(auto, unfolding(vh_syntax::specs::Names::dotted))]
 fn dotted<'t>(
-    alloc: Global,
     depth: usize,
     standing: Standing,
     calls: bool,
@@ -183,7 +182,7 @@ fn dotted<'t>(
         Reads path_tree depth part at.entry result }
 {
     let behind = at.take(Class::Is(Sign::Dot))?;
-    let (id, rest) = id(alloc, behind)?;
+    let (id, rest) = id(behind)?;
     let stem = stem.then(index, id)?;
     let last = Last::Plain;
     Ok((Path { stem, last }, rest))
@@ -254,7 +253,7 @@ fn plain_turn<'t>(
         Reads path_tree depth part at.entry result }
 {
     if at.next_is(Class::Is(Sign::Dot)) {
-        return dotted(alloc, depth, standing, calls, stem, None, at);
+        return dotted(depth, standing, calls, stem, None, at);
     }
     if sel {
         let ((place, part), rest) = esel_bracket(alloc, depth, standing, calls, at)?;
@@ -283,7 +282,7 @@ fn indexed_turn<'t>(
         Reads path_tree depth part at.entry result }
 {
     if !sel || at.next_is(Class::Is(Sign::Dot)) {
-        return dotted(alloc, depth, standing, calls, stem, Some(index), at);
+        return dotted(depth, standing, calls, stem, Some(index), at);
     }
     let ((second, part), rest) = esel_bracket(alloc, depth, standing, calls, at)?;
     let path = made::reselected(stem, place, index, second, part);
@@ -354,7 +353,7 @@ pub fn path<'t>(
 ) -> Read<'t, Path>
     ensures { Reads path_tree depth (names.path (expr_at standing calls) sel) at.entry result }
 {
-    let (id, more) = id(alloc, at)?;
+    let (id, more) = id(at)?;
     path_rest(
         alloc,
         depth,
@@ -491,7 +490,7 @@ fn system_end<'t>(
 fn by_system<'t>(alloc: Global, depth: usize, calls: bool, at: At<'t>) -> Read<'t, Boxed<Expr>>
     ensures { Reads expr_tree depth (parts.by_system calls) at.entry result }
 {
-    let (id, more) = system_name(alloc, no_call(calls, at))?;
+    let (id, more) = system_name(no_call(calls, at))?;
     system_end(alloc, depth, calls, id, more)
 }
 

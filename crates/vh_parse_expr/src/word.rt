@@ -13,9 +13,10 @@ ghost use Rattle.vh_parse_expr.specs.Views.{Reads, IsId, tokens_seen};
 use sqlite_items::Boxed;
 use std::alloc::Global;
 use vh_ast::{Binary, Expr, ExprForm, Id, Number, Primary, Unary};
-use vh_base::{Bytes, NoMemory, Place};
+use vh_base::{NoMemory, Place};
 use vh_grammar::{Cursor, Stop};
 use vh_lex::{Kind, Token};
+use vh_shared::SharedBytes;
 use vh_syntax::{Class, Sign, Word};
 
 /// The words before a parser, and what was shown to be left out.
@@ -45,36 +46,36 @@ pub fn kept<T>(made: Result<T, NoMemory>) -> Result<T, Stop>
     }
 }
 
-// A name with its place.
-fn named(alloc: Global, place: Place, name: &Bytes) -> Result<Id, Stop>
+// A name with its place. It shares the token's bytes.
+fn named(place: Place, name: &SharedBytes) -> Result<Id, Stop>
     ensures { MatchResult result (λ id. IsId id place name.now) (λ stop. stop ≡ Memory) }
 {
-    let name = kept(Bytes::from_slice(alloc, name.as_slice()))?;
+    let name = kept(name.share())?;
     Ok(Id { place, name })
 }
 
 /// `ID`
-pub fn id<'t>(alloc: Global, at: At<'t>) -> Read<'t, Id>
+pub fn id<'t>(at: At<'t>) -> Read<'t, Id>
     ensures { Reads (λ i. i) 0 an_id at.entry result }
 {
     let [first, rest @ ..] = at.tokens else {
         return Err(at.lost());
     };
     match &first.token.kind {
-        Kind::Name(name) => Ok((named(alloc, first.token.place, name)?, at.before(rest))),
+        Kind::Name(name) => Ok((named(first.token.place, name)?, at.before(rest))),
         _ => Err(at.lost()),
     }
 }
 
 /// `SYS`
-pub fn system_name<'t>(alloc: Global, at: At<'t>) -> Read<'t, Id>
+pub fn system_name<'t>(at: At<'t>) -> Read<'t, Id>
     ensures { Reads (λ i. i) 0 a_system at.entry result }
 {
     let [first, rest @ ..] = at.tokens else {
         return Err(at.lost());
     };
     match &first.token.kind {
-        Kind::SysName(name) => Ok((named(alloc, first.token.place, name)?, at.before(rest))),
+        Kind::SysName(name) => Ok((named(first.token.place, name)?, at.before(rest))),
         _ => Err(at.lost()),
     }
 }
@@ -88,7 +89,7 @@ pub(crate) fn text<'t>(alloc: Global, at: At<'t>) -> Read<'t, Boxed<Expr>>
     };
     match &first.token.kind {
         Kind::Text(text) => {
-            let text = kept(Bytes::from_slice(alloc, text.as_slice()))?;
+            let text = kept(text.share())?;
             let place = first.token.place;
             let form = ExprForm::Primary(Primary::Text(text));
             Ok((Boxed::new(alloc, Expr { place, form })?, at.before(rest)))

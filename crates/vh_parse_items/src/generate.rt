@@ -368,7 +368,7 @@ fn item_block<'t>(alloc: Global, depth: usize, at: At<'t>) -> Read<'t, Boxed<Gbl
     ensures { Reads gblock_tree depth parts.item_block at.entry result }
 {
     let (place, more) = sign(Sign::Begin, at)?;
-    let (name, more) = written_name(alloc, more)?;
+    let (name, more) = written_name(more)?;
     let (items, more) = items(alloc, depth, more)?;
     let (items, rest) = then_sign(items, Sign::End, more)?;
     Ok((made::item_block(alloc, place, name, items)?, rest))

@@ -71,7 +71,7 @@ fn module<'t>(alloc: Global, depth: usize, at: At<'t>) -> Read<'t, Module>
     ensures { Reads module_tree depth parts.a_module at.entry result }
 {
     let (word, more) = module_word(at)?;
-    let (id, more) = id(alloc, more)?;
+    let (id, more) = id(more)?;
     let (pars, more) = pars(alloc, depth, more)?;
     let (ports, more) = port_list(alloc, depth, more)?;
     let (ports, more) = then_sign(ports, Sign::Semicolon, more)?;

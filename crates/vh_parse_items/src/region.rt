@@ -14,7 +14,6 @@ ghost use Rattle.vh_parse_items.specs.Views.{region_tree, items_seen};
 
 use crate::made;
 use sqlite_items::Items;
-use std::alloc::Global;
 use vh_ast::{Id, Item};
 use vh_grammar::Stop;
 use vh_parse_expr::{At, Read, id, sign};
@@ -105,13 +104,13 @@ pub(crate) fn region_end<'t>(depth: usize, region: Region, at: At<'t>) -> Read<'
 }
 
 // `[ ":" ID ]`
-pub(crate) fn written_name<'t>(alloc: Global, at: At<'t>) -> Read<'t, Option<Id>>
+pub(crate) fn written_name<'t>(at: At<'t>) -> Read<'t, Option<Id>>
     ensures { Reads (λ name. name) 0 written_name at.entry result }
 {
     if !at.next_is(Class::Is(Sign::Colon)) {
         return Ok((None, at));
     }
     let named = at.take(Class::Is(Sign::Colon))?;
-    let (id, rest) = id(alloc, named)?;
+    let (id, rest) = id(named)?;
     Ok((Some(id), rest))
 }

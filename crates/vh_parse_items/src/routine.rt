@@ -38,7 +38,7 @@ fn routine<'t>(
 ) -> Read<'t, Boxed<RoutineParts>>
     ensures { Reads routine_tree depth (parts.routine inside) at.entry result }
 {
-    let (id, more) = id(alloc, at)?;
+    let (id, more) = id(at)?;
     let (targs, more) = maybe_targs(alloc, depth, more)?;
     let (targs, more) = then_sign(targs, Sign::Semicolon, more)?;
     let (locals, more) = locals(alloc, depth, more)?;

@@ -25,8 +25,8 @@ impl Listed for Names {
 
     ghost advances = { λ form. tt };
 
-    fn read<'t>(alloc: Global, _depth: usize, _form: bool, at: At<'t>) -> Read<'t, Id> {
-        id(alloc, at)
+    fn read<'t>(_alloc: Global, _depth: usize, _form: bool, at: At<'t>) -> Read<'t, Id> {
+        id(at)
     }
 }
 
@@ -44,8 +44,8 @@ impl Listed for BareNames {
 
     ghost advances = { λ form. (tt, tt) };
 
-    fn read<'t>(alloc: Global, _depth: usize, form: bool, at: At<'t>) -> Read<'t, Id> {
-        bare_id(alloc, form, at)
+    fn read<'t>(_alloc: Global, _depth: usize, form: bool, at: At<'t>) -> Read<'t, Id> {
+        bare_id(form, at)
     }
 }
 

@@ -26,7 +26,7 @@ use vh_syntax::{Class, Sign, Start};
 fn named_gate<'t>(alloc: Global, depth: usize, at: At<'t>) -> Read<'t, Gate>
     ensures { Reads gate_tree depth named_gate at.entry result }
 {
-    let (id, more) = id(alloc, at)?;
+    let (id, more) = id(at)?;
     let (terminals, rest) = list_in_parens(alloc, depth, more)?;
     let place = id.place;
     let id = Some(id);
@@ -115,7 +115,7 @@ fn named_conn<'t>(alloc: Global, depth: usize, at: At<'t>) -> Read<'t, Conn>
     ensures { Reads conn_tree depth parts.conn_by_name at.entry result }
 {
     let (place, more) = sign(Sign::Dot, at)?;
-    let (id, more) = id(alloc, more)?;
+    let (id, more) = id(more)?;
     let (expr, rest) = maybe_in_parens(alloc, depth, more)?;
     Ok((Conn::Named { place, id, expr }, rest))
 }
@@ -184,7 +184,7 @@ fn conns_in_parens<'t>(alloc: Global, depth: usize, at: At<'t>) -> Read<'t, Conn
 fn inst<'t>(alloc: Global, depth: usize, at: At<'t>) -> Read<'t, Inst>
     ensures { Reads inst_tree depth parts.inst at.entry result }
 {
-    let (id, more) = id(alloc, at)?;
+    let (id, more) = id(at)?;
     let (conns, rest) = conns_in_parens(alloc, depth, more)?;
     Ok((Inst { id, conns }, rest))
 }

@@ -148,7 +148,7 @@ pub fn gate_item<'t>(alloc: Global, depth: usize, at: At<'t>) -> Read<'t, Boxed<
 pub fn instance_item<'t>(alloc: Global, depth: usize, at: At<'t>) -> Read<'t, Boxed<Item>>
     ensures { Reads item_tree depth parts.instance_item at.entry result }
 {
-    let (name, more) = id(alloc, at)?;
+    let (name, more) = id(at)?;
     let (overrides, more) = written_overrides(alloc, depth, more)?;
     let (insts, more) = list::<Instances>(alloc, depth, true, more)?;
     let (insts, rest) = then_sign(insts, Sign::Semicolon, more)?;

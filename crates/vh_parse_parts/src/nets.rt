@@ -25,7 +25,7 @@ use vh_syntax::{Class, Group, Sign};
 fn net<'t>(alloc: Global, depth: usize, at: At<'t>) -> Read<'t, Net>
     ensures { Reads net_tree depth declared.a_net at.entry result }
 {
-    let (id, more) = bare_id(alloc, true, at)?;
+    let (id, more) = bare_id(true, at)?;
     let (value, rest) = value(alloc, depth, more)?;
     Ok((Net { id, value }, rest))
 }

@@ -25,7 +25,7 @@ use vh_syntax::{Class, Sign};
 pub fn assigned<'t>(alloc: Global, depth: usize, at: At<'t>) -> Read<'t, Assigned>
     ensures { Reads assigned_tree depth declared.assigned at.entry result }
 {
-    let (id, more) = id(alloc, at)?;
+    let (id, more) = id(at)?;
     let (value, rest) = behind(alloc, depth, true, Sign::Equal, more)?;
     Ok((Assigned { id, value }, rest))
 }

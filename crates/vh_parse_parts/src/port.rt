@@ -70,10 +70,10 @@ fn port_bare(port_type: Option<PortType>) -> bool
 }
 
 // `ID`, behind which a range is left out where it is so behind such a port.
-fn port_id<'t>(alloc: Global, port_type: Option<PortType>, at: At<'t>) -> Read<'t, Id>
+fn port_id<'t>(port_type: Option<PortType>, at: At<'t>) -> Read<'t, Id>
     ensures { Reads (λ i. i) 0 (bare_id (port_bare port_type)) at.entry result }
 {
-    bare_id(alloc, port_bare(port_type), at)
+    bare_id(port_bare(port_type), at)
 }
 
 // `ID { "," ID }`, behind each of which a range is left out in the same way.
@@ -95,7 +95,7 @@ fn pdecl<'t>(alloc: Global, depth: usize, at: At<'t>) -> Read<'t, Pdecl>
     ensures { Reads pdecl_tree depth parts.pdecl at.entry result }
 {
     let (head, more) = port_head(alloc, depth, at)?;
-    let (id, rest) = port_id(alloc, head.port_type, more)?;
+    let (id, rest) = port_id(head.port_type, more)?;
     let pdecl = Pdecl {
         place: head.place,
         direction: head.direction,
@@ -119,12 +119,12 @@ fn next_pdecl<'t>(alloc: Global, depth: usize, header: Header, at: At<'t>) -> Re
 }
 
 // An `ID` behind a comma: a port like the one before it.
-fn next_name<'t>(alloc: Global, header: Header, at: At<'t>) -> Read<'t, Header>
+fn next_name<'t>(header: Header, at: At<'t>) -> Read<'t, Header>
     ensures { let d = header_tree header in
         let part = act (with_port d) (bare_id (port_bare d.port_type)) in
         Reads header_tree 0 part at.entry result }
 {
-    let (id, rest) = port_id(alloc, header.port_type, at)?;
+    let (id, rest) = port_id(header.port_type, at)?;
     let mut header = header;
     header.more.push(Port::Id(id))?;
     Ok((header, rest))
@@ -138,7 +138,7 @@ fn port_or_name<'t>(alloc: Global, depth: usize, header: Header, at: At<'t>) -> 
     if at.next_is(Class::Row(Rows::Direction)) {
         return next_pdecl(alloc, depth, header, at);
     }
-    next_name(alloc, header, at)
+    next_name(header, at)
 }
 
 // `"," ( pdecl | ID )`

@@ -77,10 +77,10 @@ fn targ_bare(variable: Option<Variable>) -> bool
 }
 
 // `ID`, behind which a range is left out where it is so behind such an argument.
-fn targ_id<'t>(alloc: Global, variable: Option<Variable>, at: At<'t>) -> Read<'t, Id>
+fn targ_id<'t>(variable: Option<Variable>, at: At<'t>) -> Read<'t, Id>
     ensures { Reads (λ i. i) 0 (bare_id (targ_bare variable)) at.entry result }
 {
-    bare_id(alloc, targ_bare(variable), at)
+    bare_id(targ_bare(variable), at)
 }
 
 // `ID { "," ID }`, behind each of which a range is left out in the same way.
@@ -134,7 +134,7 @@ fn targ_one<'t>(alloc: Global, depth: usize, at: At<'t>) -> Read<'t, Argument>
     ensures { Reads argument_tree depth parts.targ_one at.entry result }
 {
     let (head, more) = targ_head(alloc, depth, at)?;
-    let (id, rest) = targ_id(alloc, head.variable, more)?;
+    let (id, rest) = targ_id(head.variable, more)?;
     let ids = one_id(alloc, id)?;
     Ok((Argument { head, ids }, rest))
 }
@@ -151,12 +151,12 @@ fn next_head<'t>(alloc: Global, depth: usize, all: Arguments, at: At<'t>) -> Rea
 }
 
 // An `ID` behind a comma, which goes on with the `targ` before it.
-fn next_name<'t>(alloc: Global, all: Arguments, at: At<'t>) -> Read<'t, Arguments>
+fn next_name<'t>(all: Arguments, at: At<'t>) -> Read<'t, Arguments>
     ensures { let s = targs_tree all in
         let part = act (with_id s) (bare_id (targ_bare (s.last).variable)) in
         Reads targs_tree 0 part at.entry result }
 {
-    let (id, rest) = targ_id(alloc, all.last.head.variable, at)?;
+    let (id, rest) = targ_id(all.last.head.variable, at)?;
     let mut all = all;
     all.last.ids.push(id)?;
     Ok((all, rest))
@@ -169,7 +169,7 @@ fn targ_or_name<'t>(alloc: Global, depth: usize, all: Arguments, at: At<'t>) -> 
     if at.next_is(Class::Row(Rows::Targ)) {
         return next_head(alloc, depth, all, at);
     }
-    next_name(alloc, all, at)
+    next_name(all, at)
 }
 
 // `"," ( targ | ID )`

@@ -1,11 +1,12 @@
-use Rattle.std.proofs.Common.{sym, arith}
-use Rattle.vh_lex.specs.Keywords.{keyword_rows}
-use Rattle.vh_lex.proofs.ShortWords.{short-word}
+use Rattle.std.proofs.Common.{map}
+use Rattle.vh_lex.specs.Seen.{row_seen}
+use Rattle.vh_lex.proofs.GroupLemmas.{keyword-from, no-keyword}
 use Rattle.vh_lex.proofs.keyword.keyword_of.Goals as goal
 
-pub returns-then-name-lt2 : goal.returns-then-name-lt2
-returns-then-name-lt2 c = sym (short-word c.args.name.now (omega arith))
+pub returns-in_default : goal.returns-in_default
+returns-in_default c = no-keyword c.args.name.now c.in_default.ensures.cases
 
 pub returns : goal.returns
-unfolding keyword_rows
-returns c = c.spelled.ensures
+returns c =
+    keyword-from c.args.name.now c.in-Some.first.now c.in-Some.field-0-1.now (map row_seen c.keywords_from.result.now) c.spelled.result
+    c.in-Some.ensures.cases.0 c.keywords_from.ensures c.spelled.ensures

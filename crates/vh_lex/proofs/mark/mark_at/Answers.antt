@@ -1,6 +1,16 @@
-use Rattle.vh_lex.specs.Marks.{mark_rows}
+use Rattle.std.proofs.Common.{map}
+use Rattle.std.specs.Option.{option_map}
+use Rattle.vh_lex.specs.Seen.{row_seen}
+use Rattle.vh_lex.proofs.GroupLemmas.{mark-from, no-mark}
 use Rattle.vh_lex.proofs.mark.mark_at.Goals as goal
 
 pub returns : goal.returns
-unfolding mark_rows
-returns c = record { value = c.begun.ensures.value; inside = c.begun.ensures.inside }
+returns c =
+    record {
+      value = mark-from c.args.bytes.now c.in-Some.first.now c.in-Some.field-0-1.now (map row_seen c.marks_from.result.now) (option_map row_seen c.begun.result)
+          c.in-Some.ensures.cases.0 c.marks_from.ensures c.begun.ensures.value;
+      inside = c.begun.ensures.inside;
+    }
+
+pub returns-in_default-clause-value : goal.returns-in_default-clause-value
+returns-in_default-clause-value c = no-mark c.args.bytes.now c.in_default.ensures.cases
