@@ -52,7 +52,8 @@ pub enum BlockWord {
     Fork,
 }
 
-/// A statement in which none stands.
+/// A statement in which none stands. What is large stands in a box, so that it takes little in a row of
+/// statements.
 #[derive(Drop)]
 pub enum Simple {
     /// `";"`
@@ -61,19 +62,19 @@ pub enum Simple {
     Assign {
         target: Lv,
         word: AssignWord,
-        delay: Option<Delay>,
-        value: Expr,
+        delay: Option<Boxed<Delay>>,
+        value: Boxed<Expr>,
     },
     /// `"->" name ";"`
     Trigger(Name<Expr>),
     /// `"disable" name ";"`
     Disable(Name<Expr>),
     /// `( "force" | "assign" ) lv "=" expr ";"`
-    Force(ForceWord, Set),
+    Force(ForceWord, Boxed<Set>),
     /// `( "release" | "deassign" ) lv ";"`
     Release(ReleaseWord, Lv),
     /// `name [ "(" expr { "," expr } ")" ] ";"`: no expression where nothing is written.
-    Call(Name<Expr>, Items<Expr>),
+    Call(Boxed<Name<Expr>>, Items<Expr>),
     /// `SYS [ "(" [ expr ] { "," [ expr ] } ")" ] ";"`: no argument for `()` too.
     System(Id, Items<Option<Expr>>),
 }
@@ -93,39 +94,39 @@ pub struct Citem<S> {
     pub body: S,
 }
 
-/// What a statement is.
+/// What a statement is. What is large stands in a box, as in [`Simple`].
 #[derive(Drop)]
 pub enum StmtForm<S> {
     Simple(Simple),
     /// `delay stmt`
-    Delay(Delay, Boxed<S>),
+    Delay(Boxed<Delay>, Boxed<S>),
     /// `"@" ( .. ) stmt`
-    Event(Event, Boxed<S>),
+    Event(Boxed<Event>, Boxed<S>),
     /// `"wait" "(" expr ")" stmt`
-    Wait(Expr, Boxed<S>),
+    Wait(Boxed<Expr>, Boxed<S>),
     /// `"if" "(" expr ")" stmt [ "else" stmt ]`
     If {
-        test: Expr,
+        test: Boxed<Expr>,
         holds: Boxed<S>,
         fails: Option<Boxed<S>>,
     },
     /// `( "case" | "casez" | "casex" ) "(" expr ")" citem { citem } "endcase"`
     Case {
         word: CaseWord,
-        value: Expr,
+        value: Boxed<Expr>,
         citems: Items<Citem<S>>,
     },
     /// `"for" "(" lv "=" expr ";" expr ";" lv "=" expr ")" stmt`
     For {
-        start: Set,
-        test: Expr,
-        step: Set,
+        start: Boxed<Set>,
+        test: Boxed<Expr>,
+        step: Boxed<Set>,
         body: Boxed<S>,
     },
     /// `( "while" | "repeat" ) "(" expr ")" stmt`
     Loop {
         word: LoopWord,
-        test: Expr,
+        test: Boxed<Expr>,
         body: Boxed<S>,
     },
     /// `"forever" stmt`
@@ -152,7 +153,7 @@ impl Stmt {
     ghost use Rattle.vh_ast.specs.Views.{expr_tree, stmt_tree, citem_tree};
 
     /// `case`, `casez` or `casex`: a statement for each label.
-    pub fn case(place: Place, word: CaseWord, value: Expr, all: Items<Citem<Stmt>>) -> Stmt
+    pub fn case(place: Place, word: CaseWord, value: Boxed<Expr>, all: Items<Citem<Stmt>>) -> Stmt
         ensures { let form = case_stmt word (expr_tree value) (citems (map citem_tree all)) in
             stmt_tree result ≡ stmt place form }
     {

@@ -14,6 +14,7 @@ use crate::added::Added;
 use crate::fault::LowerFault;
 use crate::labels::Operations;
 use crate::making::{delay_of, targets_of, value_of};
+use sqlite_items::Boxed as TreeBox;
 use std::alloc::Global;
 use vh_ast::{AssignWord, Delay, Expr, Lv, Set};
 use vh_base::{Boxed, ExprId, NoMemory, Sequence};
@@ -194,7 +195,7 @@ pub(crate) fn assign_labels(
     added: &mut Added,
     target: &Lv,
     word: AssignWord,
-    delay: &Option<Delay>,
+    delay: &Option<TreeBox<Delay>>,
     value: &Expr,
 ) -> Result<Operations, LowerFault>
     requires sound { IsSound mode.Value (surroundings_seen around.now).scope (added_seen added.old).exprs }
@@ -209,11 +210,11 @@ pub(crate) fn assign_labels(
     match (word, delay) {
         (AssignWord::Blocking, None) => set_parts(alloc, around, added, target, value),
         (AssignWord::Blocking, Some(delay)) => {
-            delayed_parts(alloc, around, added, target, delay, value)
+            delayed_parts(alloc, around, added, target, delay.get(), value)
         }
         (AssignWord::Nonblocking, None) => scheduled_parts(alloc, around, added, target, value),
         (AssignWord::Nonblocking, Some(delay)) => {
-            scheduled_later(alloc, around, added, target, delay, value)
+            scheduled_later(alloc, around, added, target, delay.get(), value)
         }
     }
 }

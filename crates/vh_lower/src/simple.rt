@@ -203,12 +203,12 @@ fn simple_labels(
             word,
             delay,
             value,
-        } => assign_labels(alloc, around, added, target, *word, delay, value),
+        } => assign_labels(alloc, around, added, target, *word, delay, value.get()),
         Simple::Trigger(name) => trigger_labels(alloc, around, added, name),
         Simple::Disable(name) => disable_labels(alloc, around, added, name),
-        Simple::Force(word, set) => force_labels(alloc, around, added, *word, set),
+        Simple::Force(word, set) => force_labels(alloc, around, added, *word, set.get()),
         Simple::Release(word, target) => release_labels(alloc, around, added, *word, target),
-        Simple::Call(name, values) => task_labels(alloc, around, added, name, values),
+        Simple::Call(name, values) => task_labels(alloc, around, added, name.get(), values),
         Simple::System(id, values) => system_labels(alloc, around, added, id, values),
     }
 }

@@ -70,15 +70,15 @@ fn lower_stmt(
     match &stmt.form {
         StmtForm::Simple(simple) => simple_flow(alloc, around, added, place, simple),
         StmtForm::Delay(delay, body) => {
-            let front = delay_front(alloc, around, added, place, delay)?;
+            let front = delay_front(alloc, around, added, place, delay.get())?;
             let body = lower_stmt(alloc, around, added, body.get())?;
             Ok(behind_front(alloc, front, body)?)
         }
         StmtForm::Event(event, body) => {
-            lower_event(alloc, around, added, place, event, body.get())
+            lower_event(alloc, around, added, place, event.get(), body.get())
         }
         StmtForm::Wait(test, body) => {
-            let front = wait_front(alloc, around, added, place, test)?;
+            let front = wait_front(alloc, around, added, place, test.get())?;
             let body = lower_stmt(alloc, around, added, body.get())?;
             Ok(behind_front(alloc, front, body)?)
         }
@@ -87,7 +87,7 @@ fn lower_stmt(
                 None => StmtKind::If,
                 Some(_) => StmtKind::IfElse,
             };
-            let head = headed(alloc, around, added, kind, place, test)?;
+            let head = headed(alloc, around, added, kind, place, test.get())?;
             let holds = lower_stmt(alloc, around, added, holds.get())?;
             let fails = match fails {
                 None => nothing(alloc)?,
@@ -104,7 +104,7 @@ fn lower_stmt(
                 number,
                 calls,
                 test,
-            } = headed(alloc, around, added, StmtKind::Case, place, value)?;
+            } = headed(alloc, around, added, StmtKind::Case, place, value.get())?;
             let mut cases = no_cases(alloc, calls);
             lower_items(alloc, around, added, &mut cases, citems.as_slice())?;
             Ok(case_flow(alloc, *word, number, test, cases, &added.exprs)?)
@@ -115,7 +115,15 @@ fn lower_stmt(
             step,
             body,
         } => {
-            let head = for_head(alloc, around, added, place, start, test, step)?;
+            let head = for_head(
+                alloc,
+                around,
+                added,
+                place,
+                start.get(),
+                test.get(),
+                step.get(),
+            )?;
             let body = lower_stmt(alloc, around, added, body.get())?;
             Ok(for_flow(alloc, head, body)?)
         }
@@ -124,7 +132,7 @@ fn lower_stmt(
                 LoopWord::While => StmtKind::While,
                 LoopWord::Repeat => StmtKind::Repeat,
             };
-            let head = headed(alloc, around, added, kind, place, test)?;
+            let head = headed(alloc, around, added, kind, place, test.get())?;
             let body = lower_stmt(alloc, around, added, body.get())?;
             Ok(loop_flow(alloc, *word, head, body)?)
         }

@@ -215,9 +215,12 @@ enum Wanted {
     Driven,
 }
 
-fn right_side(stmt: &Stmt) -> Option<(&Option<Delay>, &Expr)> {
-    match &stmt.form {
-        StmtForm::Simple(Simple::Assign { delay, value, .. }) => Some((delay, value)),
+fn right_side(stmt: Stmt) -> Option<(Option<Delay>, Expr)> {
+    match stmt.form {
+        StmtForm::Simple(Simple::Assign { delay, value, .. }) => match delay {
+            Some(delay) => Some((Some(delay.into_inner()), value.into_inner())),
+            None => Some((None, value.into_inner())),
+        },
         _ => None,
     }
 }
@@ -227,26 +230,26 @@ fn made(
     around: &Surroundings,
     added: &mut Added,
     wanted: Wanted,
-    stmt: &Stmt,
+    stmt: Stmt,
 ) -> Result<Code, LowerFault>
     requires sound { IsSound mode.Value (surroundings_seen around.now).scope (added_seen added.old).exprs }
     requires unit { is_unit (surroundings_seen around.now).scope.precision
         (surroundings_seen around.now).scope.unit ≡ true }
 {
     match wanted {
-        Wanted::Statement(kind) => lower(alloc, around, added, kind, stmt),
+        Wanted::Statement(kind) => lower(alloc, around, added, kind, &stmt),
         Wanted::Value => {
             let Some((_, value)) = right_side(stmt) else {
                 return Err(LowerFault::PassedOver);
             };
-            initial_code(alloc, around, added, ObjId::new(4), value)
+            initial_code(alloc, around, added, ObjId::new(4), &value)
         }
         Wanted::Driven => {
             let Some((delay, value)) = right_side(stmt) else {
                 return Err(LowerFault::PassedOver);
             };
             let drivers = Sequence::new(Vec::new(alloc));
-            drive_code(alloc, around, added, drivers, delay, value)
+            drive_code(alloc, around, added, drivers, &delay, &value)
         }
     }
 }
@@ -255,7 +258,7 @@ fn made_beside(
     alloc: Global,
     around: &Surroundings,
     wanted: Wanted,
-    stmt: &Stmt,
+    stmt: Stmt,
 ) -> Result<(Code, Added), LowerFault>
     requires unit { is_unit (surroundings_seen around.now).scope.precision
         (surroundings_seen around.now).scope.unit ≡ true }
@@ -270,7 +273,7 @@ fn lowered_in<'s>(
     scope: &'s Scope,
     arguments: &'s [Arguments],
     wanted: Wanted,
-    stmt: &Stmt,
+    stmt: Stmt,
 ) -> Result<(Code, Added), LowerFault>
     requires unit { is_unit (scope_seen scope.now).precision (scope_seen scope.now).unit ≡ true }
 {
@@ -282,7 +285,7 @@ fn lowered(
     alloc: Global,
     world: &World,
     wanted: Wanted,
-    stmt: &Stmt,
+    stmt: Stmt,
 ) -> Result<(Code, Added), LowerFault> {
     let five = ExprNode {
         kind: ExprKind::Literal(Vec4::from_planes(8, 5, 0, false)),
@@ -454,7 +457,7 @@ enum View {
     Waits,
 }
 
-fn answer(alloc: Global, wanted: Wanted, view: View, stmt: &Stmt) -> Result<String, Fail> {
+fn answer(alloc: Global, wanted: Wanted, view: View, stmt: Stmt) -> Result<String, Fail> {
     let world = World::new(alloc)?;
     match lowered(alloc, &world, wanted, stmt) {
         Ok((code, added)) => match view {
@@ -477,7 +480,7 @@ fn read(alloc: Global, wanted: Wanted, view: View, text: &str) -> Result<String,
     lexer.file(alloc, 1, text.as_bytes())?;
     let tokens = lexer.tokens().as_slice();
     match parse_stmt(alloc, tokens, 0, false, PLACE) {
-        Ok((stmt, _)) => answer(alloc, wanted, view, stmt.get()),
+        Ok((stmt, _)) => answer(alloc, wanted, view, stmt.into_inner()),
         Err(_) => Ok(format!(in alloc; "not read")?),
     }
 }

@@ -95,7 +95,7 @@ fn named_decls<'t>(alloc: Global, depth: usize, at: At<'t>) -> Read<'t, Label>
     ensures { Reads label_tree depth named_decls at.entry result }
 {
     let named = at.take(Class::Is(Sign::Colon))?;
-    let (id, more) = id(alloc, named)?;
+    let (id, more) = id(named)?;
     let (decls, rest) = decls(alloc, depth, more)?;
     Ok((Label { id, decls }, rest))
 }

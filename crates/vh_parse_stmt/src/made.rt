@@ -4,7 +4,7 @@
 ghost use Rattle.std.specs.Prelude.{◌≡◌, ◌++◌, [], ◌∷◌, Option, option_map, map, MatchResult};
 ghost use Rattle.vh_grammar.specs.declared.stop.Stop.TheVariants.{Memory};
 ghost use Rattle.vh_ast.specs.Statements as trees;
-ghost use Rattle.vh_ast.specs.Views.{expr_tree, delay_tree, event_tree, lv_tree, simple_tree, stmt_tree, citem_tree};
+ghost use Rattle.vh_ast.specs.Views.{expr_tree, delay_tree, event_tree, lv_tree, set_tree, simple_tree, stmt_tree, citem_tree};
 ghost use Rattle.vh_syntax.specs.Statements as parts;
 ghost use Rattle.vh_parse_expr.specs.Views.{exprs_seen, path_tree};
 ghost use Rattle.vh_parse_stmt.specs.Views.{head_tree, label_tree, values_tree, stmts_seen, citems_seen};
@@ -14,8 +14,8 @@ use crate::head::{ForHead, Label, Values};
 use sqlite_items::{Boxed, Items};
 use std::alloc::Global;
 use vh_ast::{
-    AssignWord, BlockWord, CaseWord, Citem, Delay, Event, Expr, Labels, LoopWord, Lv, Simple, Stmt,
-    StmtForm,
+    AssignWord, BlockWord, CaseWord, Citem, Delay, Event, Expr, ForceWord, Labels, LoopWord, Lv,
+    Set, Simple, Stmt, StmtForm,
 };
 use vh_base::Place;
 use vh_grammar::Stop;
@@ -42,17 +42,27 @@ pub(crate) fn assign(
         MatchResult result (λ s. stmt_tree s ≡ made) (λ stop. stop ≡ Memory) }
 {
     let place = target.place;
-    let delay = match delay {
-        Some(delay) => Some(delay.into_inner()),
-        None => None,
-    };
     let form = Simple::Assign {
         target,
         word,
         delay,
-        value,
+        value: Boxed::new(alloc, value)?,
     };
     simple(alloc, place, form)
+}
+
+// A `force` or an `assign`.
+pub(crate) fn force(
+    alloc: Global,
+    place: Place,
+    word: ForceWord,
+    set: Set,
+) -> Result<Boxed<Stmt>, Stop>
+    ensures { let made = parts.simple_at place (trees.force word (set_tree set)) in
+        MatchResult result (λ s. stmt_tree s ≡ made) (λ stop. stop ≡ Memory) }
+{
+    let set = Boxed::new(alloc, set)?;
+    simple(alloc, place, Simple::Force(word, set))
 }
 
 // A call of a task.
@@ -70,7 +80,7 @@ pub(crate) fn task_call(
         Some(all) => all,
         None => Items::new(alloc),
     };
-    simple(alloc, place, Simple::Call(name, all))
+    simple(alloc, place, Simple::Call(Boxed::new(alloc, name)?, all))
 }
 
 // A statement behind a delay.
@@ -82,8 +92,7 @@ pub(crate) fn delayed(
     ensures { let made = parts.delayed (delay_tree delay) (stmt_tree body) in
         MatchResult result (λ s. stmt_tree s ≡ made) (λ stop. stop ≡ Memory) }
 {
-    let delay = delay.into_inner();
-    let place = delay.place;
+    let place = delay.get().place;
     let form = StmtForm::Delay(delay, body);
     Ok(Boxed::new(alloc, Stmt { place, form })?)
 }
@@ -98,7 +107,7 @@ pub(crate) fn awaited(
     ensures { let made = parts.awaited place (event_tree event, stmt_tree body) in
         MatchResult result (λ s. stmt_tree s ≡ made) (λ stop. stop ≡ Memory) }
 {
-    let form = StmtForm::Event(event.into_inner(), body);
+    let form = StmtForm::Event(event, body);
     Ok(Boxed::new(alloc, Stmt { place, form })?)
 }
 
@@ -112,7 +121,7 @@ pub(crate) fn waited(
     ensures { let made = parts.waited place (expr_tree test, stmt_tree body) in
         MatchResult result (λ s. stmt_tree s ≡ made) (λ stop. stop ≡ Memory) }
 {
-    let form = StmtForm::Wait(test.into_inner(), body);
+    let form = StmtForm::Wait(test, body);
     Ok(Boxed::new(alloc, Stmt { place, form })?)
 }
 
@@ -127,7 +136,6 @@ pub(crate) fn chosen(
     ensures { let made = parts.if_of place (expr_tree test, (stmt_tree holds, option_map stmt_tree fails)) in
         MatchResult result (λ s. stmt_tree s ≡ made) (λ stop. stop ≡ Memory) }
 {
-    let test = test.into_inner();
     let form = match fails {
         Some(other) => StmtForm::If {
             test,
@@ -205,7 +213,7 @@ pub(crate) fn case(
     ensures { let made = case_by (place, word) (expr_tree value, citems_seen all) in
         MatchResult result (λ s. stmt_tree s ≡ made) (λ stop. stop ≡ Memory) }
 {
-    let stmt = Stmt::case(place, word, value.into_inner(), all);
+    let stmt = Stmt::case(place, word, value, all);
     Ok(Boxed::new(alloc, stmt)?)
 }
 
@@ -221,9 +229,9 @@ pub(crate) fn for_loop(
 {
     let ForHead { start, test, step } = head.into_inner();
     let form = StmtForm::For {
-        start,
-        test,
-        step,
+        start: Boxed::new(alloc, start)?,
+        test: Boxed::new(alloc, test)?,
+        step: Boxed::new(alloc, step)?,
         body,
     };
     Ok(Boxed::new(alloc, Stmt { place, form })?)
@@ -240,7 +248,6 @@ pub(crate) fn looped(
     ensures { let made = parts.loop_of (place, word) (expr_tree test, stmt_tree body) in
         MatchResult result (λ s. stmt_tree s ≡ made) (λ stop. stop ≡ Memory) }
 {
-    let test = test.into_inner();
     let form = StmtForm::Loop { word, test, body };
     Ok(Boxed::new(alloc, Stmt { place, form })?)
 }

@@ -187,7 +187,7 @@ fn force<'t>(alloc: Global, depth: usize, at: At<'t>) -> Read<'t, Boxed<Stmt>>
     let ((place, word), more) = force_word(at)?;
     let (set, more) = set(alloc, depth, false, more)?;
     let (set, rest) = then_sign(set, Sign::Semicolon, more)?;
-    Ok((made::simple(alloc, place, Simple::Force(word, set))?, rest))
+    Ok((made::force(alloc, place, word, set)?, rest))
 }
 
 // `( "release" | "deassign" ) lv ";"`

@@ -107,6 +107,6 @@ fn system_task<'t>(alloc: Global, depth: usize, id: Id, at: At<'t>) -> Read<'t, 
 pub(crate) fn system<'t>(alloc: Global, depth: usize, at: At<'t>) -> Read<'t, Boxed<Stmt>>
     ensures { Reads stmt_tree depth parts.system_stmt at.entry result }
 {
-    let (id, more) = system_name(alloc, at)?;
+    let (id, more) = system_name(at)?;
     system_task(alloc, depth, id, more)
 }

@@ -1,5 +1,6 @@
 //! Statements.
 
+use sqlite_items::Boxed;
 use std::alloc::Global;
 use std::fmt::Write;
 use std::test::Fail;
@@ -228,13 +229,13 @@ fn push_assign(
     line: &mut String,
     target: &Lv,
     sign: &str,
-    delay: &Option<Delay>,
+    delay: &Option<Boxed<Delay>>,
     value: &Expr,
 ) -> Result<(), Fail> {
     push_lv(line, target)?;
     line.push_str(sign)?;
     if let Some(delay) = delay {
-        push_delay(line, delay)?;
+        push_delay(line, delay.get())?;
         line.push(' ')?;
     }
     push_expr(line, value)
@@ -278,7 +279,7 @@ fn push_slots(line: &mut String, slots: &[Option<Expr>]) -> Result<(), Fail> {
 fn push_call(line: &mut String, simple: &Simple) -> Result<(), Fail> {
     match simple {
         Simple::Call(name, arguments) => {
-            push_name(line, name)?;
+            push_name(line, name.get())?;
             line.push('(')?;
             push_exprs(line, arguments.as_slice())?;
             line.push_str(" )")?;
@@ -301,7 +302,7 @@ fn push_simple(line: &mut String, simple: &Simple) -> Result<(), Fail> {
             word,
             delay,
             value,
-        } => push_assign(line, target, assign_sign(*word), delay, value),
+        } => push_assign(line, target, assign_sign(*word), delay, value.get()),
         Simple::Trigger(name) => {
             line.push_str("-> ")?;
             push_name(line, name)
@@ -312,7 +313,7 @@ fn push_simple(line: &mut String, simple: &Simple) -> Result<(), Fail> {
         }
         Simple::Force(word, set) => {
             line.push_str(force_text(*word))?;
-            push_set(line, set)
+            push_set(line, set.get())
         }
         Simple::Release(word, target) => {
             line.push_str(release_text(*word))?;
@@ -370,16 +371,16 @@ fn push_timed<'e>(
 ) -> Result<(), Fail> {
     match form {
         StmtForm::Delay(delay, body) => {
-            push_delay(line, delay)?;
+            push_delay(line, delay.get())?;
             pieces.push(Piece::Stmt(body.get()))?;
         }
         StmtForm::Event(event, body) => {
-            push_event(line, event)?;
+            push_event(line, event.get())?;
             pieces.push(Piece::Stmt(body.get()))?;
         }
         StmtForm::Wait(test, body) => {
             line.push_str("wait ")?;
-            push_expr(line, test)?;
+            push_expr(line, test.get())?;
             pieces.push(Piece::Stmt(body.get()))?;
         }
         _ => {}
@@ -400,16 +401,16 @@ fn push_loop<'e>(
             body,
         } => {
             line.push_str("for")?;
-            push_set(line, start)?;
+            push_set(line, start.get())?;
             line.push_str("; ")?;
-            push_expr(line, test)?;
+            push_expr(line, test.get())?;
             line.push(';')?;
-            push_set(line, step)?;
+            push_set(line, step.get())?;
             pieces.push(Piece::Stmt(body.get()))?;
         }
         StmtForm::Loop { word, test, body } => {
             line.push_str(loop_text(*word))?;
-            push_expr(line, test)?;
+            push_expr(line, test.get())?;
             pieces.push(Piece::Stmt(body.get()))?;
         }
         StmtForm::Forever(body) => {
@@ -428,7 +429,7 @@ fn push_if<'e>(
 ) -> Result<(), Fail> {
     if let StmtForm::If { test, holds, fails } = form {
         line.push_str("if ")?;
-        push_expr(line, test)?;
+        push_expr(line, test.get())?;
         if let Some(other) = fails {
             pieces.push(Piece::Stmt(other.get()))?;
             pieces.push(Piece::Mark(" else"))?;
@@ -450,7 +451,7 @@ fn push_case<'e>(
     } = form
     {
         line.push_str(case_text(*word))?;
-        push_expr(line, value)?;
+        push_expr(line, value.get())?;
         for citem in citems.as_slice().iter().rev() {
             pieces.push(Piece::Stmt(&citem.body))?;
             pieces.push(Piece::Labels(&citem.labels))?;

@@ -12,8 +12,9 @@ use vh_ast::{
     Assigned, Binary, CaseWord, Citem, Expr, ExprForm, Gblock, Id, Item, ItemForm, Labels, Link,
     Lv, LvPart, Name, Number, Primary, Simple, Step, Stmt, StmtForm, Unary,
 };
-use vh_base::{Bytes, NoMemory, Place};
+use vh_base::{NoMemory, Place};
 use vh_logic::{Digit, Vec4};
+use vh_shared::SharedBytes;
 
 fn at(column: u32) -> Place {
     Place {
@@ -26,7 +27,7 @@ fn at(column: u32) -> Place {
 fn id(alloc: Global, column: u32, text: &[u8]) -> Result<Id, NoMemory> {
     Ok(Id {
         place: at(column),
-        name: Bytes::from_slice(alloc, text)?,
+        name: SharedBytes::from_slice(alloc, text)?,
     })
 }
 
@@ -58,7 +59,12 @@ fn zero(column: u32) -> Expr {
 }
 
 // An `if` as contracts see it.
-fn conditional(place: Place, test: Expr, holds: Boxed<Stmt>, fails: Option<Boxed<Stmt>>) -> Stmt
+fn conditional(
+    place: Place,
+    test: Boxed<Expr>,
+    holds: Boxed<Stmt>,
+    fails: Option<Boxed<Stmt>>,
+) -> Stmt
     ensures { let form = S.if_stmt (expr_tree test) (stmt_tree holds) (else_tree fails) in
         stmt_tree result ≡ S.stmt place form }
 {
@@ -233,14 +239,18 @@ fn otherwise(alloc: Global, column: u32) -> Result<Items<Citem<Stmt>>, NoMemory>
 
 #[test]
 fn cases(rt: HostRuntime) -> Result<(), Fail> {
-    let cases = Stmt::case(at(1), CaseWord::Casez, zero(8), otherwise(rt.alloc(), 11)?);
+    let alloc = rt.alloc();
+    let value = Boxed::new(alloc, zero(8))?;
+    let cases = Stmt::case(at(1), CaseWord::Casez, value, otherwise(alloc, 11)?);
     assert_eq!(rt; cases.place, at(1));
     Ok(())
 }
 
 #[test]
 fn branches(rt: HostRuntime) -> Result<(), Fail> {
-    let branches = conditional(at(3), zero(7), Boxed::new(rt.alloc(), empty(10))?, None);
+    let alloc = rt.alloc();
+    let test = Boxed::new(alloc, zero(7))?;
+    let branches = conditional(at(3), test, Boxed::new(alloc, empty(10))?, None);
     assert_eq!(rt; branches.place, at(3));
     Ok(())
 }
