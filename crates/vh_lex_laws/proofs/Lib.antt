@@ -1,0 +1,16 @@
+pub mod PlaceLemmas
+pub mod StackLemmas
+pub mod MacroLemmas
+pub mod FrontLemmas
+pub mod UseLemmas
+pub mod StepLemmas
+pub mod GoesLemmas
+pub mod CondLemmas
+pub mod TextLemmas
+pub mod ChainLemmas
+pub mod RunLemmas
+pub mod LongLemmas
+pub mod DigitLemmas
+pub mod LongestLemmas
+pub mod CoverLemmas
+pub mod Rows

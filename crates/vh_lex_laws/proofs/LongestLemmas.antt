@@ -1,0 +1,58 @@
+-- Any token is the longest one.
+use Rattle.std.proofs.Common.{◌≡◌, ℕ, suc, ◌≤◌, Bool, true, false, ◌&&◌, ◌||◌, not, List, [], ◌∷◌, ◌++◌, length, drop, nat_eq, if◌then◌else◌, ap, sym, subst, ◌∙◌, arith}
+use Rattle.std.specs.List.{prefix_len}
+use Rattle.vh_base.specs.Classes.{is_space, is_name_start, is_digit}
+use Rattle.vh_lex.specs.declared.piece.Part.{Part}
+use Rattle.vh_lex.specs.declared.piece.Piece.{Piece}
+use Rattle.vh_lex.specs.declared.piece.Piece.TheVariants.{Blank, Kept}
+use Rattle.vh_lex.specs.Bytes.{begins, begins_with, through}
+use Rattle.vh_lex.specs.Numbers.{number_at}
+use Rattle.vh_lex.specs.Texts.{text_at}
+use Rattle.vh_lex.specs.Front.{comment_len, name_of, word_at, system_at, escaped_by, use_by, mark_piece, slash_by, attribute_of, bracket_at, marked, front}
+use Rattle.vh_lex_laws.specs.Laws.{Longest}
+use Rattle.vh_lex_laws.proofs.FrontLemmas.{IsFine, fine-front}
+use Rattle.vh_lex_laws.proofs.RunLemmas.{pair-front, not-front}
+use Rattle.vh_lex_laws.proofs.LongLemmas.{word-same, system-same, escape-kept, use-kept, text-kept, mark-kept, slash-kept}
+use Rattle.vh_lex_laws.proofs.DigitLemmas.{number-kept}
+
+-- the same test of both
+if-kept : (t : Bool) (f g q r : Piece) (p : Part) (len : ℕ) → (f ≡ Kept p len → g ≡ Kept p len) → (q ≡ Kept p len → r ≡ Kept p len)
+    → (if t then f else q) ≡ Kept p len → (if t then g else r) ≡ Kept p len
+if-kept true f g q r p len h k e = h e
+if-kept false f g q r p len h k e = k e
+
+-- a bracket that begins no attribute
+bracket-kept : (xs ys : List ℕ) (p : Part) (len : ℕ) → begins_with 40 42 (xs ++ ys) ≡ false → bracket_at (xs ++ ys) ≡ Kept p len → len ≤ length xs → bracket_at xs ≡ Kept p len
+bracket-kept xs ys p len a e h =
+    let none = not-front (begins_with 40 42 xs) (begins_with 40 42 (xs ++ ys)) (pair-front 40 42 xs ys) a in
+    let tail = not (begins (λ b. nat_eq b 41) (drop (prefix_len is_space (drop 2 xs)) (drop 2 xs))) in
+    let whole = not (begins (λ b. nat_eq b 41) (drop (prefix_len is_space (drop 2 (xs ++ ys))) (drop 2 (xs ++ ys)))) in
+    let here : Piece = mark_piece xs in
+    let there : Piece = mark_piece (xs ++ ys) in
+    let attribute : Piece = attribute_of (through 42 41 false (drop 2 xs)) xs in
+    let other : Piece = attribute_of (through 42 41 false (drop 2 (xs ++ ys))) (xs ++ ys) in
+    ap (λ t. if t && tail then attribute else here) none
+    ∙ mark-kept xs ys p len (sym (ap (λ t. if t && whole then other else there) a) ∙ e) h
+
+marked-kept : (b : ℕ) (xs ys : List ℕ) (p : Part) (len : ℕ) → begins_with 40 42 (b ∷ (xs ++ ys)) ≡ false → len ≤ suc (length xs)
+    → marked b (xs ++ ys) (b ∷ (xs ++ ys)) ≡ Kept p len → marked b xs (b ∷ xs) ≡ Kept p len
+marked-kept b xs ys p len a h e =
+    if-kept (nat_eq b 36) (system_at (b ∷ (xs ++ ys))) (system_at (b ∷ xs)) _ _ p len (λ f. system-same (b ∷ xs) ys p len f h)
+    (if-kept (nat_eq b 34) (text_at (xs ++ ys)) (text_at xs) _ _ p len (λ f. text-kept xs ys p len f (omega arith))
+    (if-kept (nat_eq b 92) (escaped_by (name_of (b ∷ (xs ++ ys)))) (escaped_by (name_of (b ∷ xs))) _ _ p len (λ f. escape-kept (b ∷ xs) ys p len f h)
+    (if-kept (nat_eq b 96) (use_by (name_of (xs ++ ys))) (use_by (name_of xs)) _ _ p len (λ f. use-kept xs ys p len f (omega arith))
+    (if-kept (nat_eq b 47) (slash_by (comment_len (b ∷ (xs ++ ys))) (b ∷ (xs ++ ys))) (slash_by (comment_len (b ∷ xs)) (b ∷ xs)) _ _ p len (λ f. slash-kept (b ∷ xs) ys p len f h)
+    (if-kept (nat_eq b 40) (bracket_at (b ∷ (xs ++ ys))) (bracket_at (b ∷ xs)) (mark_piece (b ∷ (xs ++ ys))) (mark_piece (b ∷ xs)) p len (λ f. bracket-kept (b ∷ xs) ys p len a f h)
+    (λ f. mark-kept (b ∷ xs) ys p len f h)))))) e
+
+pub longest : Longest
+longest [] ys p len e h a = by ys e
+  where
+    by : (ys : List ℕ) → front ys ≡ Kept p len → front [] ≡ Kept p len
+    by [] f = cc
+    by (b ∷ bs) f = let k = (subst (IsFine b) f (fine-front b bs)).0 in absurd (omega arith)
+longest (b ∷ xs) ys p len e h a =
+    if-kept (is_space b) (Blank (prefix_len is_space (b ∷ (xs ++ ys)))) (Blank (prefix_len is_space (b ∷ xs))) _ _ p len (λ f. cc)
+    (if-kept (is_name_start b) (word_at (b ∷ (xs ++ ys))) (word_at (b ∷ xs)) _ _ p len (λ f. word-same (b ∷ xs) ys p len f h)
+    (if-kept (is_digit b || nat_eq b 39) (number_at (b ∷ (xs ++ ys))) (number_at (b ∷ xs)) (marked b (xs ++ ys) (b ∷ (xs ++ ys))) (marked b xs (b ∷ xs)) p len
+    (λ f. number-kept (b ∷ xs) ys p len f h) (λ f. marked-kept b xs ys p len a h f))) e
