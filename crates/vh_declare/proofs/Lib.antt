@@ -4,3 +4,5 @@ pub mod BothLemmas
 pub mod GivenLemmas
 -- A round that changes nothing
 pub mod RoundsLemmas
+-- Sites by their depths
+pub mod OrderLemmas

@@ -213,7 +213,7 @@ abbrev pub value_at : Home → Known → SiteTree → ParameterWord → Option T
 value_at h k s w t e = own_or_given (scope_at h k s.scope) t e (given_to h s w)
 
 -- Parameters need each other: each takes its value as soon as all that it needs have theirs, in as many rounds as there
--- are sites. (4.10; the order is own)
+-- are sites, whatever the order in which the sites go. (4.10; the rounds are own)
 abbrev pub edited : ℕ → (ObjectInfo → ObjectInfo) → List ObjectInfo → Option ObjectInfo → List ObjectInfo
 edited n f os None = os
 edited n f os (Some o) = slice_set os n (f o)
@@ -282,6 +282,9 @@ round h so k = each (settled_site h) so k
 abbrev pub rounds : List SiteTree → Home → List SiteTree → Known → Known
 rounds [] h so k = k
 rounds (s ∷ more) h so k = rounds more h so (round h so k)
+
+abbrev pub settled_in : Home → List SiteTree → Known → Known
+settled_in h so k = rounds so h so k
 
 -- The first pass over the sites: what is known, the least fault so far, whether something was passed over, since it needs a
 -- parameter that has no value, and how many words the memories have.

@@ -10,7 +10,8 @@ use Rattle.vh_sites.specs.Blocks.{GenvarAt}
 use Rattle.vh_sites.specs.Sites.{Declared, SiteTree, gen_block}
 use Rattle.vh_declare.specs.Needs.{needs_fault}
 use Rattle.vh_declare.specs.Objects.{Made, Naming, each, made_site, named_site}
-use Rattle.vh_declare.specs.Constants.{Genvars, Home, Known, Checked, rounds, measured_site, with_genvar}
+use Rattle.vh_declare.specs.Constants.{Genvars, Home, Known, Checked, settled_in, measured_site, with_genvar}
+use Rattle.vh_declare.specs.Order.{in_order}
 
 -- The objects behind those so far, the first of which is the instance.
 abbrev pub made_of : ObjectInfo → List SiteTree → Known → Made
@@ -45,8 +46,12 @@ first_known o so k = record {
   genvars = each site_kept so k.genvars;
 }
 
-abbrev pub settled_known : Home → ObjectInfo → List SiteTree → Known → Known
-settled_known h o so k = rounds so h so (first_known o so k)
+-- The parameters take their values.
+abbrev pub all_settled : Home → List SiteTree → Known → Known
+all_settled h so k = settled_in h (in_order h k so) k
+
+unfoldable pub settled_known : Home → ObjectInfo → List SiteTree → Known → Known
+settled_known h o so k = all_settled h so (first_known o so k)
 
 -- Behind what is known of the instances before it, with the words that their memories have.
 abbrev pub checked : Home → ObjectInfo → List SiteTree → Known → ℕ → Checked

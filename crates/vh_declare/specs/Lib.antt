@@ -4,6 +4,10 @@ pub mod Objects
 pub mod Constants
 -- Parameters that need themselves
 pub mod Needs
+-- The order in which parameters take their values
+pub mod Order
+-- How the code orders sites
+pub mod Layers
 -- The first pass
 pub mod FirstPass
 -- How contracts see what the code holds

@@ -63,10 +63,14 @@ abbrev pub all_edges : Home → Known → List SiteTree → List Edge
 all_edges h k [] = []
 all_edges h k (s ∷ so) = site_edges h k s s.declared ++ all_edges h k so
 
--- The first of those that need themselves.
+-- The first of those that need themselves, where its site is: a site that is no object has the number of the next one.
+abbrev pub is_constant : Declared → Bool
+is_constant (S.constant w t e) = true
+is_constant _ = false
+
 abbrev pub fault_at : List SiteTree → ℕ → Option Fault
 fault_at [] n = None
-fault_at (s ∷ so) n = if s.number == n then Some (N4, s.place) else fault_at so n
+fault_at (s ∷ so) n = if s.number == n && is_constant s.declared then Some (N4, s.place) else fault_at so n
 
 abbrev pub needs_fault : Home → Known → List SiteTree → Option Fault
 needs_fault h k so =

@@ -12,7 +12,9 @@ use Rattle.vh_scope.specs.Names.{Names}
 use Rattle.vh_least.specs.Least.{Fault, lesser}
 use Rattle.vh_bind.specs.declared.fault.ElabFault.{ElabFault}
 use Rattle.vh_bind.specs.declared.fault.ElabFault.TheVariants as faults
+use Rattle.vh_sites.specs.declared.site.Site as at_site
 use Rattle.vh_sites.specs.Sites.{SiteTree}
+use Rattle.vh_sites.specs.Views.{all_seen}
 use Rattle.vh_declare.specs.declared.checked.Checked as pass
 use Rattle.vh_declare.specs.declared.known.Home as at
 use Rattle.vh_declare.specs.declared.known.Known as what
@@ -78,3 +80,11 @@ BothBy (Err (faults.Refused f p)) (Ok b) r = r ≡ Err (faults.Refused f p)
 BothBy (Err (faults.Refused f p)) (Err faults.NoMemory) r = r ≡ Err faults.NoMemory
 BothBy (Err (faults.Refused f p)) (Err (faults.Refused g q)) r =
     r ≡ Err (faults.Refused (lesser (f, p) (g, q)).0 (lesser (f, p) (g, q)).1)
+
+-- The layers of sites, and some in their order, or as they stand where none are told.
+abbrev pub layers_seen : {A : Type 0} → List (Vec at_site.Site A) → List (List SiteTree)
+layers_seen layers = map (λ v. all_seen v.items) layers
+
+abbrev pub order_seen : {A : Type 0} → List SiteTree → Option (Vec at_site.Site A) → List SiteTree
+order_seen so None = so
+order_seen so (Some v) = all_seen v.items

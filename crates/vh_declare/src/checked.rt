@@ -13,7 +13,8 @@ use crate::genvars::keep_genvars;
 use crate::known::{Home, Known};
 use crate::needs::needs_fault;
 use crate::objects::{make_sites, name_sites, set_bounds};
-use crate::parameters::{Bounded, settle};
+use crate::order::settle;
+use crate::parameters::Bounded;
 use crate::ranges::Measure;
 use crate::standing::{memory_at, value_at, var_at};
 use std::alloc::Global;
@@ -231,6 +232,7 @@ fn measure_sites(
 
 /// Some sites are known, behind an object, with the values of their parameters; answers the least
 /// fault of their names.
+#[tactic(auto, unfolding(crate::specs::FirstPass::settled_known))]
 pub fn declare(
     alloc: Global,
     home: Home,

@@ -16,6 +16,7 @@ mod given;
 mod known;
 mod needs;
 mod objects;
+mod order;
 mod parameters;
 mod ranges;
 mod standing;

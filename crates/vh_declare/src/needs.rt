@@ -178,7 +178,7 @@ fn add_site(
 }
 
 // What the parameters of all sites need.
-fn all_edges(
+pub(crate) fn all_edges(
     alloc: Global,
     home: Home,
     known: &Known,
@@ -194,12 +194,18 @@ fn all_edges(
     Ok(edges)
 }
 
-// The place of an object's site.
+fn is_constant(site: &Site) -> bool
+    ensures { result ≡ Needs.is_constant (site_seen site.now).declared }
+{
+    matches!(site.declared, Declared::Constant(..))
+}
+
+// The place of a parameter's site.
 fn fault_at(sites: &[Site], number: u32) -> Option<Fault>
     ensures { result ≡ Needs.fault_at (all_seen sites.now) number }
 {
     for site in sites {
-        if site.number == number {
+        if site.number == number && is_constant(site) {
             return Some((DesignFault::N4, site.place));
         }
     }

@@ -296,15 +296,16 @@ fn settle_round(
     Ok(changed)
 }
 
-/// The parameters take their values, each as soon as all that it needs have theirs.
-pub(crate) fn settle(
+/// The parameters take their values, each as soon as all that it needs have theirs. Where they go
+/// in the order of what they need the first round is the last that changes something.
+pub(crate) fn settle_in(
     alloc: Global,
     home: Home,
     sites: &[Site],
     known: &mut Known,
 ) -> Result<(), NoMemory>
     ensures { OnOk result (known_seen known.new
-        ≡ Constants.rounds (all_seen sites.now) (home_seen home.entry) (all_seen sites.now)
+        ≡ Constants.settled_in (home_seen home.entry) (all_seen sites.now)
         (known_seen known.old)) }
 {
     for _round in sites {

@@ -267,7 +267,7 @@ fn two_faults(rt: HostRuntime) -> Result<(), Fail> {
 
 // Each two of the faults in one text, in either order: `N9` and `N8` come first, then the faults of the first pass, then those of
 // the second, and of one pass the first by its place. (own)
-static PAIRS: [(&[u8], &str); 98] = [
+static PAIRS: [(&[u8], &str); 99] = [
     (b"module m; initial a = 1; reg b, b; endmodule", "N2 1:33"),
     (b"module m; reg b, b; initial a = 1; endmodule", "N2 1:18"),
     (
@@ -455,6 +455,10 @@ static PAIRS: [(&[u8], &str); 98] = [
     (
         b"module m; parameter D = D; wire k; and (k, k); endmodule",
         "N4 1:21",
+    ),
+    (
+        b"module m; wire k; and (k, k); parameter D = D; endmodule",
+        "N4 1:41",
     ),
     (
         b"module m; parameter D = D; endmodule module s; s t(); endmodule",
