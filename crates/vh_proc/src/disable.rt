@@ -2,55 +2,56 @@ ghost use Rattle.std.specs.Prelude.{◌≡◌, Ok, IfOk, IfErr, OnOk};
 ghost use Rattle.vh_sense.specs.Sensitivity.{without_wait};
 ghost use Rattle.vh_thread.specs.Control.{Runs};
 ghost use Rattle.vh_proc.specs.Processes.{AllRun, process_at, queued, scheduled};
-ghost use Rattle.vh_proc.specs.Disabled.{is_among, begun_by, with_stopped, stopped, without_entry, ended_in, left_in, all_ended, all_left, resumed_but, all_resumed};
+ghost use Rattle.vh_proc.specs.Disabled.{begun_by, with_stopped, stopped, without_entry, ended_in, left_in, all_ended, all_left, resumed_but, all_resumed};
 ghost use Rattle.vh_design.specs.Shape.{Shape};
 ghost use Rattle.vh_proc.specs.Steps.{before_disable, disabled_by, after_disable};
-ghost use Rattle.vh_proc.specs.Views.{found_seen};
+ghost use Rattle.vh_proc.specs.Views.{HoldsAll, found_seen};
 ghost use Rattle.vh_turn.specs.Own.{FailsBy};
 
 use crate::threads::Threads;
 use std::alloc::Global;
+use std::collections::BTreeSet;
 use vh_base::{NoMemory, ObjId, ProcId};
 use vh_design::{Design, Goes};
 use vh_queue::Queue;
 use vh_sense::Sense;
 use vh_turn::{Next, Process, StepFault};
 
-// The processes that a disable stops, by rising number: those that end, and those that leave.
+// The processes that a disable stops, by rising number: those that end, and those that leave; and
+// all of them, to ask for one.
 #[derive(Drop)]
 pub(crate) struct Stopped {
     ends: Vec<u64>,
     leaves: Vec<u64>,
-}
-
-// Is a number among these?
-fn has(numbers: &[u64], p: u64) -> bool
-    ensures { result ≡ is_among numbers.now p }
-{
-    numbers.iter().any(|q| *q == p)
+    all: BTreeSet<u64, Global>,
 }
 
 impl Stopped {
     // Has one of these begun it?
     fn has_begun(&self, process: &Process) -> bool
+        requires { HoldsAll self.now }
         ensures { result ≡ begun_by (found_seen self.now) process.now }
     {
         let Some(parent) = process.parent else {
             return false;
         };
-        has(&self.ends, parent.number()) || has(&self.leaves, parent.number())
+        self.all.contains(&parent.number())
     }
 
     // Notes a process, where it is stopped.
     fn note(&mut self, d: &Design, target: ObjId, p: u64, process: &Process) -> Result<(), NoMemory>
-        requires { Runs d.now (process.now).thread }
-        ensures { OnOk result (found_seen self.new
+        requires runs { Runs d.now (process.now).thread }
+        requires all { HoldsAll self.old }
+        ensures noted { OnOk result (found_seen self.new
             ≡ with_stopped d.now target (found_seen self.old) p process.now) }
+        ensures all { OnOk result (HoldsAll self.new) }
     {
         if self.has_begun(process) {
             self.ends.push(p)?;
+            self.all.insert(p)?;
         } else if process.thread.is_inside(d, target) {
             self.leaves.push(p)?;
+            self.all.insert(p)?;
         }
         Ok(())
     }
@@ -74,11 +75,13 @@ impl Threads {
     #[tactic(auto, unfolding(crate::specs::Disabled::stopped_of))]
     fn stopped(&self, alloc: Global, d: &Design, target: ObjId) -> Result<Stopped, NoMemory>
         requires { AllRun d.now self.now }
-        ensures { IfOk result (λ found. found_seen found ≡ stopped d.now target self.now) }
+        ensures found { IfOk result (λ found. found_seen found ≡ stopped d.now target self.now) }
+        ensures all { IfOk result HoldsAll }
     {
         let mut found = Stopped {
             ends: Vec::new(alloc),
             leaves: Vec::new(alloc),
+            all: BTreeSet::new(alloc),
         };
         for (p, process) in self.all.iter() {
             found.note(d, target, *p, process)?;
@@ -198,6 +201,7 @@ impl Threads {
 
     // What it does next.
     fn next_after(&self, found: &Stopped, own: ProcId) -> Next
+        requires { HoldsAll found.now }
         ensures { result ≡ after_disable (found_seen found.now) own self.now }
     {
         match self.all.get(&own.number()) {

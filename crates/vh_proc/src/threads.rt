@@ -9,13 +9,13 @@ ghost use Rattle.vh_proc.specs.Steps.{has_label, step_of, single_step, alone, af
 ghost use Rattle.vh_turn.specs.Turns.{is_own};
 ghost use Rattle.vh_turn.specs.Own.{FailsBy};
 
-use crate::stepped::Stepped;
+use crate::stepped::{MadeList, Stepped};
 use std::alloc::Global;
 use std::collections::BTreeMap;
 use std::marker::Model;
 use std::mem;
 use vh_base::{NoMemory, ProcId, Sequence, Serial};
-use vh_design::{Design, Goes, Instruction, Operation, Single};
+use vh_design::{Design, Goes, Instruction, Made, Operation, Single};
 use vh_queue::{Queue, Region, Work};
 use vh_sense::Sense;
 use vh_store::Store;
@@ -114,6 +114,27 @@ impl Threads {
     {
         if let Some(process) = self.all.get_mut(&p.number()) {
             process.entry = Some(e);
+        }
+    }
+
+    /// An empty list for what a label changes: the room of one that was kept.
+    pub fn take_list(&mut self, alloc: Global) -> Vec<Made>
+        ensures empty { result.items ≡ [] }
+        ensures same { self.new ≡ self.old }
+    {
+        let mut made = mem::replace(&mut self.room.made, Vec::new(alloc));
+        made.clear();
+        made
+    }
+
+    /// Keeps the room of such a list for the labels that follow, where it is larger than that which
+    /// is kept, so that these take no memory.
+    pub fn keep_list(&mut self, made: MadeList)
+        ensures { self.new ≡ self.old }
+    {
+        let made = made.into_vec();
+        if made.capacity() > self.room.made.capacity() {
+            self.room.made = made;
         }
     }
 

@@ -12,7 +12,7 @@ use Rattle.vh_proc_laws.specs.Disable.{AreNumbered, IsStopped, Ends, Leaves}
 use Rattle.vh_proc_laws.specs.Laws.{FindsAll}
 
 -- Among some and one more.
-among-push : (xs : List ℕ) (x p : ℕ) → is_among (xs ++ x ∷ []) p ≡ (is_among xs p || (x == p))
+pub among-push : (xs : List ℕ) (x p : ℕ) → is_among (xs ++ x ∷ []) p ≡ (is_among xs p || (x == p))
 among-push [] x p = by (x == p)
   where
     by : (b : Bool) → (b || false) ≡ b

@@ -41,7 +41,7 @@ use Rattle.vh_proc.specs.Processes.{Processes, Queued, Scheduled, Step, World, o
 use Rattle.vh_proc.specs.Steps.{step_of, step_of_process, step_in, step_at, single_step}
 use Rattle.vh_proc.specs.Steps as S
 use Rattle.vh_proc_laws.specs.Disable.{AreNumbered}
-use Rattle.vh_proc_laws.specs.Laws.{OpensNumbered, KeepsNumbers, GivesFreshNumbers, NextNeverFalls}
+use Rattle.vh_proc_laws.specs.Laws.{OpensNumbered, KeepsNumbers, NotesNumbers, GivesFreshNumbers, NextNeverFalls}
 
 -- What some processes come to: they stay numbered, the next number doesn't fall, and each that is there was there before or has a fresh one.
 pub record Grows (ps qs : Processes) : Type 0 where
@@ -387,6 +387,15 @@ disables d target own found o after h =
     (then_ o.processes (all_ended found.ends o).processes mid.processes (ends-all found.ends o) (leaves-all d target found.leaves (all_ended found.ends o)))
     (subst (λ (x : Scheduled). Grows mid.processes x.processes) (ok-same _ after b.2) (resumes-all own found.leaves (queued mid.processes mid.queue) b.0 b.1))
 
+-- The process that executes a disable goes on, where it isn't inside itself.
+pub passes : (d : Shape) (p target : ℕ) (goes : Goes) (o : Option Process) (ps : Processes) → Grows ps (S.before_disable_of d target p goes o ps)
+passes d p target goes None ps = same ps
+passes d p target goes (Some u) ps = by (is_inside d target u.thread) refl
+  where
+    by : (b : Bool) → is_inside d target u.thread ≡ b → Grows ps (S.before_disable_of d target p goes (Some u) ps)
+    by true is = subst (Grows ps) (sym (rw is refl)) (same ps)
+    by false is = subst (Grows ps) (sym (rw is refl)) (changes p (going d goes) ps (λ x. refl))
+
 -- Each label.
 module _ (d : Shape) (p : ℕ) (t : Process) (i : Instruction) (w : World) (at : process_at p w.processes ≡ Some t) where
   alone-grows : (s : Step) → S.alone d p t i w ≡ Ok s → Grows w.processes s.world.processes
@@ -424,14 +433,6 @@ module _ (d : Shape) (p : ℕ) (t : Process) (i : Instruction) (w : World) (at :
       subst (λ (y : Step). Grows w.processes y.world.processes) (ok-same _ s x.2)
       (then_ w.processes arrived x.0.processes (changes p (arriving d) w.processes (λ y. refl)) (forks goes ks (queued arrived w.queue) x.0 x.1))
 
-  passes : (target : ℕ) (goes : Goes) (o : Option Process) (ps : Processes) → Grows ps (S.before_disable_of d target p goes o ps)
-  passes target goes None ps = same ps
-  passes target goes (Some u) ps = by (is_inside d target u.thread) refl
-    where
-      by : (b : Bool) → is_inside d target u.thread ≡ b → Grows ps (S.before_disable_of d target p goes (Some u) ps)
-      by true is = subst (Grows ps) (sym (rw is refl)) (same ps)
-      by false is = subst (Grows ps) (sym (rw is refl)) (changes p (going d goes) ps (λ x. refl))
-
   disabling-grows : (target : ℕ) (goes : Goes) (s : Step) → S.disabling d target p goes w ≡ Ok s → Grows w.processes s.world.processes
   disabling-grows target goes s h =
       let arrived = changed p (arriving d) w.processes in
@@ -439,7 +440,7 @@ module _ (d : Shape) (p : ℕ) (t : Process) (i : Instruction) (w : World) (at :
       let x = ok-then (S.disabled_by d target p goes _) _ s h in
       subst (λ (y : Step). Grows w.processes y.world.processes) (ok-same _ s x.2)
       (then_ w.processes arrived x.0.processes (changes p (arriving d) w.processes (λ y. refl))
-      (then_ arrived before x.0.processes (passes target goes (process_at p arrived) arrived)
+      (then_ arrived before x.0.processes (passes d p target goes (process_at p arrived) arrived)
       (disables d target p (stopped d target arrived) _ x.0 x.1)))
 
   single-grows : (it : Single) (s : Step) → single_step d p t i it w ≡ Ok s → Grows w.processes s.world.processes
@@ -487,6 +488,9 @@ grows d p w s h = step-of d p (process_at p w.processes) w s refl h
 
 pub keeps-numbers : KeepsNumbers
 keeps-numbers d p w s numbered h = (grows d p w s h).numbered numbered
+
+pub notes-numbers : NotesNumbers
+notes-numbers p serial ps numbered = (changes p (with_serial serial) ps (λ t. refl)).numbered numbered
 
 pub gives-fresh-numbers : GivesFreshNumbers
 gives-fresh-numbers d p q t w s numbered h at = (grows d p w s h).fresh q t at

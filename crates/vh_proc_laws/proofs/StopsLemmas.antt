@@ -1,10 +1,9 @@
 -- What a disable does to everybody.
-use Rattle.std.proofs.Common.{◌≡◌, ◌∙◌, ℕ, ◌<◌, ◌≤◌, ◌⊎◌, ⊎_elim, inl, inr, List, [], ◌∷◌, ◌++◌, Bool, true, false, not, ◌||◌, ◌==◌, cond, Option, Some, None, is_some, Ok, refl, ap, sym, subst, arith}
+use Rattle.std.proofs.Common.{◌≡◌, ◌∙◌, ℕ, ◌<◌, ◌≤◌, ◌⊎◌, ⊎_elim, inl, inr, List, [], ◌∷◌, ◌++◌, Bool, true, false, ◌||◌, ◌==◌, cond, Option, Some, None, is_some, Ok, refl, ap, sym, subst, arith}
 use Rattle.std.specs.Prelude.{nat_eq}
 use Rattle.std.specs.List.{find}
-use Rattle.std.specs.Prelude.{filter}
 use Rattle.std.specs.Option.{option_map}
-use Rattle.std.proofs.lemmas.Bool.{eqb-true, eqb-false, eq-eqb, ne_eqb}
+use Rattle.std.proofs.lemmas.Bool.{eqb-true, eq-eqb, ne_eqb}
 use Rattle.vh_callbacks.specs.Callbacks.{Rise, live_at, without}
 use Rattle.vh_callbacks.proofs.CallbacksLemmas.{rise_without, live_without_same, live_without_other}
 use Rattle.vh_design.specs.Shape.{Shape}
@@ -16,46 +15,23 @@ use Rattle.vh_queue.specs.declared.work.Work.{Work}
 use Rattle.vh_queue.specs.declared.work.Work.TheVariants as work
 use Rattle.vh_queue.specs.Events as Q
 use Rattle.vh_queue.specs.Events.{Events, entry_of, added, is_full}
+use Rattle.vh_queue.proofs.LawsLemmas.{one-is-gone, others-stand}
 use Rattle.vh_turn.specs.declared.process.Process.{Process}
-use Rattle.vh_proc.specs.Disabled.{is_among, without_entry, left_by, ended_in, left_in, all_ended, all_left, resumed_but, all_resumed, stopped}
-use Rattle.vh_proc.specs.Processes.{Queued, Scheduled, queued, process_at, evaluated_now, noted, with_serial}
+use Rattle.vh_code.specs.declared.code.Goes.{Goes}
+use Rattle.vh_thread.specs.Control.{is_inside, disabled}
+use Rattle.vh_turn.specs.Own.{going, arriving}
+use Rattle.vh_proc.specs.Disabled.{is_among, without_entry, left_by, ended_in, left_in, all_ended, all_left, resumed_but, all_resumed, stopped, disable_all}
+use Rattle.vh_proc.specs.Processes.{Processes, Queued, Scheduled, Step, queued, scheduled, process_at, evaluated_now, noted, with_serial, arrived_in}
+use Rattle.vh_proc.specs.Steps.{before_disable, before_disable_of, disabled_by}
 use Rattle.vh_proc_laws.specs.Disable.{AreNumbered, Ends, Leaves, IsUntouched, Stops}
 use Rattle.vh_proc_laws.specs.Laws.{FindsWhoStops, DisableStops}
 use Rattle.vh_proc_laws.proofs.FoundLemmas.{or-cases, finds-all}
-use Rattle.vh_proc_laws.proofs.NumbersLemmas.{at-changed, ok-then, unless-then, ok-same, ends-one}
+use Rattle.vh_proc_laws.proofs.ApartLemmas.{Apart, leaves-apart}
+use Rattle.vh_proc_laws.proofs.NumbersLemmas.{at-changed, changes, passes, ok-then, unless-then, ok-same, ends-one}
 
 or-false : (a b : Bool) → (a || b) ≡ false → (a ≡ false) × (b ≡ false)
 or-false true b h = absurd (cc)
 or-false false b h = (refl, h)
-
--- As `vh_queue` proves of its own laws.
-one-is-gone : (q : Events) (s : ℕ) → entry_of s (Q.without s q) ≡ None
-one-is-gone q s = gone q.entries
-  where
-    gone : (es : List Entry) → find (λ e. e.serial == s) (filter (λ e. not (e.serial == s)) es) ≡ None
-    gone [] = refl
-    gone (e ∷ es) = by_test (e.serial == s) refl (gone es)
-      where
-        by_test : (b : Bool) → (e.serial == s) ≡ b → find (λ e. e.serial == s) (filter (λ e. not (e.serial == s)) es) ≡ None
-            → find (λ e. e.serial == s) (cond (not b) (e ∷ filter (λ e. not (e.serial == s)) es) (filter (λ e. not (e.serial == s)) es)) ≡ None
-        by_test true is rest = rest
-        by_test false is rest = rw is rest
-
-others-stand : (q : Events) (r s : ℕ) → (r == s) ≡ false → entry_of r (Q.without s q) ≡ entry_of r q
-others-stand q r s apart = stand q.entries
-  where
-    stand : (es : List Entry) → find (λ e. e.serial == r) (filter (λ e. not (e.serial == s)) es) ≡ find (λ e. e.serial == r) es
-    stand [] = refl
-    stand (e ∷ es) = by_test (e.serial == s) refl (stand es)
-      where
-        by_test : (b : Bool) → (e.serial == s) ≡ b
-            → find (λ e. e.serial == r) (filter (λ e. not (e.serial == s)) es) ≡ find (λ e. e.serial == r) es
-            → find (λ e. e.serial == r) (cond (not b) (e ∷ filter (λ e. not (e.serial == s)) es) (filter (λ e. not (e.serial == s)) es))
-            ≡ cond (e.serial == r) (Some e) (find (λ e. e.serial == r) es)
-        by_test true is rest =
-            let one : e.serial ≡ s = eqb-true e.serial s is in
-            rest ∙ sym (rw (ne_eqb e.serial r (λ same. eqb-false r s apart (sym same ∙ one))) refl)
-        by_test false is rest = rw rest refl
 
 -- Entries: what is gone stays gone, and what is added has another serial.
 gone-stays : (r s : ℕ) (q : Events) → entry_of r q ≡ None → entry_of r (Q.without s q) ≡ None
@@ -246,11 +222,11 @@ leaves-handled d target p (Some t) o bound rise at =
     ∙ ap (λ (b : Bool). cond b (option_map (left_by d target) (process_at q o.processes)) (process_at q o.processes)) apart)
 
 -- What has become of a process that leaves.
-abbrev HasLeft : Process → Option Process → Type 0
-HasLeft t x = (u : Process) × (x ≡ Some u) × (u.left ≡ 0) × (u.parent ≡ t.parent) × (u.entry ≡ None)
+abbrev HasLeft : Shape → ℕ → Process → Option Process → Type 0
+HasLeft d target t x = (u : Process) × (x ≡ Some u) × (u.left ≡ 0) × (u.parent ≡ t.parent) × (u.entry ≡ None) × (u.thread ≡ disabled d target t.thread)
 
 leaves-one-at : (d : Shape) (target p : ℕ) (t : Process) (o : Scheduled) → process_at p o.processes ≡ Some t
-    → HasLeft t (process_at p (left_in d target (Some t) p o).processes)
+    → HasLeft d target t (process_at p (left_in d target (Some t) p o).processes)
 leaves-one-at d target p t o at = (
   left_by d target t,
   at-changed p p (left_by d target) o.processes
@@ -259,28 +235,29 @@ leaves-one-at d target p t o at = (
   refl,
   refl,
   refl,
+  refl,
 )
 
-record Gone (xs : List ℕ) (o after : Scheduled) : Type 0 where
+record Gone (d : Shape) (target : ℕ) (xs : List ℕ) (o after : Scheduled) : Type 0 where
   handled : Handled (is_among xs) o after
-  left : (p : ℕ) (t : Process) → is_among xs p ≡ true → process_at p o.processes ≡ Some t → HasLeft t (process_at p after.processes)
+  left : (p : ℕ) (t : Process) → is_among xs p ≡ true → process_at p o.processes ≡ Some t → HasLeft d target t (process_at p after.processes)
 
-leaves-all : (d : Shape) (target : ℕ) (xs : List ℕ) (o : Scheduled) (bound : ℕ) → Rise 0 o.sense.waiting bound → Gone xs o (all_left d target xs o)
+leaves-all : (d : Shape) (target : ℕ) (xs : List ℕ) (o : Scheduled) (bound : ℕ) → Apart xs → Rise 0 o.sense.waiting bound → Gone d target xs o (all_left d target xs o)
 unfolding all_left
-leaves-all d target [] o bound rise = record { handled = none-handled o; left = λ p t is there. absurd (cc) }
-leaves-all d target (x ∷ xs) o bound rise =
+leaves-all d target [] o bound apart rise = record { handled = none-handled o; left = λ p t is there. absurd (cc) }
+leaves-all d target (x ∷ xs) o bound apart rise =
     let mid = left_in d target (process_at x o.processes) x o in
     let first = leaves-handled d target x (process_at x o.processes) o bound rise refl in
-    let rest = leaves-all d target xs mid bound (first.rise bound rise) in
+    let rest = leaves-all d target xs mid bound apart.1 (first.rise bound rise) in
     record {
       handled = both (λ q. nat_eq x q) (is_among xs) o mid (all_left d target xs mid) first rest.handled
           (λ p is u there. clean p is u (process_at x o.processes) refl there);
       left = λ p t is there. by rest first p t is there (is_among xs p) refl (nat_eq x p) refl;
     }
   where
-    there-is : (t : Process) → process_at x o.processes ≡ Some t → HasLeft t (process_at x (left_in d target (process_at x o.processes) x o).processes)
+    there-is : (t : Process) → process_at x o.processes ≡ Some t → HasLeft d target t (process_at x (left_in d target (process_at x o.processes) x o).processes)
     there-is t at =
-        subst (λ (y : Option Process). HasLeft t (process_at x (left_in d target y x o).processes)) (sym at) (leaves-one-at d target x t o at)
+        subst (λ (y : Option Process). HasLeft d target t (process_at x (left_in d target y x o).processes)) (sym at) (leaves-one-at d target x t o at)
 
     clean : (p : ℕ) → nat_eq x p ≡ true → (u : Process) (y : Option Process) → process_at x o.processes ≡ y
         → process_at p (left_in d target (process_at x o.processes) x o).processes ≡ Some u → u.entry ≡ None
@@ -298,21 +275,20 @@ leaves-all d target (x ∷ xs) o bound rise =
         the-same : (y z : Process) → Some y ≡ Some z → y ≡ z
         the-same y z e = cc
 
-    by : Gone xs (left_in d target (process_at x o.processes) x o) (all_left d target xs (left_in d target (process_at x o.processes) x o))
+    by : Gone d target xs (left_in d target (process_at x o.processes) x o) (all_left d target xs (left_in d target (process_at x o.processes) x o))
         → Handled (λ q. nat_eq x q) o (left_in d target (process_at x o.processes) x o)
         → (p : ℕ) (t : Process) → (nat_eq x p || is_among xs p) ≡ true → process_at p o.processes ≡ Some t
         → (b : Bool) → is_among xs p ≡ b → (c : Bool) → nat_eq x p ≡ c
-        → HasLeft t (process_at p (all_left d target xs (left_in d target (process_at x o.processes) x o)).processes)
+        → HasLeft d target t (process_at p (all_left d target xs (left_in d target (process_at x o.processes) x o)).processes)
     by rest first p t is there true on true here =
-        let at : process_at x o.processes ≡ Some t = ap (λ (k : ℕ). process_at k o.processes) (eqb-true x p here) ∙ there in
-        let h = there-is t at in
-        let g = rest.left p h.0 on (ap (λ (k : ℕ). process_at k (left_in d target (process_at x o.processes) x o).processes) (sym (eqb-true x p here)) ∙ h.1) in
-        (g.0, g.1, g.2, g.3 ∙ h.3, g.4)
+        let once = ap (λ (k : ℕ). is_among xs k) (eqb-true x p here) in
+        let no = sym apart.0 ∙ (once ∙ on) in
+        absurd (cc)
     by rest first p t is there true on false away = rest.left p t on (first.others p away ∙ there)
     by rest first p t is there false off true here =
         let at : process_at x o.processes ≡ Some t = ap (λ (k : ℕ). process_at k o.processes) (eqb-true x p here) ∙ there in
         let h = there-is t at in
-        (h.0, rest.handled.others p off ∙ (ap (λ (k : ℕ). process_at k (left_in d target (process_at x o.processes) x o).processes) (sym (eqb-true x p here)) ∙ h.1), h.2, h.3, h.4)
+        (h.0, rest.handled.others p off ∙ (ap (λ (k : ℕ). process_at k (left_in d target (process_at x o.processes) x o).processes) (sym (eqb-true x p here)) ∙ h.1), h.2, h.3, h.4, h.5)
     by rest first p t is there false off false away = let none = rw (away, off) at is in absurd (cc)
 
 -- Those that go on.
@@ -320,7 +296,7 @@ record Resumes (among : ℕ → Bool) (b c : Queued) : Type 0 where
   others : (p : ℕ) → among p ≡ false → process_at p c.processes ≡ process_at p b.processes
   none : (p : ℕ) → process_at p b.processes ≡ None → process_at p c.processes ≡ None
   keeps : (p : ℕ) (t : Process) → process_at p b.processes ≡ Some t
-      → (u : Process) × (process_at p c.processes ≡ Some u) × (u.left ≡ t.left) × (u.parent ≡ t.parent)
+      → (u : Process) × (process_at p c.processes ≡ Some u) × (u.left ≡ t.left) × (u.parent ≡ t.parent) × (u.thread ≡ t.thread)
   entries : (s : ℕ) → s < b.queue.next → entry_of s c.queue ≡ entry_of s b.queue
   rises : b.queue.next ≤ c.queue.next
 
@@ -328,7 +304,7 @@ stays-so : (among : ℕ → Bool) (b : Queued) → Resumes among b b
 stays-so among b = record {
   others = λ p is. refl;
   none = λ p h. h;
-  keeps = λ p t h. (t, h, refl, refl);
+  keeps = λ p t h. (t, h, refl, refl, refl);
   entries = λ s h. refl;
   rises = omega arith;
 }
@@ -349,7 +325,7 @@ noted-so p serial b q is = record {
     none-by k h false = h
 
     keeps-by : (k : ℕ) (t : Process) → process_at k b.processes ≡ Some t → (c : Bool) → nat_eq p k ≡ c
-        → (u : Process) × (process_at k (noted p serial b.processes) ≡ Some u) × (u.left ≡ t.left) × (u.parent ≡ t.parent)
+        → (u : Process) × (process_at k (noted p serial b.processes) ≡ Some u) × (u.left ≡ t.left) × (u.parent ≡ t.parent) × (u.thread ≡ t.thread)
     keeps-by k t h true is = (
       with_serial serial t,
       at-changed p k (with_serial serial) b.processes
@@ -357,11 +333,13 @@ noted-so p serial b q is = record {
           ∙ ap (λ (x : Option Process). option_map (with_serial serial) x) h),
       refl,
       refl,
+      refl,
     )
     keeps-by k t h false is = (
       t,
       at-changed p k (with_serial serial) b.processes
           ∙ (ap (λ (c : Bool). cond c (option_map (with_serial serial) (process_at k b.processes)) (process_at k b.processes)) is ∙ h),
+      refl,
       refl,
       refl,
     )
@@ -386,19 +364,22 @@ resumes-all own (x ∷ xs) b c h =
     record {
       others = λ p is. let f = or-false (nat_eq x p) (is_among xs p) is in rest.others p f.1 ∙ one.others p f.0;
       none = λ p h. rest.none p (one.none p h);
-      keeps = λ p t h. let u = one.keeps p t h in let v = rest.keeps p u.0 u.1 in (v.0, v.1, v.2 ∙ u.2, v.3 ∙ u.3);
+      keeps = λ p t h. let u = one.keeps p t h in let v = rest.keeps p u.0 u.1 in (v.0, v.1, v.2 ∙ u.2, v.3 ∙ u.3, v.4 ∙ u.4);
       entries = λ s below. rest.entries s (omega (arith, one.rises)) ∙ one.entries s below;
       rises = omega (arith, one.rises, rest.rises);
     }
 
--- The whole of it.
-pub disable-stops : DisableStops
-disable-stops d target own bound ps before after numbered ahead same rise h =
+-- The whole of it, where the one that executes it may have gone on meanwhile.
+all-stopped : (d : Shape) (target own bound : ℕ) (ps : Processes) (before after : Scheduled) → AreNumbered ps → AreNumbered before.processes
+    → ((p : ℕ) → is_some (process_at p before.processes) ≡ is_some (process_at p ps))
+    → Rise 0 before.sense.waiting bound
+    → disable_all d target own (stopped d target ps) before ≡ Ok after → Stops d target ps before after
+all-stopped d target own bound ps before after numbered ahead same rise h =
     let E = (stopped d target ps).ends in
     let L = (stopped d target ps).leaves in
     let first = ends-all E before bound ahead rise in
     let mid = all_ended E before in
-    let second = leaves-all d target L mid bound (first.handled.rise bound rise) in
+    let second = leaves-all d target L mid bound (leaves-apart d target ps numbered) (first.handled.rise bound rise) in
     let last = all_left d target L mid in
     let clean : (p : ℕ) → is_among E p ≡ true → (u : Process) → process_at p mid.processes ≡ Some u → u.entry ≡ None =
     λ p is u there. let no = sym (first.out p is) ∙ there in absurd (cc) in
@@ -423,7 +404,7 @@ disable-stops d target own bound ps before after numbered ahead same rise h =
       left = λ p t l there.
           let g = second.left p t ((find p).all_leaves l) (first.handled.others p (in_ p l) ∙ there) in
           let u = on.keeps p g.0 g.1 in
-          (u.0, u.1, u.2 ∙ g.2, u.3 ∙ g.3);
+          (u.0, u.1, u.2 ∙ g.2, u.3 ∙ g.3, u.4 ∙ g.5);
       others = λ p u. let f = neither p u in on.others p f.1 ∙ all.others p (both-false (is_among E p) (is_among L p) f.0 f.1);
       waits = λ p x. all.waits p (among p x) (exists p x);
       waiting = λ p u. let f = neither p u in all.waiting p (both-false (is_among E p) (is_among L p) f.0 f.1);
@@ -459,3 +440,30 @@ disable-stops d target own bound ps before after numbered ahead same rise h =
     no-leave : (p : ℕ) → FindsWhoStops d target ps p → IsUntouched d target ps p → (b : Bool) → is_among (stopped d target ps).leaves p ≡ b → is_among (stopped d target ps).leaves p ≡ false
     no-leave p f u true is = absurd (u.1 (f.leaves is))
     no-leave p f u false is = is
+
+-- The one that executes it is there as before.
+passed-there : (d : Shape) (target p q : ℕ) (goes : Goes) (o : Option Process) (ps : Processes)
+    → is_some (process_at q (before_disable_of d target p goes o ps)) ≡ is_some (process_at q ps)
+passed-there d target p q goes None ps = refl
+passed-there d target p q goes (Some t) ps = by (is_inside d target t.thread) refl
+  where
+    there : (b : Bool) (x : Option Process) → is_some (cond b (option_map (going d goes) x) x) ≡ is_some x
+    there true None = refl
+    there true (Some u) = refl
+    there false x = refl
+
+    by : (b : Bool) → is_inside d target t.thread ≡ b → is_some (process_at q (before_disable_of d target p goes (Some t) ps)) ≡ is_some (process_at q ps)
+    by true is = rw is refl
+    by false is = rw is (ap is_some (at-changed p q (going d goes) ps) ∙ there (nat_eq p q) (process_at q ps))
+
+-- The label of a disable.
+pub disable-stops : DisableStops
+disable-stops d target p goes w s numbered waits h =
+    let ps = arrived_in d p w.processes in
+    let before = before_disable d target p goes ps in
+    let here = (changes p (arriving d) w.processes (λ t. refl)).numbered numbered in
+    let ahead = (passes d p target goes (process_at p ps) ps).numbered here in
+    let x = ok-then (disabled_by d target p goes (scheduled ps w.sense w.queue)) _ s h in
+    subst (λ (y : Step). Stops d target ps (scheduled before w.sense w.queue) (scheduled y.world.processes y.world.sense y.world.queue))
+    (ok-same _ s x.2)
+    (all-stopped d target p waits.0 ps (scheduled before w.sense w.queue) x.0 here ahead (λ q. passed-there d target p q goes (process_at p ps) ps) waits.1 x.1)

@@ -3,8 +3,8 @@ use Rattle.std.specs.Prelude.{◌≡◌, ℕ, zero, suc, ◌<◌, ◌⊎◌, tru
 use Rattle.vh_design.specs.Shape.{Shape}
 use Rattle.vh_callbacks.specs.Callbacks.{Rise}
 use Rattle.vh_queue.specs.Events.{entry_of}
-use Rattle.vh_sense.specs.Sensitivity.{wait_of}
-use Rattle.vh_thread.specs.Control.{is_inside}
+use Rattle.vh_sense.specs.Sensitivity.{Sensitivity, wait_of}
+use Rattle.vh_thread.specs.Control.{is_inside, disabled}
 use Rattle.vh_turn.specs.declared.process.Process.{Process}
 use Rattle.vh_proc.specs.Processes.{Processes, Scheduled, process_at}
 
@@ -12,6 +12,10 @@ use Rattle.vh_proc.specs.Processes.{Processes, Scheduled, process_at}
 pub record AreNumbered (ps : Processes) : Type 0 where
   pub rise : Rise 0 ps.all ps.next
   pub begun : (p q : ℕ) (t : Process) → process_at p ps ≡ Some t → t.parent ≡ Some q → q < p
+
+-- Each that waits stands once, by rising numbers.
+abbrev pub WaitsRise : Sensitivity → Type 0
+WaitsRise s = (bound : ℕ) × Rise 0 s.waiting bound
 
 -- A process is stopped where it is inside the block or task itself,
 abbrev pub IsInside : Shape → ℕ → Processes → ℕ → Type 0
@@ -39,9 +43,9 @@ IsUntouched d target ps p = (Ends d target ps p → ⊥) × (Leaves d target ps 
 pub record Stops (d : Shape) (target : ℕ) (ps : Processes) (before after : Scheduled) : Type 0 where
   -- a branch that ends is gone
   pub ended : (p : ℕ) → Ends d target ps p → process_at p after.processes ≡ None
-  -- one that leaves waits for no branch any more
+  -- one that leaves waits for no branch any more, and goes on behind the outermost such block or call that it is in
   pub left : (p : ℕ) (t : Process) → Leaves d target ps p → process_at p before.processes ≡ Some t
-      → (u : Process) × (process_at p after.processes ≡ Some u) × (u.left ≡ 0) × (u.parent ≡ t.parent)
+      → (u : Process) × (process_at p after.processes ≡ Some u) × (u.left ≡ 0) × (u.parent ≡ t.parent) × (u.thread ≡ disabled d target t.thread)
   -- any other is as it was
   pub others : (p : ℕ) → IsUntouched d target ps p → process_at p after.processes ≡ process_at p before.processes
   -- neither of them waits

@@ -1,17 +1,18 @@
 -- The laws of processes: whom a `disable` stops and what becomes of everybody; no number is given twice; and what an assignment makes
 -- of each digit. (IEEE 1364-2005, 5.2.1, 9.2, 9.8.2 and 10.3)
-use Rattle.std.specs.Prelude.{◌≡◌, ℕ, ◌≤◌, ◌<◌, ℤ, ◌⊎◌, true, is_some, Some, Ok, slice_index_or}
+use Rattle.std.specs.Prelude.{◌≡◌, ℕ, ◌≤◌, ◌<◌, ℤ, ◌⊎◌, true, is_some, Option, Some, Ok, slice_index_or}
 use Rattle.vh_base.specs.declared.orders.Object.{Object}
 use Rattle.vh_logic.specs.declared.digits.Digit.TheVariants.{X}
 use Rattle.vh_logic.specs.Vector.{Vector, width_of}
 use Rattle.vh_assign.specs.Pieces.{piece_at}
-use Rattle.vh_callbacks.specs.Callbacks.{Rise}
 use Rattle.vh_design.specs.Shape.{Shape}
 use Rattle.vh_turn.specs.declared.process.Process.{Process}
-use Rattle.vh_proc.specs.Disabled.{is_among, stopped, disable_all}
-use Rattle.vh_proc.specs.Processes.{Processes, Scheduled, Step, World, opening, process_at}
-use Rattle.vh_proc.specs.Steps.{step_of}
-use Rattle.vh_proc_laws.specs.Disable.{AreNumbered, Ends, Leaves, Stops}
+use Rattle.vh_proc.specs.Disabled.{is_among, stopped}
+use Rattle.vh_code.specs.declared.code.Goes.{Goes}
+use Rattle.vh_sense.specs.Sensitivity.{Sensitivity, IsOpening, after_woken}
+use Rattle.vh_proc.specs.Processes.{Processes, Step, World, opening, process_at, noted, arrived_in, scheduled}
+use Rattle.vh_proc.specs.Steps.{step_of, before_disable, disabling}
+use Rattle.vh_proc_laws.specs.Disable.{AreNumbered, WaitsRise, Ends, Leaves, Stops}
 use Rattle.vh_proc_laws.specs.Digits.{taken, digit_behind}
 
 -- One walk over the processes finds those that end and those that leave, and nobody else.
@@ -24,13 +25,14 @@ pub record FindsWhoStops (d : Shape) (target : ℕ) (ps : Processes) (p : ℕ) :
 abbrev pub FindsAll : Type 0
 FindsAll = (d : Shape) (target : ℕ) (ps : Processes) (p : ℕ) → AreNumbered ps → FindsWhoStops d target ps p
 
--- What a `disable` does to them, where the one that executes it may have gone on meanwhile.
+-- What the label of a `disable` does to them: those inside are found where it has arrived, and where it isn't inside itself it goes on.
 abbrev pub DisableStops : Type 0
 DisableStops =
-    (d : Shape) (target own bound : ℕ) (ps : Processes) (before after : Scheduled) → AreNumbered ps → AreNumbered before.processes
-    → ((p : ℕ) → is_some (process_at p before.processes) ≡ is_some (process_at p ps))
-    → Rise 0 before.sense.waiting bound
-    → disable_all d target own (stopped d target ps) before ≡ Ok after → Stops d target ps before after
+    (d : Shape) (target p : ℕ) (goes : Goes) (w : World) (s : Step) → AreNumbered w.processes → WaitsRise w.sense
+    → disabling d target p goes w ≡ Ok s
+    → Stops d target (arrived_in d p w.processes)
+    (scheduled (before_disable d target p goes (arrived_in d p w.processes)) w.sense w.queue)
+    (scheduled s.world.processes s.world.sense s.world.queue)
 
 -- The processes of a design stand so, and each label keeps that.
 abbrev pub OpensNumbered : Type 0
@@ -38,6 +40,20 @@ OpensNumbered = (d : Shape) → AreNumbered (opening d)
 
 abbrev pub KeepsNumbers : Type 0
 KeepsNumbers = (d : Shape) (p : ℕ) (w : World) (s : Step) → AreNumbered w.processes → step_of d p w ≡ Ok s → AreNumbered s.world.processes
+
+-- So does an entry that is noted between labels.
+abbrev pub NotesNumbers : Type 0
+NotesNumbers = (p serial : ℕ) (ps : Processes) → AreNumbered ps → AreNumbered (noted p serial ps)
+
+-- Those that wait stand by rising numbers at the beginning, behind each label, and where a change has woken one.
+abbrev pub OpensWaits : Type 0
+OpensWaits = (d : Shape) (s : Sensitivity) → IsOpening d s → WaitsRise s
+
+abbrev pub KeepsWaits : Type 0
+KeepsWaits = (d : Shape) (p : ℕ) (w : World) (s : Step) → WaitsRise w.sense → step_of d p w ≡ Ok s → WaitsRise s.world.sense
+
+abbrev pub WakesInOrder : Type 0
+WakesInOrder = (p : Option ℕ) (s : Sensitivity) → WaitsRise s → WaitsRise (after_woken p s)
 
 -- A process that is there behind a label was there before it, or has a number that none had.
 abbrev pub GivesFreshNumbers : Type 0

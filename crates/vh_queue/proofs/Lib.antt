@@ -17,4 +17,4 @@ pub mod ChangesLemmas
 -- What the functions of a queue cite.
 pub mod QueuesLemmas
 -- The laws of the queue.
-mod LawsLemmas
+pub mod LawsLemmas

@@ -272,6 +272,13 @@ impl Simulation {
         })
     }
 
+    /// Keeps the room of a list of changes, so that the labels that follow take no memory for theirs.
+    pub fn keep_list(&mut self, made: MadeList)
+        ensures { self.new ≡ self.old }
+    {
+        self.threads.keep_list(made);
+    }
+
     // A nonblocking update is made.
     fn update(&mut self, alloc: Global, piece: Piece) -> Result<Came, StepFault>
         ensures done { IfOk result (λ r. updated piece self.old
@@ -283,7 +290,7 @@ impl Simulation {
             return Err(StepFault::NoMemory);
         }
         self.is_broken = true;
-        let mut made = Vec::new(alloc);
+        let mut made = self.threads.take_list(alloc);
         take_pieces(&mut self.store, &[piece], &mut made)?;
         enter_all(
             &self.design,
@@ -313,7 +320,7 @@ impl Simulation {
             return Err(StepFault::NoMemory);
         }
         self.is_broken = true;
-        let mut made = Vec::new(alloc);
+        let mut made = self.threads.take_list(alloc);
         take_driver(&mut self.store, x, v, &mut made)?;
         enter_all(
             &self.design,
@@ -343,7 +350,7 @@ impl Simulation {
             return Err(StepFault::NoMemory);
         }
         self.is_broken = true;
-        let mut made = Vec::new(alloc);
+        let mut made = self.threads.take_list(alloc);
         follow_object(&self.design, &mut self.store, force, o, &mut made)?;
         enter_all(
             &self.design,
@@ -373,7 +380,7 @@ impl Simulation {
             return Err(StepFault::NoMemory);
         }
         self.is_broken = true;
-        let mut made = Vec::new(alloc);
+        let mut made = self.threads.take_list(alloc);
         take_put(&mut self.store, o, v, &mut made)?;
         enter_all(
             &self.design,

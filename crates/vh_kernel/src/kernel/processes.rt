@@ -106,6 +106,7 @@ impl Kernel {
                 go_on(&mut self.control, performed.next, p)?;
                 let made = performed.came.made.as_slice();
                 pend_all(&mut self.control, self.simulation.design(), made)?;
+                self.simulation.keep_list(performed.came.made);
                 Ok(Label::Stmt(process, performed.came.shown))
             }
             Err(StepFault::Run(fault)) => {
@@ -151,6 +152,7 @@ impl Kernel {
                     self.simulation.design(),
                     came.made.as_slice(),
                 )?;
+                self.simulation.keep_list(came.made);
                 Ok(Label::Pick(entry.serial, came.shown))
             }
             Err(StepFault::Run(fault)) => Ok(self.fail(fault)),
