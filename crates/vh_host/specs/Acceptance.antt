@@ -1,5 +1,5 @@
 -- Which words and texts are accepted: one function that gives the design and the scripts, or the first refusal. (own)
-use Rattle.std.specs.Prelude.{ℕ, ◌+◌, List, [], ◌∷◌, ◌++◌, Bool, cond, if◌then◌else◌, Option, Some, None, Result, Ok, Err, nat_lt, length, map, slice_get}
+use Rattle.std.specs.Prelude.{ℕ, ◌+◌, List, [], ◌∷◌, ◌++◌, Bool, if◌then◌else◌, Option, Some, None, Result, Ok, Err, nat_lt, length, map, slice_get}
 use Rattle.vh_base.specs.declared.faults.AppFault.{AppFault}
 use Rattle.vh_base.specs.declared.faults.DesignFault.{DesignFault}
 use Rattle.vh_base.specs.declared.faults.DesignFault.TheVariants as fault
@@ -28,7 +28,7 @@ pub data Verdict : Type 0 where
 
 -- How many bytes the file of a word may have: a script 1,048,576, a Verilog file 4,194,304.
 abbrev pub limit_of : List ℕ → ℕ
-limit_of word = cond (is_script_word word) 1048576 4194304
+limit_of word = if is_script_word word then 1048576 else 4194304
 
 -- A file: its word, and its bytes.
 pub record File : Type 0 where
@@ -52,7 +52,7 @@ is_too_long file = nat_lt (limit_of file.word) (length file.bytes)
 -- The number of the first file that is too long; the first of these files has the number n.
 abbrev pub first_too_long : ℕ → List File → Option ℕ
 first_too_long n [] = None
-first_too_long n (file ∷ files) = cond (is_too_long file) (Some n) (first_too_long (n + 1) files)
+first_too_long n (file ∷ files) = if is_too_long file then Some n else first_too_long (n + 1) files
 
 -- The Verilog files, each with its number among all files; the first of these files has the number n.
 abbrev pub design_files : ℕ → List File → List lexed_files.File

@@ -1,5 +1,8 @@
 -- Which verdict a refusal of the texts says. (own)
 use Rattle.std.specs.Prelude.{◌≡◌, ℕ, Bool, true, false, List, Option, None, Result, Ok, Err}
+use Rattle.vh_base.specs.declared.place.Place.{Place}
+use Rattle.vh_ast.specs.declared.module.Source.{Source}
+use Rattle.vh_ast.specs.Views.{source_tree}
 use Rattle.vh_design.specs.Shape.{Shape}
 use Rattle.vh_lex.specs.declared.fault.LexFault.{LexFault}
 use Rattle.vh_lex.specs.declared.fault.LexFault.TheVariants as lexical
@@ -9,7 +12,8 @@ use Rattle.vh_host.specs.declared.status.Status.{Status}
 use Rattle.vh_host.specs.declared.status.Status.TheVariants as status
 use Rattle.vh_host.specs.declared.judging.Refusal.{Refusal}
 use Rattle.vh_host.specs.declared.judging.Refusal.TheVariants as refusal
-use Rattle.vh_host.specs.Acceptance.{Verdict, refuses, DesignRefusal}
+use Rattle.vh_elab.specs.Elaborated.{elaborated}
+use Rattle.vh_host.specs.Acceptance.{Verdict, refuses, DesignRefusal, by_elaboration}
 
 -- The status of a refusal.
 abbrev pub status_of : Refusal → Status
@@ -46,6 +50,11 @@ Designs answer (Ok design) = answer ≡ Ok design
 Designs answer (Err (refusal.Design fault at)) = answer ≡ Err (fault, at)
 Designs answer (Err (refusal.Script n fault at)) = ⊥
 Designs answer (Err refusal.NoMemory) = Unit {0}
+
+-- The source of the tokens, of which the answer comes, or the first fault of the texts.
+abbrev pub Sources : Place → Result Shape DesignRefusal → Result Source Refusal → Type 0
+Sources begin answer (Ok source) = answer ≡ by_elaboration (elaborated begin (source_tree source))
+Sources begin answer (Err why) = Designs answer (Err why)
 
 -- Files come to what a lexer holds after them, or are refused.
 abbrev pub Lexes : {A : Type 0} → Lexed → Result A Refusal → Lexed → Type 0

@@ -1,14 +1,17 @@
 ghost use Rattle.std.specs.Prelude.{◌≡◌, ◌≤◌, None, length, IfOk};
 ghost use Rattle.vh_lex.specs.Lexed.{files_after, nothing_read, IfReading};
+ghost use Rattle.vh_ast.specs.Views.{source_tree};
+ghost use Rattle.vh_elab.specs.Elaborated.{elaborated};
 ghost use Rattle.vh_base.specs.declared.faults.DesignFault.TheVariants.{S3};
 ghost use Rattle.vh_host.specs.declared.judging.Refusal.TheVariants as to;
-ghost use Rattle.vh_host.specs.Acceptance.{begin_from, design_answer, design_files, first_too_long, place, tokens_answer};
+ghost use Rattle.vh_host.specs.Acceptance.{begin_from, by_elaboration, design_answer, design_files, first_too_long, place, tokens_answer};
 ghost use Rattle.vh_host.specs.Reading.{files_seen};
-ghost use Rattle.vh_host.specs.Judging.{Designs, Lexes, Begins};
+ghost use Rattle.vh_host.specs.Judging.{Designs, Sources, Lexes, Begins};
 
 use crate::file::TextFile;
 use crate::judging::Refusal;
 use std::alloc::Global;
+use vh_ast::Source;
 use vh_base::{DesignFault, Place};
 use vh_design::Design;
 use vh_elab::{Elaboration, elaborate};
@@ -23,6 +26,17 @@ pub fn read_design(alloc: Global, files: &[TextFile<'_>]) -> Result<Design, Refu
     requires few { length files.now ≤ 8 }
     requires short { first_too_long 1 (files_seen files.now) ≡ None }
     ensures { Designs (design_answer (files_seen files.now)) result }
+{
+    let source = read_source(alloc, files)?;
+    designed(alloc, begin_of(files), &source)
+}
+
+// The source of the Verilog files among these. Its tokens are given back before it is elaborated.
+fn read_source(alloc: Global, files: &[TextFile<'_>]) -> Result<Source, Refusal>
+    requires few { length files.now ≤ 8 }
+    requires short { first_too_long 1 (files_seen files.now) ≡ None }
+    ensures { Sources (begin_from 1 (files_seen files.now)) (design_answer (files_seen files.now))
+        result }
 {
     let mut lexer = Lexer::new(alloc)?;
     let is_begun = lex_files(alloc, &mut lexer, files)?;
@@ -102,17 +116,23 @@ fn later() -> Refusal
     Refusal::Design(DesignFault::S3, place)
 }
 
-// The design of tokens, which begin at one place, and behind which another one is.
+// The source of tokens, which begin at one place, and behind which another one is.
 #[tactic(auto, unfolding(crate::specs::Acceptance::tokens_answer))]
-fn parsed(alloc: Global, tokens: &[Token], begin: Place, after: Place) -> Result<Design, Refusal>
-    ensures { Designs (tokens_answer begin tokens.now after) result }
+fn parsed(alloc: Global, tokens: &[Token], begin: Place, after: Place) -> Result<Source, Refusal>
+    ensures { Sources begin (tokens_answer begin tokens.now after) result }
 {
-    let source = match parse(alloc, tokens, after) {
-        Ok(source) => source,
-        Err(ParseFault::Refused(fault, place)) => return Err(Refusal::Design(fault, place)),
-        Err(ParseFault::NoMemory) => return Err(Refusal::NoMemory),
-    };
-    match elaborate(alloc, begin, &source)? {
+    match parse(alloc, tokens, after) {
+        Ok(source) => Ok(source),
+        Err(ParseFault::Refused(fault, place)) => Err(Refusal::Design(fault, place)),
+        Err(ParseFault::NoMemory) => Err(Refusal::NoMemory),
+    }
+}
+
+// The design of a source, which begins at this place.
+fn designed(alloc: Global, begin: Place, source: &Source) -> Result<Design, Refusal>
+    ensures { Designs (by_elaboration (elaborated begin (source_tree source.now))) result }
+{
+    match elaborate(alloc, begin, source)? {
         Elaboration::Made(design) => Ok(design),
         Elaboration::Refused(fault, place) => Err(Refusal::Design(fault, place)),
         Elaboration::Later => Err(later()),
