@@ -97,6 +97,19 @@ READING = [
         "an expression of 1,000,000 operators",
         lambda: "module top; reg a, b; initial b = a" + "+a\n" * 1_000_000 + "; endmodule\n",
     ),
+    ("a block of 4,000,000 empty statements", lambda: "module top; initial begin " + ";" * 4_000_000 + " end endmodule\n"),
+    ("4 MB of `begin`", lambda: "module top; initial " + "begin " * 690_000),
+    ("4 MB of `(`", lambda: "module top; reg a; initial a = " + "(" * 4_000_000),
+    ("4 MB of `{`", lambda: "module top; reg a; initial a = " + "{" * 4_000_000),
+    ("4 MB of `a+`", lambda: "module top; reg a; initial a = " + "a+" * 2_000_000),
+    (
+        "1,000,000 uses of a macro that is a name of 1,024 bytes, each a call of a task",
+        lambda: "`define N " + "n" * 1024 + "\nmodule top; initial begin " + "`N;" * 1_000_000 + " end endmodule\n",
+    ),
+    (
+        "300,000 uses of a macro that is a string of 4,096 bytes",
+        lambda: ";`define S \"" + "s" * 4096 + "\"\n" + "`S\n" * 300_000,
+    ),
 ]
 
 
