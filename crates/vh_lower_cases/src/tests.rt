@@ -225,6 +225,39 @@ fn right_side(stmt: Stmt) -> Option<(Option<Delay>, Expr)> {
     }
 }
 
+fn initial(
+    alloc: Global,
+    around: &Surroundings,
+    added: &mut Added,
+    stmt: Stmt,
+) -> Result<Code, LowerFault>
+    requires sound { IsSound mode.Value (surroundings_seen around.now).scope (added_seen added.old).exprs }
+    requires unit { is_unit (surroundings_seen around.now).scope.precision
+        (surroundings_seen around.now).scope.unit ≡ true }
+{
+    match right_side(stmt) {
+        Some((_, value)) => initial_code(alloc, around, added, ObjId::new(4), &value),
+        None => Err(LowerFault::PassedOver),
+    }
+}
+
+fn driven(
+    alloc: Global,
+    around: &Surroundings,
+    added: &mut Added,
+    stmt: Stmt,
+) -> Result<Code, LowerFault>
+    requires sound { IsSound mode.Value (surroundings_seen around.now).scope (added_seen added.old).exprs }
+    requires unit { is_unit (surroundings_seen around.now).scope.precision
+        (surroundings_seen around.now).scope.unit ≡ true }
+{
+    let drivers = Sequence::new(Vec::new(alloc));
+    match right_side(stmt) {
+        Some((delay, value)) => drive_code(alloc, around, added, drivers, &delay, &value),
+        None => Err(LowerFault::PassedOver),
+    }
+}
+
 fn made(
     alloc: Global,
     around: &Surroundings,
@@ -238,19 +271,8 @@ fn made(
 {
     match wanted {
         Wanted::Statement(kind) => lower(alloc, around, added, kind, &stmt),
-        Wanted::Value => {
-            let Some((_, value)) = right_side(stmt) else {
-                return Err(LowerFault::PassedOver);
-            };
-            initial_code(alloc, around, added, ObjId::new(4), &value)
-        }
-        Wanted::Driven => {
-            let Some((delay, value)) = right_side(stmt) else {
-                return Err(LowerFault::PassedOver);
-            };
-            let drivers = Sequence::new(Vec::new(alloc));
-            drive_code(alloc, around, added, drivers, &delay, &value)
-        }
+        Wanted::Value => initial(alloc, around, added, stmt),
+        Wanted::Driven => driven(alloc, around, added, stmt),
     }
 }
 
