@@ -1,5 +1,5 @@
 -- The source and the sink that are kept in memory, exactly. (own)
-use Rattle.std.specs.Prelude.{ℕ, ◌+◌, ◌++◌, List, [], ◌∷◌, Option, Some, None, Bool, cond, min, take, bytes_eq, nat_eq}
+use Rattle.std.specs.Prelude.{ℕ, ◌+◌, ◌++◌, List, [], ◌∷◌, Option, Some, None, Bool, ◌==◌, if◌then◌else◌, min, take, bytes_eq}
 use Rattle.std.specs.List.{list_any}
 use Rattle.std.specs.Option.{option_map}
 
@@ -9,7 +9,7 @@ counted n = min (n + 1) 18446744073709551615
 
 -- Is a number in a list?
 abbrev pub lists : List ℕ → ℕ → Bool
-lists numbers n = list_any (λ m. nat_eq m n) numbers
+lists numbers n = list_any (λ m. m == n) numbers
 
 -- A source in memory: names with their bytes, the numbers of the reads that fail, how many
 -- reads there were, how many of them failed, and the name of the last one that did.
@@ -23,13 +23,13 @@ pub record Shelf : Type 0 where
 -- The bytes of the first file of that name.
 abbrev pub bytes_named : List (List ℕ × List ℕ) → List ℕ → Option (List ℕ)
 bytes_named [] name = None
-bytes_named (file ∷ files) name = cond (bytes_eq file.0 name) (Some file.1) (bytes_named files name)
+bytes_named (file ∷ files) name = if bytes_eq file.0 name then Some file.1 else bytes_named files name
 
 -- What the next read of a name within a limit gives: nothing where it is one of those that fail,
 -- or where no file has the name.
 abbrev pub read_of : Shelf → List ℕ → ℕ → Option (List ℕ)
 read_of s name limit =
-    cond (lists s.failing (counted s.calls)) None (option_map (take (limit + 1)) (bytes_named s.files name))
+    if lists s.failing (counted s.calls) then None else option_map (take (limit + 1)) (bytes_named s.files name)
 
 -- The source after a read that gave bytes, or for which memory was refused.
 abbrev pub after_read : Shelf → Shelf

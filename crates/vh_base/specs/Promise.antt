@@ -1,5 +1,5 @@
 -- Which orders a native may answer. (own)
-use Rattle.std.specs.Prelude.{◌≡◌, ℕ, zero, suc, ◌+◌, ◌%◌, List, Option, Bool, false, cond, codes, bytes_eq}
+use Rattle.std.specs.Prelude.{◌≡◌, ℕ, zero, suc, ◌+◌, ◌%◌, List, Option, Bool, false, if◌then◌else◌, codes, bytes_eq}
 use Rattle.std.specs.Fmt.{decimal}
 use Rattle.vh_base.specs.declared.format.Format.TheVariants as format
 use Rattle.vh_base.specs.declared.orders.Answer.{Answer}
@@ -33,7 +33,7 @@ once_at (suc (suc n)) s = order.Return
 -- The native `flip`: it gets the value, and puts "1" where that is "0", else "0".
 abbrev pub flip_at : ℕ → Seen → Order
 flip_at zero s = order.GetValue s.object format.VpiBinStrVal
-flip_at (suc zero) s = puts s.object (cond (is_text (codes "0") s.last) (codes "1") (codes "0"))
+flip_at (suc zero) s = puts s.object (if is_text (codes "0") s.last then codes "1" else codes "0")
 flip_at (suc (suc n)) s = order.Return
 
 -- The native `count`: it counts its user data up, modulo 2^64, and prints it.

@@ -1,5 +1,5 @@
 -- What a grammar is made of, as data: the parts that a production is written with.
-use Rattle.std.specs.Prelude.{Bool, cond, Option, Some, None, List, ◌∷◌}
+use Rattle.std.specs.Prelude.{Bool, if◌then◌else◌, Option, Some, None, List, ◌∷◌}
 
 -- A part of a production, whose trees have the type `A`, over tokens `T`. `P` names the productions
 -- that parts may refer to, and `V p` is the type of the trees of `p` (own; IEEE 1364-2005 Annex A,
@@ -33,7 +33,7 @@ pub data Part (T : Type 0) {P : Type 0} (V : P → Type 0) : Type 0 → Type 1 w
 
 -- a token of the class means no more than that it stands there (own)
 abbrev pub only_means : {T : Type 0} → (T → Bool) → T → Option (Unit {0})
-only_means class t = cond (class t) (Some tt) None
+only_means class t = if class t then Some tt else None
 
 module _ {T P : Type 0} {V : P → Type 0} where
   -- one token of the class, whose tree says no more than that it stands there (own)

@@ -1,6 +1,6 @@
 -- Reading the pure grammar: one total function from a part and a list of tokens to a tree with the tokens
 -- that are left, or to a fault with its place. What is left out isn't looked at here (`Marking` does).
-use Rattle.std.specs.Prelude.{ℕ, zero, suc, Bool, false, cond, Option, Some, None, List, [], ◌∷◌, ◌++◌, length}
+use Rattle.std.specs.Prelude.{ℕ, zero, suc, Bool, false, if◌then◌else◌, Option, Some, None, List, [], ◌∷◌, ◌++◌, length}
 use Rattle.vh_grammar.specs.Part.{Part, done, tok, seq, bind, act, alt, rep, iter, nested, unless, barred}
 
 -- Why tokens are refused. Of two faults at one token the later one here counts (own).
@@ -48,12 +48,15 @@ past_levels (t ∷ ts) = stop deep (suc (length ts))
 -- as many turns as there are tokens of the class next, at most `n` (own)
 abbrev pub many : {T A : Type 0} → (List T → Out T A) → (T → Bool) → ℕ → List T → Out T (List A)
 many item class zero ts = got [] ts
-many item class (suc n) ts = cond (next_is class ts) (then_ (item ts) (λ a mid. then_ (many item class n mid) (λ more rest. got (a ∷ more) rest))) (got [] ts)
+many item class (suc n) ts =
+    if next_is class ts then then_ (item ts) (λ a mid. then_ (many item class n mid) (λ more rest. got (a ∷ more) rest))
+    else got [] ts
 
 -- the same with a state, which each turn gives anew (own)
 abbrev pub turns : {T S : Type 0} → (S → List T → Out T S) → (S → T → Bool) → ℕ → S → List T → Out T S
 turns turn class zero s ts = got s ts
-turns turn class (suc n) s ts = cond (next_is (class s) ts) (then_ (turn s ts) (turns turn class n)) (got s ts)
+turns turn class (suc n) s ts =
+    if next_is (class s) ts then then_ (turn s ts) (turns turn class n) else got s ts
 
 module _ {T P : Type 0} {V : P → Type 0} (R : (p : P) → List T → Out T (V p)) where
   -- reads a part, by `R` where a production is nested. A turn takes a token, so that there are never
@@ -64,7 +67,7 @@ module _ {T P : Type 0} {V : P → Type 0} (R : (p : P) → List T → Out T (V 
   run (seq p q) ts = then_ (run p ts) (λ a mid. then_ (run q mid) (λ b rest. got (a, b) rest))
   run (bind p q) ts = then_ (run p ts) (λ a mid. run (q a) mid)
   run (act f p) ts = then_ (run p ts) (λ a rest. got (f a) rest)
-  run (alt class p q) ts = cond (next_is class ts) (run p ts) (run q ts)
+  run (alt class p q) ts = if next_is class ts then run p ts else run q ts
   run (rep class p) ts = many (run p) class (length ts) ts
   run (iter class part s) ts = turns (λ u. run (part u)) class (length ts) s ts
   run (nested p) ts = R p ts

@@ -1,14 +1,14 @@
 -- The bytes of which texts are made, by their codes, and what bytes begin with (IEEE 1364-2005, clause 3).
-use Rattle.std.specs.Prelude.{ℕ, ◌+◌, Bool, false, ◌&&◌, ◌||◌, not, List, [], ◌∷◌, Option, Some, None, if◌then◌else◌, nat_eq}
+use Rattle.std.specs.Prelude.{ℕ, ◌+◌, Bool, false, ◌&&◌, ◌||◌, not, List, [], ◌∷◌, Option, Some, None, if◌then◌else◌, ◌==◌}
 use Rattle.std.specs.Option.{option_map}
 use Rattle.vh_base.specs.Classes.{is_between, is_space, is_name_start, is_digit}
 
 -- the line feed, which ends a line (own; 3.3)
 abbrev pub is_line_end : ℕ → Bool
-is_line_end byte = nat_eq byte 10
+is_line_end byte = byte == 10
 
 abbrev pub is_line_byte : ℕ → Bool
-is_line_byte byte = not (nat_eq byte 10)
+is_line_byte byte = not (byte == 10)
 
 -- a byte of which tokens are made (own; 3.1)
 abbrev pub is_graphic : ℕ → Bool
@@ -24,24 +24,24 @@ is_text byte = is_between 32 126 byte
 
 -- a letter, an underscore, a digit or a dollar sign, with which a name goes on (3.7)
 abbrev pub is_name_byte : ℕ → Bool
-is_name_byte byte = is_name_start byte || is_digit byte || nat_eq byte 36
+is_name_byte byte = is_name_start byte || is_digit byte || byte == 36
 
 -- a digit or an underscore, with which a decimal number goes on (3.5.1)
 abbrev pub is_decimal : ℕ → Bool
-is_decimal byte = is_digit byte || nat_eq byte 95
+is_decimal byte = is_digit byte || byte == 95
 
 -- the letters X and Z in either case (3.5.1)
 abbrev pub is_unknown : ℕ → Bool
-is_unknown byte = nat_eq byte 120 || nat_eq byte 88 || nat_eq byte 122 || nat_eq byte 90
+is_unknown byte = byte == 120 || byte == 88 || byte == 122 || byte == 90
 
 -- a decimal digit, an underscore, or one of the letters A to F, X and Z in either case: the digits behind a base but `?` (3.5.1)
 abbrev pub is_based_letter : ℕ → Bool
 is_based_letter byte =
-    is_digit byte || nat_eq byte 95 || is_between 97 102 byte || is_between 65 70 byte || is_unknown byte
+    is_digit byte || byte == 95 || is_between 97 102 byte || is_between 65 70 byte || is_unknown byte
 
 -- `?`, which is written for z (3.5.1)
 abbrev pub is_question : ℕ → Bool
-is_question byte = nat_eq byte 63
+is_question byte = byte == 63
 
 -- a digit behind a base (3.5.1)
 abbrev pub is_based : ℕ → Bool
@@ -49,22 +49,22 @@ is_based byte = is_based_letter byte || is_question byte
 
 -- the letter of base ten, and that of another base, in either case (3.5.1)
 abbrev pub is_base_ten : ℕ → Bool
-is_base_ten byte = nat_eq byte 100 || nat_eq byte 68
+is_base_ten byte = byte == 100 || byte == 68
 
 abbrev pub is_base : ℕ → Bool
 is_base byte =
-    is_base_ten byte || nat_eq byte 98 || nat_eq byte 66 || nat_eq byte 111 || nat_eq byte 79 || nat_eq byte 104 || nat_eq byte 72
+    is_base_ten byte || byte == 98 || byte == 66 || byte == 111 || byte == 79 || byte == 104 || byte == 72
 
 -- the mark of a signed number, in either case (3.5.1)
 abbrev pub is_sign_mark : ℕ → Bool
-is_sign_mark byte = nat_eq byte 115 || nat_eq byte 83
+is_sign_mark byte = byte == 115 || byte == 83
 
 -- the mark of an exponent, in either case, and its sign (3.5.2)
 abbrev pub is_exponent : ℕ → Bool
-is_exponent byte = nat_eq byte 101 || nat_eq byte 69
+is_exponent byte = byte == 101 || byte == 69
 
 abbrev pub is_plus_or_minus : ℕ → Bool
-is_plus_or_minus byte = nat_eq byte 43 || nat_eq byte 45
+is_plus_or_minus byte = byte == 43 || byte == 45
 
 -- an octal digit (3.6.3)
 abbrev pub is_octal : ℕ → Bool
@@ -78,7 +78,7 @@ begins is_one (byte ∷ bytes) = is_one byte
 -- bytes begin with these two
 abbrev pub begins_with : ℕ → ℕ → List ℕ → Bool
 begins_with first second [] = false
-begins_with first second (byte ∷ bytes) = nat_eq byte first && begins (λ b. nat_eq b second) bytes
+begins_with first second (byte ∷ bytes) = byte == first && begins (λ b. b == second) bytes
 
 -- one byte more, if there is an end
 abbrev pub one_more : Option ℕ → Option ℕ
@@ -89,4 +89,4 @@ one_more o = option_map (λ len. len + 1) o
 abbrev pub through : ℕ → ℕ → Bool → List ℕ → Option ℕ
 through first second half [] = None
 through first second half (byte ∷ bytes) =
-    if half && nat_eq byte second then Some 1 else one_more (through first second (nat_eq byte first) bytes)
+    if half && byte == second then Some 1 else one_more (through first second (byte == first) bytes)

@@ -1,5 +1,5 @@
 -- The directives: the state after each, and how many bytes it has (IEEE 1364-2005, clause 19).
-use Rattle.std.specs.Prelude.{ℕ, zero, suc, ◌+◌, ◌-◌, Bool, true, false, not, List, [], ◌∷◌, ◌++◌, Option, Some, None, Result, Ok, Err, if◌then◌else◌, take, drop, codes, bytes_eq, nat_eq, nat_le, is_some}
+use Rattle.std.specs.Prelude.{ℕ, zero, suc, ◌+◌, ◌-◌, Bool, true, false, not, List, [], ◌∷◌, ◌++◌, Option, Some, None, Result, Ok, Err, if◌then◌else◌, take, drop, codes, bytes_eq, nat_le, is_some, ◌==◌}
 use Rattle.std.specs.List.{find, list_any, prefix_len}
 use Rattle.std.specs.Option.{option_map, option_and_then}
 use Rattle.vh_base.specs.declared.faults.DesignFault.{DesignFault}
@@ -108,7 +108,7 @@ define_text at name bytes s =
 abbrev pub define_name : ℕ → Named → List ℕ → State → Step
 define_name at n bytes s =
     if is_some (directive_of n.name) then refused L2
-    else (if begins (λ b. nat_eq b 40) (drop n.len bytes) then refused L3
+    else (if begins (λ b. b == 40) (drop n.len bytes) then refused L3
     else (if is_long n.name then Err (L6, at) else define_text (at + n.len) n.name (drop n.len bytes) s))
 
 abbrev pub define_by : Option Named → ℕ → List ℕ → State → Step
@@ -245,7 +245,7 @@ slash_by true len bytes = further len (time_behind bytes)
 
 abbrev pub slash_behind : List ℕ → Option Found
 slash_behind bytes =
-    slash_by (begins (λ b. nat_eq b 47) (drop (gap_len bytes) bytes)) (gap_len bytes + 1) (drop (gap_len bytes + 1) bytes)
+    slash_by (begins (λ b. b == 47) (drop (gap_len bytes) bytes)) (gap_len bytes + 1) (drop (gap_len bytes + 1) bytes)
 
 -- `timescale: the precision is not above the unit (19.8)
 abbrev pub scaled : ℕ → Found → Option Found → State → Step

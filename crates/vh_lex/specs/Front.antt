@@ -1,6 +1,6 @@
 -- What bytes begin with: the longest white space, comment, attribute, token or use of a name behind a backquote
 -- (IEEE 1364-2005, clause 3).
-use Rattle.std.specs.Prelude.{ℕ, ◌+◌, Bool, false, ◌&&◌, ◌||◌, not, List, [], ◌∷◌, Option, Some, None, if◌then◌else◌, length, take, drop, bytes_eq, nat_eq, nat_lt}
+use Rattle.std.specs.Prelude.{ℕ, ◌+◌, Bool, false, ◌&&◌, ◌||◌, not, List, [], ◌∷◌, Option, Some, None, if◌then◌else◌, length, take, drop, bytes_eq, nat_lt, ◌==◌}
 use Rattle.std.specs.List.{prefix_len}
 use Rattle.std.specs.Option.{option_map}
 use Rattle.vh_base.specs.declared.faults.DesignFault.TheVariants.{L1, L5, L6}
@@ -43,7 +43,7 @@ word_name bytes = if begins is_name_start bytes then Some (simple_name bytes) el
 abbrev pub name_of : List ℕ → Option Named
 name_of bytes =
     if begins is_name_start bytes then Some (simple_name bytes)
-    else (if begins (λ b. nat_eq b 92) bytes then escaped_name (prefix_len is_graphic (drop 1 bytes)) (drop 1 bytes) else None)
+    else (if begins (λ b. b == 92) bytes then escaped_name (prefix_len is_graphic (drop 1 bytes)) (drop 1 bytes) else None)
 
 -- a name above 1,024 bytes is L6 (3.7; the limit own)
 abbrev pub is_long : List ℕ → Bool
@@ -97,7 +97,7 @@ slash_by None bytes = if begins_with 47 42 bytes then Fault L5 0 else mark_piece
 -- an attribute begins with `(*`, unless `)` is what stands behind that and white space (3.8; own)
 abbrev pub begins_attribute : List ℕ → Bool
 begins_attribute bytes =
-    begins_with 40 42 bytes && not (begins (λ b. nat_eq b 41) (drop (prefix_len is_space (drop 2 bytes)) (drop 2 bytes)))
+    begins_with 40 42 bytes && not (begins (λ b. b == 41) (drop (prefix_len is_space (drop 2 bytes)) (drop 2 bytes)))
 
 -- a byte outside 33 to 126 that is no white space is L1 in an attribute too (own)
 abbrev pub attribute_by : ℕ → ℕ → Piece
@@ -115,12 +115,12 @@ bracket_at bytes =
 -- by a first byte that is no white space and begins no word or number; one that begins no token is L1 (3.1)
 abbrev pub marked : ℕ → List ℕ → List ℕ → Piece
 marked byte behind bytes =
-    if nat_eq byte 36 then system_at bytes
-    else (if nat_eq byte 34 then text_at behind
-    else (if nat_eq byte 92 then escaped_by (name_of bytes)
-    else (if nat_eq byte 96 then use_by (name_of behind)
-    else (if nat_eq byte 47 then slash_by (comment_len bytes) bytes
-    else (if nat_eq byte 40 then bracket_at bytes else mark_piece bytes)))))
+    if byte == 36 then system_at bytes
+    else (if byte == 34 then text_at behind
+    else (if byte == 92 then escaped_by (name_of bytes)
+    else (if byte == 96 then use_by (name_of behind)
+    else (if byte == 47 then slash_by (comment_len bytes) bytes
+    else (if byte == 40 then bracket_at bytes else mark_piece bytes)))))
 
 -- by the first byte (3.1)
 abbrev pub front : List ℕ → Piece
@@ -128,4 +128,4 @@ front [] = Blank 0
 front (byte ∷ bytes) =
     if is_space byte then Blank (prefix_len is_space (byte ∷ bytes))
     else (if is_name_start byte then word_at (byte ∷ bytes)
-    else (if is_digit byte || nat_eq byte 39 then number_at (byte ∷ bytes) else marked byte bytes (byte ∷ bytes)))
+    else (if is_digit byte || byte == 39 then number_at (byte ∷ bytes) else marked byte bytes (byte ∷ bytes)))

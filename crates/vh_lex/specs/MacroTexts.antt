@@ -1,5 +1,5 @@
 -- The text of a macro: how far it goes, and its parts (IEEE 1364-2005, 19.3.1).
-use Rattle.std.specs.Prelude.{ℕ, zero, suc, ◌+◌, ◌-◌, Bool, true, false, ◌&&◌, ◌||◌, not, List, [], ◌∷◌, Option, Some, None, if◌then◌else◌, take, drop, nat_eq}
+use Rattle.std.specs.Prelude.{ℕ, zero, suc, ◌+◌, ◌-◌, Bool, true, false, ◌&&◌, ◌||◌, not, List, [], ◌∷◌, Option, Some, None, if◌then◌else◌, take, drop, ◌==◌}
 use Rattle.std.specs.List.{prefix_len}
 use Rattle.vh_lex.specs.declared.piece.Part.{Part}
 use Rattle.vh_lex.specs.declared.piece.Part.TheVariants.{Wrong}
@@ -24,7 +24,7 @@ ends_line bytes = begins is_line_end bytes || begins_with 13 10 bytes
 
 -- a backslash before the line's end, which continues the text (19.3.1)
 abbrev pub continues : ℕ → List ℕ → Bool
-continues byte bytes = nat_eq byte 92 && ends_line bytes
+continues byte bytes = byte == 92 && ends_line bytes
 
 -- the bytes begin with such a backslash
 abbrev pub begins_continued : List ℕ → Bool
@@ -33,7 +33,7 @@ begins_continued (byte ∷ bytes) = continues byte bytes
 
 -- two bytes together
 abbrev pub is_pair : ℕ → ℕ → ℕ → List ℕ → Bool
-is_pair first second byte bytes = nat_eq byte first && begins (λ b. nat_eq b second) bytes
+is_pair first second byte bytes = byte == first && begins (λ b. b == second) bytes
 
 -- a byte that stands in no string and no comment: a line end or a `//` ends the text (19.3.1)
 abbrev pub plain_turn : ℕ → List ℕ → Option Turn
@@ -41,15 +41,15 @@ plain_turn byte bytes =
     if is_line_end byte || is_pair 47 47 byte bytes then None
     else (if continues byte bytes then goes_on true Plain
     else (if is_pair 47 42 byte bytes then goes_on true Comment
-    else goes_on false (if nat_eq byte 34 then Quoted else Plain)))
+    else goes_on false (if byte == 34 then Quoted else Plain)))
 
 -- a byte of a string: a backslash takes the next byte with it, unless that one continues the text
 abbrev pub quoted_turn : ℕ → List ℕ → Option Turn
 quoted_turn byte bytes =
     if is_line_end byte then None
     else (if continues byte bytes then goes_on true Plain
-    else (if nat_eq byte 92 then goes_on (not (begins_continued bytes)) Quoted
-    else goes_on false (if nat_eq byte 34 then Plain else Quoted)))
+    else (if byte == 92 then goes_on (not (begins_continued bytes)) Quoted
+    else goes_on false (if byte == 34 then Plain else Quoted)))
 
 -- a byte of a comment
 abbrev pub comment_turn : ℕ → List ℕ → Option Turn

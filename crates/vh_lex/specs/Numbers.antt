@@ -1,5 +1,5 @@
 -- The number with which bytes begin: how many bytes it has, and its value (IEEE 1364-2005, 3.5).
-use Rattle.std.specs.Prelude.{ℕ, ◌+◌, ◌-◌, Bool, true, false, ◌&&◌, ◌||◌, List, Result, Ok, Err, if◌then◌else◌, take, drop, nat_eq, nat_lt}
+use Rattle.std.specs.Prelude.{ℕ, ◌+◌, ◌-◌, Bool, true, false, ◌&&◌, ◌||◌, List, Result, Ok, Err, if◌then◌else◌, take, drop, nat_lt, ◌==◌}
 use Rattle.std.specs.List.{prefix_len}
 use Rattle.vh_base.specs.declared.faults.DesignFault.TheVariants.{L1, L4}
 use Rattle.vh_logic.specs.Vector.{Vector}
@@ -14,7 +14,7 @@ use Rattle.vh_base.specs.Classes.{is_space, is_digit}
 
 -- a point with a digit behind it (3.5.2)
 abbrev pub begins_fraction : List ℕ → Bool
-begins_fraction bytes = begins (λ b. nat_eq b 46) bytes && begins is_digit (drop 1 bytes)
+begins_fraction bytes = begins (λ b. b == 46) bytes && begins is_digit (drop 1 bytes)
 
 -- an exponent: its mark, and a digit with or without a sign (3.5.2)
 abbrev pub begins_exponent : List ℕ → Bool
@@ -31,7 +31,7 @@ base_len_behind bytes =
     if begins is_base bytes then 2 else (if begins is_sign_mark bytes && begins is_base (drop 1 bytes) then 3 else 0)
 
 abbrev pub base_len : List ℕ → ℕ
-base_len bytes = if begins (λ b. nat_eq b 39) bytes then base_len_behind (drop 1 bytes) else 0
+base_len bytes = if begins (λ b. b == 39) bytes then base_len_behind (drop 1 bytes) else 0
 
 -- how many bytes the digits behind a base have: in base ten a `?` is a digit only as the first one (3.5.1; own)
 abbrev pub digits_len : Bool → List ℕ → ℕ
@@ -46,7 +46,7 @@ spaced_digits_len is_ten bytes = prefix_len is_space bytes + digits_len is_ten (
 -- how many bytes a base and its digits have; 0 where no base stands
 abbrev pub based_len_by : ℕ → List ℕ → ℕ
 based_len_by len bytes =
-    if nat_eq len 0 then 0 else len + spaced_digits_len (begins is_base_ten (drop (len - 1) bytes)) (drop len bytes)
+    if len == 0 then 0 else len + spaced_digits_len (begins is_base_ten (drop (len - 1) bytes)) (drop len bytes)
 
 abbrev pub based_len : List ℕ → ℕ
 based_len bytes = based_len_by (base_len bytes) bytes

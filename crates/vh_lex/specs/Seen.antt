@@ -1,5 +1,5 @@
 -- How contracts see what the code holds: without where it lies in memory.
-use Rattle.std.specs.Prelude.{ℕ, List, nat_eq}
+use Rattle.std.specs.Prelude.{ℕ, List, ◌==◌}
 use Rattle.std.specs.Borrow.{Bor}
 use Rattle.std.specs.List.{filter}
 use Rattle.vh_lex.specs.Bytes.{begins}
@@ -16,7 +16,7 @@ row_seen row = (row.0.now, row.1)
 
 -- the rows of a table whose spelling has this first byte
 abbrev pub rows_from : {A : Type 0} → ℕ → List (List ℕ × A) → List (List ℕ × A)
-rows_from first rows = filter (λ row. begins (λ b. nat_eq b first) row.0) rows
+rows_from first rows = filter (λ row. begins (λ b. b == first) row.0) rows
 
 -- a name of the code
 abbrev pub named_seen : HeldNamed → Named

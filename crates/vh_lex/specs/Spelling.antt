@@ -1,5 +1,5 @@
 -- How the bytes of files spell tokens: one piece after the other from the left (IEEE 1364-2005, clauses 3 and 19).
-use Rattle.std.specs.Prelude.{ℕ, zero, suc, ◌+◌, ◌-◌, Bool, true, false, List, [], ◌∷◌, ◌++◌, Option, Some, None, Result, Ok, Err, if◌then◌else◌, length, take, drop, nat_eq, nat_lt, is_some}
+use Rattle.std.specs.Prelude.{ℕ, zero, suc, ◌+◌, ◌-◌, Bool, true, false, List, [], ◌∷◌, ◌++◌, Option, Some, None, Result, Ok, Err, if◌then◌else◌, length, take, drop, nat_lt, is_some, ◌==◌}
 use Rattle.vh_base.specs.declared.place.Place.{Place}
 use Rattle.vh_base.specs.declared.faults.DesignFault.{DesignFault}
 use Rattle.vh_base.specs.declared.faults.DesignFault.TheVariants.{L3, L5, L6}
@@ -116,7 +116,7 @@ abbrev pub comment_skipped : Option ℕ → List ℕ → State → Step
 comment_skipped (Some len) bytes s = Ok (s, len)
 comment_skipped None bytes s =
     if begins_with 47 42 bytes then Err (L5, 0)
-    else (if begins (λ b. nat_eq b 96) bytes then use_skipped (word_name (drop 1 bytes)) bytes s else Ok (s, 1))
+    else (if begins (λ b. b == 96) bytes then use_skipped (word_name (drop 1 bytes)) bytes s else Ok (s, 1))
 
 abbrev pub skipped : List ℕ → State → Step
 skipped bytes s = comment_skipped (comment_len bytes) bytes s

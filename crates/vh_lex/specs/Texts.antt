@@ -1,5 +1,5 @@
 -- The string with which bytes begin: where it ends, and its bytes after the escapes (IEEE 1364-2005, 3.6).
-use Rattle.std.specs.Prelude.{ℕ, zero, suc, ◌+◌, ◌-◌, ◌*◌, Bool, true, false, ◌&&◌, ◌||◌, List, [], ◌∷◌, Option, Some, None, if◌then◌else◌, length, min, take, nat_eq, nat_le, nat_lt}
+use Rattle.std.specs.Prelude.{ℕ, zero, suc, ◌+◌, ◌-◌, ◌*◌, Bool, true, false, ◌&&◌, ◌||◌, List, [], ◌∷◌, Option, Some, None, if◌then◌else◌, length, min, take, nat_le, nat_lt, ◌==◌}
 use Rattle.std.specs.List.{prefix_len}
 use Rattle.vh_base.specs.declared.faults.DesignFault.TheVariants.{L4, L5, L6}
 use Rattle.vh_lex.specs.declared.text.Escape.{Escape}
@@ -15,7 +15,7 @@ abbrev pub text_len : Bool → List ℕ → Option ℕ
 text_len escaped [] = None
 text_len true (byte ∷ bytes) = if is_text byte then one_more (text_len false bytes) else None
 text_len false (byte ∷ bytes) =
-    if nat_eq byte 34 then Some 0 else (if is_text byte then one_more (text_len (nat_eq byte 92) bytes) else None)
+    if byte == 34 then Some 0 else (if is_text byte then one_more (text_len (byte == 92) bytes) else None)
 
 -- the number of one to three octal digits (3.6.3)
 abbrev pub octal_digit : ℕ → ℕ
@@ -42,9 +42,9 @@ octal_at bytes = octal_of (octal_len bytes) (octal_value (take (octal_len bytes)
 abbrev pub escape_at : List ℕ → Option Escape
 escape_at [] = None
 escape_at (byte ∷ bytes) =
-    if nat_eq byte 110 then Some (record { byte = 10; len = 1 })
-    else (if nat_eq byte 116 then Some (record { byte = 9; len = 1 })
-    else (if nat_eq byte 92 || nat_eq byte 34 then Some (record { byte = byte; len = 1 }) else octal_at (byte ∷ bytes)))
+    if byte == 110 then Some (record { byte = 10; len = 1 })
+    else (if byte == 116 then Some (record { byte = 9; len = 1 })
+    else (if byte == 92 || byte == 34 then Some (record { byte = byte; len = 1 }) else octal_at (byte ∷ bytes)))
 
 -- the bytes of a string after its escapes, up to the first backslash that begins no escape, and where that one stands
 pub record Decoded : Type 0 where
@@ -64,7 +64,7 @@ abbrev pub decoded_after : ℕ → List ℕ → Decoded
 decoded_after skip [] = record { bytes = []; wrong = None }
 decoded_after (suc skip) (byte ∷ bytes) = record (decoded_after skip bytes) { wrong = one_more (decoded_after skip bytes).wrong }
 decoded_after zero (byte ∷ bytes) =
-    if nat_eq byte 92 then escaped_then (escape_at bytes) (λ len. decoded_after len bytes) else preceded byte (decoded_after 0 bytes)
+    if byte == 92 then escaped_then (escape_at bytes) (λ len. decoded_after len bytes) else preceded byte (decoded_after 0 bytes)
 
 abbrev pub decoded : List ℕ → Decoded
 decoded bytes = decoded_after 0 bytes

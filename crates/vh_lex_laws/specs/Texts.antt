@@ -1,6 +1,6 @@
 -- What files spell, as a tree: text is a row of pieces and conditionals, and a conditional is text {`elsif text} [`else text] `endif,
 -- of which one text at most is read (IEEE 1364-2005, clauses 3 and 19).
-use Rattle.std.specs.Prelude.{◌≡◌, ℕ, ◌+◌, ◌≤◌, Bool, true, false, List, [], ◌∷◌, ◌++◌, Option, Some, None, Ok, length, take, drop, nat_eq, is_some}
+use Rattle.std.specs.Prelude.{◌≡◌, ℕ, ◌+◌, ◌≤◌, Bool, true, false, List, [], ◌∷◌, ◌++◌, Option, Some, None, Ok, length, take, drop, is_some, ◌==◌}
 use Rattle.std.specs.List.{list_any, prefix_len}
 use Rattle.vh_base.specs.declared.place.Place.{Place}
 use Rattle.vh_lex.specs.declared.token.Kind.{Kind}
@@ -55,7 +55,7 @@ opened f fs a = record a { bytes = f.bytes; passed = []; file = f.number; files 
 -- A backquote and a directive's word stand there, of so many bytes; in text that is read or skipped.
 pub record IsWord (d : Directive) (a : At) (len : ℕ) : Type 0 where
   pub name : Named
-  pub quote : begins (λ b. nat_eq b 96) a.bytes ≡ true
+  pub quote : begins (λ b. b == 96) a.bytes ≡ true
   pub word : word_name (drop 1 a.bytes) ≡ Some name
   pub directive : directive_of name.name ≡ Some d
   pub long : len ≡ name.len + 1
@@ -68,7 +68,7 @@ pub record Defines (a : At) (name text : List ℕ) (len : ℕ) : Type 0 where
   pub on_line : list_any is_line_end (take (gap_len (drop at a.bytes)) (drop at a.bytes)) ≡ false
   pub found : name_of (drop (gap_len (drop at a.bytes)) (drop at a.bytes)) ≡ Some named
   pub is_free : is_some (directive_of named.name) ≡ false
-  pub is_plain : begins (λ b. nat_eq b 40) (drop named.len (drop (gap_len (drop at a.bytes)) (drop at a.bytes))) ≡ false
+  pub is_plain : begins (λ b. b == 40) (drop named.len (drop (gap_len (drop at a.bytes)) (drop at a.bytes))) ≡ false
   pub is_short : is_long named.name ≡ false
   pub name_is : name ≡ named.name
   pub text_is : text ≡ macro_text (drop named.len (drop (gap_len (drop at a.bytes)) (drop at a.bytes)))
@@ -138,9 +138,9 @@ is_conditional (Some _) = false
 pub data Passes : At → At → Type 0 where
   comment : {a : At} (len : ℕ) → comment_len a.bytes ≡ Some len → Passes a (past len a)
   byte : {a : At} (byte : ℕ) (bytes : List ℕ) → a.bytes ≡ byte ∷ bytes → comment_len a.bytes ≡ None → begins_with 47 42 a.bytes ≡ false
-      → nat_eq byte 96 ≡ false → Passes a (past 1 a)
-  quote : {a : At} → begins (λ b. nat_eq b 96) a.bytes ≡ true → word_name (drop 1 a.bytes) ≡ None → Passes a (past 1 a)
-  word : {a : At} (name : Named) → begins (λ b. nat_eq b 96) a.bytes ≡ true → word_name (drop 1 a.bytes) ≡ Some name
+      → byte == 96 ≡ false → Passes a (past 1 a)
+  quote : {a : At} → begins (λ b. b == 96) a.bytes ≡ true → word_name (drop 1 a.bytes) ≡ None → Passes a (past 1 a)
+  word : {a : At} (name : Named) → begins (λ b. b == 96) a.bytes ≡ true → word_name (drop 1 a.bytes) ≡ Some name
       → is_conditional (directive_of name.name) ≡ false → Passes a (past (name.len + 1) a)
   skipped_file : {a : At} (f : File) (fs : List File) → a.bytes ≡ [] → a.files ≡ f ∷ fs → Passes a (opened f fs a)
 
