@@ -111,7 +111,7 @@ impl Reader {
         if is_long(named.name) {
             return Err(Stop::Fault(DesignFault::L6, at));
         }
-        let (parts, len) = macro_text(alloc, behind)?;
+        let (parts, len) = macro_text(alloc, &mut self.made, behind)?;
         self.macros.set(alloc, named.name, Some(parts))?;
         Ok(at + named.len + len)
     }

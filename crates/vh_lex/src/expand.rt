@@ -11,7 +11,7 @@ use crate::piece::Part;
 use crate::setting::Setting;
 use crate::token::Kind;
 use std::alloc::Global;
-use vh_base::{DesignFault, NoMemory, Place};
+use vh_base::{Boxed, DesignFault, NoMemory, Place};
 
 /// The greatest number of uses of macros that are open at one time.
 const LEVEL_LIMIT: usize = 64;
@@ -71,7 +71,7 @@ fn read_on<'a>(
         };
         frames.push(behind)?;
         match part {
-            Part::Token(kind) => made.push(copied_kind(kind)?, around.place)?,
+            Part::Token(kind) => made.push(copied_kind(alloc, kind)?, around.place)?,
             Part::Module => made.push(Kind::Module(around.setting), around.place)?,
             Part::Use(name) => return Ok(Some(used(around, name.as_slice())?)),
             Part::Wrong(fault) => return Err(Halt::Fault(*fault)),
@@ -93,8 +93,8 @@ fn used<'a>(around: &Around<'a>, name: &[u8]) -> Result<&'a [Part], Halt>
     }
 }
 
-// The same kind once more, which shares its bytes.
-fn copied_kind(kind: &Kind) -> Result<Kind, NoMemory>
+// The same kind once more, which shares its name or text.
+fn copied_kind(alloc: Global, kind: &Kind) -> Result<Kind, NoMemory>
     ensures { IfOk result (λ copy. copy ≡ kind.now) }
 {
     match kind {
@@ -104,6 +104,8 @@ fn copied_kind(kind: &Kind) -> Result<Kind, NoMemory>
         Kind::Name(name) => Ok(Kind::Name(name.share()?)),
         Kind::SysName(name) => Ok(Kind::SysName(name.share()?)),
         Kind::Text(text) => Ok(Kind::Text(text.share()?)),
-        Kind::Number(value, is_sized) => Ok(Kind::Number(*value, *is_sized)),
+        Kind::Number(value, is_sized) => {
+            Ok(Kind::Number(Boxed::new(alloc, *value.get())?, *is_sized))
+        },
     }
 }

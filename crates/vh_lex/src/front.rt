@@ -4,7 +4,8 @@ ghost use Rattle.vh_lex.specs.Inside.{IsInside};
 
 use crate::bytes::{Class, after, begins, begins_with, run_len, through};
 use crate::keyword::keyword_of;
-use crate::mark::mark_at;
+use crate::made::Output;
+use crate::mark::{Mark, mark_at};
 use crate::name::{is_long, name_of};
 use crate::number::number_at;
 use crate::piece::{Part, Piece};
@@ -12,13 +13,17 @@ use crate::text::text_at;
 use crate::token::Kind;
 use std::alloc::Global;
 use vh_base::{Bytes, DesignFault, NoMemory, is_digit, is_name_start, is_space};
-use vh_shared::SharedBytes;
 
 /// What the bytes begin with (IEEE 1364-2005, clause 3). It takes time in the number of bytes of
 /// that piece, and of white space behind it.
-pub(crate) fn front(alloc: Global, bytes: &[u8]) -> Result<Piece, NoMemory>
+pub(crate) fn front(
+    alloc: Global,
+    made: &mut Output,
+    bytes: &[u8],
+) -> Result<Piece, NoMemory>
     ensures value { IfOk result (λ piece. piece ≡ Front.front bytes.now) }
     ensures inside { IfOk result (λ piece. IsInside piece (length bytes.now)) }
+    ensures kept { made.new ≡ made.old }
 {
     let Some((first, behind)) = bytes.split_first() else {
         return Ok(Piece::Blank(0));
@@ -26,24 +31,31 @@ pub(crate) fn front(alloc: Global, bytes: &[u8]) -> Result<Piece, NoMemory>
     if is_space(*first) {
         Ok(Piece::Blank(run_len(Class::Space, bytes)))
     } else if is_name_start(*first) {
-        word_at(alloc, bytes)
+        word_at(alloc, made, bytes)
     } else if is_digit(*first) || *first == b'\'' {
-        Ok(number_at(bytes))
+        number_at(alloc, bytes)
     } else {
-        marked(alloc, *first, behind, bytes)
+        marked(alloc, made, *first, behind, bytes)
     }
 }
 
 // What the bytes begin with, by a first byte that is no white space and begins no word or number.
-fn marked(alloc: Global, first: u8, behind: &[u8], bytes: &[u8]) -> Result<Piece, NoMemory>
+fn marked(
+    alloc: Global,
+    made: &mut Output,
+    first: u8,
+    behind: &[u8],
+    bytes: &[u8],
+) -> Result<Piece, NoMemory>
     requires { length behind.now < length bytes.now }
     ensures value { IfOk result (λ piece. piece ≡ Front.marked first behind.now bytes.now) }
     ensures inside { IfOk result (λ piece. IsInside piece (length bytes.now)) }
+    ensures kept { made.new ≡ made.old }
 {
     match first {
-        b'$' => system_at(alloc, bytes),
+        b'$' => system_at(alloc, made, bytes),
         b'"' => text_at(alloc, behind),
-        b'\\' => escaped_at(alloc, bytes),
+        b'\\' => escaped_at(alloc, made, bytes),
         b'`' => use_at(alloc, behind),
         b'/' => Ok(slash_at(bytes)),
         b'(' => Ok(bracket_at(bytes)),
@@ -52,9 +64,14 @@ fn marked(alloc: Global, first: u8, behind: &[u8], bytes: &[u8]) -> Result<Piece
 }
 
 // A keyword or a name.
-fn word_at(alloc: Global, bytes: &[u8]) -> Result<Piece, NoMemory>
+fn word_at(
+    alloc: Global,
+    made: &mut Output,
+    bytes: &[u8],
+) -> Result<Piece, NoMemory>
     ensures value { IfOk result (λ piece. piece ≡ Front.word_at bytes.now) }
     ensures inside { IfOk result (λ piece. IsInside piece (length bytes.now)) }
+    ensures kept { made.new ≡ made.old }
 {
     let word = &bytes[..run_len(Class::Name, bytes)];
     if word == b"module".as_slice() {
@@ -62,28 +79,39 @@ fn word_at(alloc: Global, bytes: &[u8]) -> Result<Piece, NoMemory>
     }
     match keyword_of(word) {
         Some(keyword) => Ok(Piece::Kept(Part::Token(Kind::Word(keyword)), word.len())),
-        None => name_piece(alloc, word, word.len()),
+        None => name_piece(alloc, made, word, word.len()),
     }
 }
 
 // The token of a name whose spelling has so many bytes.
-fn name_piece(alloc: Global, name: &[u8], len: usize) -> Result<Piece, NoMemory>
+fn name_piece(
+    alloc: Global,
+    made: &mut Output,
+    name: &[u8],
+    len: usize,
+) -> Result<Piece, NoMemory>
     ensures value { IfOk result (λ piece. piece ≡ Front.named Kind.Name name.now len) }
     ensures inside { IfOk result (λ piece. IsInside piece len) }
+    ensures kept { made.new ≡ made.old }
 {
     if is_long(name) {
         return Ok(Piece::Fault(DesignFault::L6, 0));
     }
     Ok(Piece::Kept(
-        Part::Token(Kind::Name(SharedBytes::from_slice(alloc, name)?)),
+        Part::Token(Kind::Name(made.shared(alloc, name)?)),
         len,
     ))
 }
 
 // A system name.
-fn system_at(alloc: Global, bytes: &[u8]) -> Result<Piece, NoMemory>
+fn system_at(
+    alloc: Global,
+    made: &mut Output,
+    bytes: &[u8],
+) -> Result<Piece, NoMemory>
     ensures value { IfOk result (λ piece. piece ≡ Front.system_at bytes.now) }
     ensures inside { IfOk result (λ piece. IsInside piece (length bytes.now)) }
+    ensures kept { made.new ≡ made.old }
 {
     let name = &bytes[..run_len(Class::Name, bytes)];
     if name.len() < 2 {
@@ -93,18 +121,23 @@ fn system_at(alloc: Global, bytes: &[u8]) -> Result<Piece, NoMemory>
         return Ok(Piece::Fault(DesignFault::L6, 0));
     }
     Ok(Piece::Kept(
-        Part::Token(Kind::SysName(SharedBytes::from_slice(alloc, name)?)),
+        Part::Token(Kind::SysName(made.shared(alloc, name)?)),
         name.len(),
     ))
 }
 
 // An escaped name.
-fn escaped_at(alloc: Global, bytes: &[u8]) -> Result<Piece, NoMemory>
+fn escaped_at(
+    alloc: Global,
+    made: &mut Output,
+    bytes: &[u8],
+) -> Result<Piece, NoMemory>
     ensures value { IfOk result (λ piece. piece ≡ Front.escaped_by (Front.name_of bytes.now)) }
     ensures inside { IfOk result (λ piece. IsInside piece (length bytes.now)) }
+    ensures kept { made.new ≡ made.old }
 {
     match name_of(bytes) {
-        Some(named) => name_piece(alloc, named.name, named.len),
+        Some(named) => name_piece(alloc, made, named.name, named.len),
         None => Ok(Piece::Fault(DesignFault::L1, 0)),
     }
 }
@@ -121,6 +154,30 @@ fn use_at(alloc: Global, behind: &[u8]) -> Result<Piece, NoMemory>
             named.len + 1,
         )),
         None => Ok(Piece::Fault(DesignFault::L1, 0)),
+    }
+}
+
+/// The mark of one byte with which the bytes begin, where its first byte is enough to know it.
+pub(crate) fn lone_mark(bytes: &[u8]) -> Option<Mark>
+    ensures { IfSome result (λ mark. Front.front bytes.now ≡ Piece.Kept (Part.Token (Kind.Mark mark)) 1) }
+{
+    let Some((first, behind)) = bytes.split_first() else {
+        return None;
+    };
+    match *first {
+        b';' => Some(Mark::Semicolon),
+        b',' => Some(Mark::Comma),
+        b'(' if !begins(b'*', behind) => Some(Mark::LeftParen),
+        b')' => Some(Mark::RightParen),
+        b'[' => Some(Mark::LeftBracket),
+        b']' => Some(Mark::RightBracket),
+        b'{' => Some(Mark::LeftBrace),
+        b'}' => Some(Mark::RightBrace),
+        b'.' => Some(Mark::Dot),
+        b':' => Some(Mark::Colon),
+        b'#' => Some(Mark::Hash),
+        b'@' => Some(Mark::At),
+        _ => None,
     }
 }
 

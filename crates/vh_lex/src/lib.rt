@@ -27,6 +27,7 @@ mod macros;
 mod made;
 mod mark;
 mod name;
+mod names;
 mod number;
 mod piece;
 mod place;

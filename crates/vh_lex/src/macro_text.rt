@@ -5,6 +5,7 @@ ghost use Rattle.vh_lex.specs.Seen.{turn_seen};
 
 use crate::bytes::{Class, after, begins, begins_with, run_len, upto};
 use crate::front::front;
+use crate::made::Output;
 use crate::piece::{Part, Piece};
 use std::alloc::Global;
 use vh_base::{NoMemory, Sequence};
@@ -28,14 +29,19 @@ pub(crate) struct Next {
 
 /// The parts of the text that stands behind a macro's name, and how many bytes it has with a
 /// comment that ends it (IEEE 1364-2005, 19.3.1). It takes time in the number of those bytes.
-pub(crate) fn macro_text(alloc: Global, bytes: &[u8]) -> Result<(Sequence<Part>, usize), NoMemory>
+pub(crate) fn macro_text(
+    alloc: Global,
+    made: &mut Output,
+    bytes: &[u8],
+) -> Result<(Sequence<Part>, usize), NoMemory>
     ensures parts { IfOk result (λ found. found.0 ≡ MacroTexts.parts_of (MacroTexts.macro_text bytes.now)) }
     ensures len { IfOk result (λ found. found.1 ≡ MacroTexts.macro_len bytes.now) }
     ensures inside { IfOk result (λ found. found.1 ≤ length bytes.now) }
+    ensures kept { made.new ≡ made.old }
 {
     let (text, behind) = bytes.split_at(text_len(bytes));
     let joined = joined_lines(alloc, text)?;
-    let parts = parts_of(alloc, &joined)?;
+    let parts = parts_of(alloc, made, &joined)?;
     Ok((parts, text.len() + run_len(Class::Line, behind)))
 }
 
@@ -163,13 +169,14 @@ fn joined_lines(alloc: Global, text: &[u8]) -> Result<Vec<u8>, NoMemory>
 }
 
 // The parts of a text, up to its first fault.
-fn parts_of(alloc: Global, text: &[u8]) -> Result<Sequence<Part>, NoMemory>
-    ensures { IfOk result (λ parts. parts ≡ MacroTexts.parts_of text.now) }
+fn parts_of(alloc: Global, made: &mut Output, text: &[u8]) -> Result<Sequence<Part>, NoMemory>
+    ensures parts { IfOk result (λ parts. parts ≡ MacroTexts.parts_of text.now) }
+    ensures kept { made.new ≡ made.old }
 {
     let mut parts = Vec::new(alloc);
     let mut rest = text;
     while let Some((_, behind)) = rest.split_first() {
-        match front(alloc, rest)? {
+        match front(alloc, made, rest)? {
             Piece::Blank(len) => rest = after(len.saturating_sub(1), behind),
             Piece::Kept(part, len) => {
                 parts.push(part)?;

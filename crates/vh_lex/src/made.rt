@@ -4,10 +4,12 @@ ghost use Rattle.vh_lex.specs.Spelling.{with_token, with_use};
 ghost use Rattle.vh_lex.specs.Outcomes.{Makes};
 
 use crate::fault::Halt;
+use crate::names::Names;
 use crate::token::{Kind, Token};
 use std::alloc::Global;
 use std::marker::Model;
-use vh_base::{DesignFault, Place};
+use vh_base::{DesignFault, NoMemory, Place};
+use vh_shared::SharedBytes;
 
 /// The greatest number of tokens.
 const TOKEN_LIMIT: usize = 4_194_304;
@@ -15,11 +17,12 @@ const TOKEN_LIMIT: usize = 4_194_304;
 /// The greatest number of uses of macros.
 const USE_LIMIT: u32 = 1_048_576;
 
-/// The tokens so far, and how many macros were used.
+/// The tokens so far, and how many macros were used. Contracts see nothing of the names that stood before.
 #[derive(Drop)]
 pub(crate) struct Output {
     tokens: Vec<Token>,
     uses: u32,
+    names: Names,
 }
 
 impl Model for Output {
@@ -38,6 +41,7 @@ impl Output {
         Output {
             tokens: Vec::new(alloc),
             uses: 0,
+            names: Names::new(alloc),
         }
     }
 
@@ -51,6 +55,14 @@ impl Output {
         }
         self.tokens.push(Token { kind, place })?;
         Ok(())
+    }
+
+    /// The bytes of a name, shared with one that stood before where it is remembered.
+    pub(crate) fn shared(&mut self, alloc: Global, name: &[u8]) -> Result<SharedBytes, NoMemory>
+        ensures value { IfOk result (λ s. s ≡ name.now) }
+        ensures kept { self.new ≡ self.old }
+    {
+        self.names.shared(alloc, name)
     }
 
     /// A use of a macro more.

@@ -1,4 +1,4 @@
-ghost use Rattle.std.specs.Prelude.{◌≡◌, ◌≤◌, ◌<◌, ◌+◌, true, length};
+ghost use Rattle.std.specs.Prelude.{◌≡◌, ◌≤◌, ◌<◌, ◌+◌, true, length, IfOk};
 ghost use Rattle.std.specs.List.{prefix_len};
 ghost use Rattle.vh_lex.specs.Bytes;
 ghost use Rattle.vh_lex.specs.Inside.{IsInside};
@@ -7,39 +7,48 @@ ghost use Rattle.vh_lex.specs.Numbers;
 use crate::bytes::{Class, after, begins, begins_digit, run_len};
 use crate::piece::{Part, Piece};
 use crate::token::Kind;
-use vh_base::DesignFault;
+use std::alloc::Global;
+use vh_base::{Boxed, DesignFault, NoMemory};
 use vh_text::read_literal;
 
 /// The number with which the bytes begin, from a digit or an apostrophe on (IEEE 1364-2005, 3.5).
 /// It takes time in the number of its bytes and of the white space behind its first digits.
-pub(crate) fn number_at(bytes: &[u8]) -> Piece
-    ensures value { result ≡ Numbers.number_at bytes.now }
-    ensures inside { IsInside result (length bytes.now) }
+pub(crate) fn number_at(alloc: Global, bytes: &[u8]) -> Result<Piece, NoMemory>
+    ensures value { IfOk result (λ piece. piece ≡ Numbers.number_at bytes.now) }
+    ensures inside { IfOk result (λ piece. IsInside piece (length bytes.now)) }
 {
     let digits = run_len(Class::Decimal, bytes);
-    let behind = &bytes[digits..];
+    let behind = after(digits, bytes);
     let spaces = run_len(Class::Space, behind);
-    let based = based_len(&bytes[digits + spaces..]);
+    let based = based_len(after(digits + spaces, bytes));
     if begins_real(behind) {
-        Piece::Fault(DesignFault::L4, 0)
+        Ok(Piece::Fault(DesignFault::L4, 0))
     } else if based > 0 {
-        number_of(bytes, digits > 0, digits + spaces + based)
+        number_of(alloc, bytes, digits > 0, digits + spaces + based)
     } else if digits > 0 {
-        number_of(bytes, false, digits)
+        number_of(alloc, bytes, false, digits)
     } else {
-        Piece::Fault(DesignFault::L1, 0)
+        Ok(Piece::Fault(DesignFault::L1, 0))
     }
 }
 
 // The number of so many bytes.
-fn number_of(bytes: &[u8], is_sized: bool, len: usize) -> Piece
+fn number_of(
+    alloc: Global,
+    bytes: &[u8],
+    is_sized: bool,
+    len: usize,
+) -> Result<Piece, NoMemory>
     requires { len ≤ length bytes.now }
-    ensures value { result ≡ Numbers.number_of bytes.now is_sized len }
-    ensures inside { IsInside result (length bytes.now) }
+    ensures value { IfOk result (λ piece. piece ≡ Numbers.number_of bytes.now is_sized len) }
+    ensures inside { IfOk result (λ piece. IsInside piece (length bytes.now)) }
 {
     match read_literal(&bytes[..len]) {
-        Ok(value) => Piece::Kept(Part::Token(Kind::Number(value, is_sized)), len),
-        Err(_) => Piece::Fault(DesignFault::L4, 0),
+        Ok(value) => {
+            let value = Boxed::new(alloc, value)?;
+            Ok(Piece::Kept(Part::Token(Kind::Number(value, is_sized)), len))
+        }
+        Err(_) => Ok(Piece::Fault(DesignFault::L4, 0)),
     }
 }
 

@@ -11,7 +11,7 @@ use crate::directed::first_setting;
 use crate::directive::{Directive, directive_behind, directive_of};
 use crate::expand::{Around, expand};
 use crate::fault::{Halt, LexFault, Stop};
-use crate::front::{comment_len, front};
+use crate::front::{comment_len, front, lone_mark};
 use crate::macros::Macros;
 use crate::made::Output;
 use crate::name::word_name;
@@ -80,7 +80,10 @@ impl Reader {
         if self.conditionals.skips() {
             return self.skipped(bytes);
         }
-        match front(alloc, bytes)? {
+        if let Some(mark) = lone_mark(bytes) {
+            return made(1, self.made.push(Kind::Mark(mark), self.place));
+        }
+        match front(alloc, &mut self.made, bytes)? {
             Piece::Blank(len) => Ok(len),
             Piece::Kept(part, len) => self.part_read(alloc, part, len, bytes),
             Piece::Fault(fault, at) => Err(Stop::Fault(fault, at)),

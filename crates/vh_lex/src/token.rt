@@ -1,7 +1,7 @@
 use crate::keyword::Keyword;
 use crate::mark::Mark;
 use crate::setting::Setting;
-use vh_base::Place;
+use vh_base::{Boxed, Place};
 use vh_logic::Vec4;
 use vh_shared::SharedBytes;
 
@@ -21,7 +21,7 @@ pub enum Kind {
     /// A string, after its escapes.
     Text(SharedBytes),
     /// A number, and whether a size was written.
-    Number(Vec4, bool),
+    Number(Boxed<Vec4>, bool),
 }
 
 /// A token and where it stands. One that a macro gives stands where the outermost use does.
