@@ -8,18 +8,18 @@ use Rattle.vh_lex.specs.declared.conditional.Conditional.{Conditional}
 use Rattle.vh_lex.specs.declared.token.Token.{Token}
 use Rattle.vh_lex.specs.State.{State, start_of}
 use Rattle.vh_lex.specs.Spelling.{Stop, read}
-use Rattle.vh_lex.specs.Lexed.{File, Lexed, reading, refused, exhausted, nothing_read, lexed_by, first_place, file_read, files_after, files_read, closed_by, end_of, IfReading}
-use Rattle.vh_lex.specs.Laws.{OneList, SpelledOrRefused, NeverBoth, FaultStays}
+use Rattle.vh_lex.specs.Lexed.{File, Lexed, reading, refused, exhausted, nothing_read, lexed_by, first_place, file_read, files_after, files_read, closed_by, end_of, IfReading, Spells}
+use Rattle.vh_lex.specs.Laws.{OneList, TokensOrRefused, NeverBoth, FaultStays}
 
 one-list : (l : Lexed) (tokens others : List Token) → end_of l ≡ Ok tt → IfReading l (λ first s. s.made.tokens ≡ tokens) → IfReading l (λ first s. s.made.tokens ≡ others) → tokens ≡ others
 one-list (reading first s) tokens others e h k = sym h ∙ k
 one-list (refused fault place) tokens others e h k = cc
 one-list exhausted tokens others e h k = cc
 
-pub one_list : OneList
+pub one_list : OneList Spells
 one_list files tokens others h k = one-list (files_read files) tokens others h.0 h.1 k.1
 
-pub never_both : NeverBoth
+pub never_both : NeverBoth Spells
 never_both files tokens fault place h k = let e = sym h.0 ∙ k in cc
 
 -- want of memory is no reading of files
@@ -53,7 +53,7 @@ ends (reading first s) h = closed first s (slice_get s.conditionals 0) refl
 ends (refused fault place) h = inr (fault, (place, refl))
 ends exhausted h = absurd h
 
-pub spelled_or_refused : SpelledOrRefused
+pub spelled_or_refused : TokensOrRefused Spells
 spelled_or_refused files = ends (files_read files) (known-files nothing_read files tt)
 
 refused-stays : (fault : DesignFault) (place : Place) (fs : List File) → files_after (refused fault place) fs ≡ refused fault place

@@ -18,3 +18,15 @@ pub mod Outcomes
 pub mod Inside
 pub mod Uses
 pub mod Laws
+-- The place of a byte
+pub mod Places
+-- What a macro's text spells
+pub mod MacroTokens
+-- What files spell, as a tree
+pub mod SourceText
+-- How far files have a text
+pub mod Reached
+-- What the answers say of the text
+pub mod Ends
+-- The laws of texts
+pub mod TextLaws

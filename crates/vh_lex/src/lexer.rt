@@ -1,4 +1,5 @@
 ghost use Rattle.std.specs.Prelude.{◌≡◌, ◌≢◌, ◌<◌, ◌^◌, length, Some, Ok, Err, IfOk};
+ghost use Rattle.vh_lex.specs.Ends.{AnswersFile, AnswersEnd};
 ghost use Rattle.vh_lex.specs.Lexed.{nothing_read, file_read, answer_of, end_of, IfReading, IsBegun};
 
 use crate::fault::LexFault;
@@ -45,7 +46,17 @@ impl Lexer {
         requires { length bytes.now < 2 ^ 31 }
         // Unless memory was refused, the files so far are those before and this one,
         ensures read { result ≢ Err LexFault.NoMemory → self.new ≡ file_read (record { number = file; bytes = bytes.now }) self.old }
-        // and the answer is what they come to.
+        // the answer is what they come to,
+        ensures answer { result ≡ answer_of self.new }
+        // and where it is a fault, they have no text: it stops there.
+        ensures text { AnswersFile self.new result }
+    {
+        self.read(alloc, file, bytes)
+    }
+
+    fn read(&mut self, alloc: Global, file: u32, bytes: &[u8]) -> Result<(), LexFault>
+        requires { length bytes.now < 2 ^ 31 }
+        ensures read { result ≢ Err LexFault.NoMemory → self.new ≡ file_read (record { number = file; bytes = bytes.now }) self.old }
         ensures answer { result ≡ answer_of self.new }
     {
         if let Some(fault) = self.stopped {
@@ -72,6 +83,15 @@ impl Lexer {
     /// The answer at the end of the last file: `L2` where a conditional is left open, at the
     /// outermost one, or the fault that was answered before.
     pub fn end(&self) -> Result<(), LexFault>
+        ensures answer { result ≡ end_of self.now }
+        // Where it is Ok, the files have a text with the tokens that were made, and no other; and else they
+        // have none: it stops at the fault.
+        ensures text { AnswersEnd self.now result }
+    {
+        self.closed()
+    }
+
+    fn closed(&self) -> Result<(), LexFault>
         ensures { result ≡ end_of self.now }
     {
         if let Some(fault) = self.stopped {

@@ -40,7 +40,7 @@ mod token;
 
 pub use fault::LexFault;
 pub use keyword::Keyword;
-pub use laws::lex_laws;
+pub use laws::{lex_laws, text_laws};
 pub use lexer::Lexer;
 pub use mark::Mark;
 pub use setting::{DefaultNet, Setting};

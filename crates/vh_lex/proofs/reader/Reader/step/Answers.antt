@@ -2,8 +2,6 @@ use Rattle.std.proofs.Common.{sym, subst, ◌∙◌}
 use Rattle.vh_lex.specs.Made.{Made}
 use Rattle.vh_lex.specs.Outcomes.{Went}
 use Rattle.vh_lex.specs.Spelling.{part_read}
-use Rattle.vh_lex.specs.declared.piece.Part.TheVariants.{Token}
-use Rattle.vh_lex.specs.declared.token.Kind.TheVariants.{Mark}
 use Rattle.vh_lex.proofs.Stepping.{step-skips, step-keeps}
 use Rattle.vh_lex.proofs.reader.Reader.step.Goals as goal
 

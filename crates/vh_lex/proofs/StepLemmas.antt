@@ -19,12 +19,12 @@ use Rattle.vh_lex.specs.State.{State, start_of, moved}
 use Rattle.vh_lex.specs.Directives.{Step, directive_of, directive_behind, directed, seen_directive}
 use Rattle.vh_lex.specs.Spelling.{Stop, name_read, part_read, piece_read, name_skipped, use_skipped, skipped, step, step_then, read_after, read}
 use Rattle.vh_lex.specs.Lexed.{File, Lexed, reading, refused, lexed_by, first_place, files_after}
-use Rattle.vh_lex_laws.specs.Uses.{Macros}
-use Rattle.vh_lex_laws.specs.Texts.{At, place_of, past, opened, IsWord, is_conditional}
-use Rattle.vh_lex_laws.proofs.PlaceLemmas.{moved-place}
-use Rattle.vh_lex_laws.proofs.MacroLemmas.{Knows}
-use Rattle.vh_lex_laws.proofs.FrontLemmas.{IsFine, fine-front, comment-long}
-use Rattle.vh_lex_laws.proofs.UseLemmas.{drop-less}
+use Rattle.vh_lex.specs.MacroTokens.{Macros}
+use Rattle.vh_lex.specs.SourceText.{At, place_of, past, opened, IsWord, is_conditional}
+use Rattle.vh_lex.proofs.PlaceLemmas.{moved-place}
+use Rattle.vh_lex.proofs.MacroLemmas.{Knows}
+use Rattle.vh_lex.proofs.FrontLemmas.{IsFine, fine-front, comment-long}
+use Rattle.vh_lex.proofs.UseLemmas.{drop-less}
 
 -- the state in which the function is
 abbrev pub state_of : At → Rows → List Conditional → State

@@ -21,11 +21,11 @@ use Rattle.vh_lex.specs.Conditionals.{skips}
 use Rattle.vh_lex.specs.State.{State}
 use Rattle.vh_lex.specs.Directives.{Step, Naming, directive_behind, gap_len, name_by, name_behind, named_then, define_by, define_text, scaled, timescale_by, default_net_by, directed, refused}
 use Rattle.vh_lex.specs.Spelling.{and_then, with_token as token_more, used_by, with_use, parts_made, expanded, made_in, around_of, name_read, part_read}
-use Rattle.vh_lex_laws.specs.Uses.{with_text, token_of, Gives}
-use Rattle.vh_lex_laws.specs.Texts.{At, place_of, Defines, Names, Sets, Goes, blank, token, macro, define, undef, sets, file}
-use Rattle.vh_lex_laws.proofs.MacroLemmas.{Knows, knows-with}
-use Rattle.vh_lex_laws.proofs.UseLemmas.{gives-made}
-use Rattle.vh_lex_laws.proofs.StepLemmas.{state_of, Moves, again, step-leads, file-leads, kept-step, blank-step, word-read, word-more, kept-more, blank-more}
+use Rattle.vh_lex.specs.MacroTokens.{with_text, token_of, Gives}
+use Rattle.vh_lex.specs.SourceText.{At, place_of, Defines, Names, Sets, Goes, blank, token, macro, define, undef, sets, file}
+use Rattle.vh_lex.proofs.MacroLemmas.{Knows, knows-with}
+use Rattle.vh_lex.proofs.UseLemmas.{gives-made}
+use Rattle.vh_lex.proofs.StepLemmas.{state_of, Moves, again, step-leads, file-leads, kept-step, blank-step, word-read, word-more, kept-more, blank-more}
 
 -- a token
 token-read : (a : At) (rows : Rows) (cs : List Conditional) (p : Part) (k : Kind) (len : ℕ) (bytes : List ℕ) → token_of a.setting p ≡ Some k

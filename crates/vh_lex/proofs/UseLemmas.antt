@@ -16,9 +16,9 @@ use Rattle.vh_lex.specs.Made.{Macros as Rows, Made}
 use Rattle.vh_lex.specs.MacroTexts.{piece_then, parts_after, parts_of}
 use Rattle.vh_lex.specs.Directives.{directive_of}
 use Rattle.vh_lex.specs.Spelling.{Around, Making, and_then, with_token, used_by, used_within, part_made, parts_made, with_use, expanded}
-use Rattle.vh_lex_laws.specs.Uses.{Macros, token_of, Gives, nothing, blank, token, macro}
-use Rattle.vh_lex_laws.proofs.MacroLemmas.{Knows}
-use Rattle.vh_lex_laws.proofs.FrontLemmas.{IsFine, fine-front}
+use Rattle.vh_lex.specs.MacroTokens.{Macros, token_of, Gives, nothing, blank, token, macro}
+use Rattle.vh_lex.proofs.MacroLemmas.{Knows}
+use Rattle.vh_lex.proofs.FrontLemmas.{IsFine, fine-front}
 
 -- skipping bytes is cutting what follows them
 skipped : (skip : ℕ) (bytes : List ℕ) → parts_after skip bytes ≡ parts_of (drop skip bytes)

@@ -4,7 +4,7 @@ use Rattle.std.proofs.lemmas.Slice.Eq.{bytes_eq-Decides}
 use Rattle.vh_lex.specs.declared.piece.Part.{Part}
 use Rattle.vh_lex.specs.Made.{Macros as Rows, macro_of, with_macro}
 use Rattle.vh_lex.specs.MacroTexts.{parts_of}
-use Rattle.vh_lex_laws.specs.Uses.{Macros, no_macros, with_text}
+use Rattle.vh_lex.specs.MacroTokens.{Macros, no_macros, with_text}
 
 abbrev pub Knows : Macros → Rows → Type 0
 Knows macros rows = (name : List ℕ) → macro_of name rows ≡ option_map parts_of (macros name)

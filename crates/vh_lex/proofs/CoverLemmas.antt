@@ -5,12 +5,13 @@ use Rattle.vh_lex.specs.declared.setting.Setting.{Setting}
 use Rattle.vh_lex.specs.declared.directive.Directive.TheVariants as directive
 use Rattle.vh_lex.specs.declared.piece.Part.TheVariants as part
 use Rattle.vh_lex.specs.Lexed.{File}
-use Rattle.vh_lex_laws.specs.Uses.{Macros}
-use Rattle.vh_lex_laws.specs.Texts.{At, past, opened, Goes, blank, token, macro, define, undef, sets, file, Passes, comment, byte, quote, word, skipped_file, If, ifdef, ifndef, Elsif, elsif, Else, else_, Endif, endif}
-use Rattle.vh_lex_laws.specs.Laws.{Cuts, Opens, Covers, NeverBoth}
-use Rattle.vh_lex_laws.proofs.StepLemmas.{IsMore, again, more, word-more, kept-more, blank-more, comment-more}
-use Rattle.vh_lex_laws.proofs.GoesLemmas.{names-long, sets-long}
-use Rattle.vh_lex_laws.proofs.TextLemmas.{text_is_spelled}
+use Rattle.vh_lex.specs.MacroTokens.{Macros}
+use Rattle.vh_lex.specs.SourceText.{HasText, At, past, opened, Goes, blank, token, macro, define, undef, sets, file, Passes, comment, byte, quote, word, skipped_file, If, ifdef, ifndef, Elsif, elsif, Else, else_, Endif, endif}
+use Rattle.vh_lex.specs.Laws.{NeverBoth}
+use Rattle.vh_lex.specs.TextLaws.{Cuts, Opens, Covers}
+use Rattle.vh_lex.proofs.StepLemmas.{IsMore, again, more, word-more, kept-more, blank-more, comment-more}
+use Rattle.vh_lex.proofs.GoesLemmas.{names-long, sets-long}
+use Rattle.vh_lex.proofs.TextLemmas.{text_is_spelled}
 
 cuts : (a : At) (macros : Macros) (setting : Setting) (tokens : List Token) (uses len : ℕ) → IsMore a.bytes → 1 ≤ len → Cuts a (past len (again macros setting tokens uses a))
 cuts a macros setting tokens uses len i h =
@@ -67,5 +68,5 @@ covers =
       closes = λ a c g. endif-covers g;
     }
 
-pub never_both : NeverBoth
+pub never_both : NeverBoth HasText
 never_both files tokens fault place t r = let e = sym (text_is_spelled files tokens t).0 ∙ r in cc

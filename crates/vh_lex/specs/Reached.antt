@@ -4,8 +4,8 @@ use Rattle.vh_base.specs.declared.place.Place.{Place}
 use Rattle.vh_base.specs.declared.faults.DesignFault.{DesignFault}
 use Rattle.vh_base.specs.declared.faults.DesignFault.TheVariants.{L2}
 use Rattle.vh_lex.specs.Lexed.{File}
-use Rattle.vh_lex_laws.specs.Places.{place_behind}
-use Rattle.vh_lex_laws.specs.Texts.{At, before, Goes, Passes, If, Elsif, Else, Reads, Skips}
+use Rattle.vh_lex.specs.Places.{place_behind}
+use Rattle.vh_lex.specs.SourceText.{At, before, Goes, Passes, If, Elsif, Else, Reads, Skips}
 
 mutual
   -- Text that is read, up to a byte that is skipped or not: it stands in none of its conditionals, or in one of them;

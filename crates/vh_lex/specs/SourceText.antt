@@ -18,8 +18,8 @@ use Rattle.vh_lex.specs.MacroTexts.{macro_text, macro_len}
 use Rattle.vh_lex.specs.State.{first_setting}
 use Rattle.vh_lex.specs.Directives.{Found, directive_of, directive_behind, gap_len, name_behind, condition, time_behind, slash_behind, net_of, net_word}
 use Rattle.vh_lex.specs.Lexed.{File}
-use Rattle.vh_lex_laws.specs.Places.{place_behind}
-use Rattle.vh_lex_laws.specs.Uses.{Macros, no_macros, with_text, token_of, Gives}
+use Rattle.vh_lex.specs.Places.{place_behind}
+use Rattle.vh_lex.specs.MacroTokens.{Macros, no_macros, with_text, token_of, Gives}
 
 -- How far the files are gone over: the bytes that are left of this one, and those that are passed; its number, and the files behind
 -- it; the macros and what else directives have set; and the tokens so far, with the number of uses that they took.

@@ -10,14 +10,15 @@ use Rattle.vh_lex.specs.Conditionals.{is_skipped, skips}
 use Rattle.vh_lex.specs.Directives.{next_branch}
 use Rattle.vh_lex.specs.Spelling.{read}
 use Rattle.vh_lex.specs.Lexed.{Lexed, reading, refused, exhausted, files_after, files_read, end_of, IfReading}
-use Rattle.vh_lex_laws.specs.Texts.{At, Reads, read_end, read_piece, read_chosen, read_sought, Skips, skip_end, skip_piece, skip_conditional, Others, other_elsif, other_else, other_endif, Seeks, seek_chosen, seek_elsif, seek_else, seek_endif}
-use Rattle.vh_lex_laws.specs.Fronts.{ReadsTo, read_here, in_chosen, in_sought, in_others, in_seeks, SkipsTo, skip_here, skip_in, skip_others, OthersTo, other_in, other_past, other_in_else, SeeksTo, seek_in, seek_others, seek_skipped, seek_past, seek_in_else}
-use Rattle.vh_lex_laws.specs.Laws.{TextIsSpelled, OneText}
-use Rattle.vh_lex_laws.proofs.StackLemmas.{skips-last}
-use Rattle.vh_lex_laws.proofs.MacroLemmas.{Knows, knows-none}
-use Rattle.vh_lex_laws.proofs.StepLemmas.{state_of, lexed_in, outcome, Leads, leads-then, here}
-use Rattle.vh_lex_laws.proofs.GoesLemmas.{goes-leads}
-use Rattle.vh_lex_laws.proofs.CondLemmas.{passes-leads, begun, turned, elsed, if-leads, elsif-leads, else-leads, endif-leads}
+use Rattle.vh_lex.specs.SourceText.{HasText, At, Reads, read_end, read_piece, read_chosen, read_sought, Skips, skip_end, skip_piece, skip_conditional, Others, other_elsif, other_else, other_endif, Seeks, seek_chosen, seek_elsif, seek_else, seek_endif}
+use Rattle.vh_lex.specs.Reached.{ReadsTo, read_here, in_chosen, in_sought, in_others, in_seeks, SkipsTo, skip_here, skip_in, skip_others, OthersTo, other_in, other_past, other_in_else, SeeksTo, seek_in, seek_others, seek_skipped, seek_past, seek_in_else}
+use Rattle.vh_lex.specs.Laws.{OneList}
+use Rattle.vh_lex.specs.TextLaws.{TextIsSpelled}
+use Rattle.vh_lex.proofs.StackLemmas.{skips-last}
+use Rattle.vh_lex.proofs.MacroLemmas.{Knows, knows-none}
+use Rattle.vh_lex.proofs.StepLemmas.{state_of, lexed_in, outcome, Leads, leads-then, here}
+use Rattle.vh_lex.proofs.GoesLemmas.{goes-leads}
+use Rattle.vh_lex.proofs.CondLemmas.{passes-leads, begun, turned, elsed, if-leads, elsif-leads, else-leads, endif-leads}
 
 -- the branch of the innermost one
 skips-as : (cs : List Conditional) (c : Conditional) (b : Branch) → c.branch ≡ b → skips (cs ++ c ∷ []) ≡ is_skipped b
@@ -194,5 +195,5 @@ one-list (reading first s) tokens others h k = sym h.1 ∙ k.1
 one-list (refused fault place) tokens others h k = cc
 one-list exhausted tokens others h k = cc
 
-pub one_text : OneText
+pub one_text : OneList HasText
 one_text files tokens others t u = one-list (files_read files) tokens others (text_is_spelled files tokens t) (text_is_spelled files others u)

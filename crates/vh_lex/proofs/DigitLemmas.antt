@@ -12,8 +12,8 @@ use Rattle.vh_lex.specs.declared.piece.Piece.{Piece}
 use Rattle.vh_lex.specs.declared.piece.Piece.TheVariants.{Kept, Fault}
 use Rattle.vh_lex.specs.Bytes.{begins, is_decimal, is_based_letter, is_question, is_based, is_base_ten, is_base, is_sign_mark, is_exponent, is_plus_or_minus}
 use Rattle.vh_lex.specs.Numbers.{begins_fraction, begins_exponent, begins_real, base_len_behind, base_len, digits_len, spaced_digits_len, based_len_by, based_len, valued, number_of, number_by, behind_digits, number_at}
-use Rattle.vh_lex_laws.proofs.RunLemmas.{take-front, drop-front, run-same, run-whole, run-inside, drop-all, begins-front, begins-same, or-more, not-front}
-use Rattle.vh_lex_laws.proofs.LongLemmas.{Len, len-is}
+use Rattle.vh_lex.proofs.RunLemmas.{take-front, drop-front, run-same, run-whole, run-inside, drop-all, begins-front, begins-same, or-more, not-front}
+use Rattle.vh_lex.proofs.LongLemmas.{Len, len-is}
 
 drop-more : (n m : ℕ) (xs : List ℕ) → drop m (drop n xs) ≡ drop (n + m) xs
 drop-more n m xs = drop-drop m n xs

@@ -6,7 +6,7 @@ use Rattle.std.proofs.lemmas.List.Sums.{sum_by_push}
 use Rattle.vh_base.specs.declared.place.Place.{Place}
 use Rattle.vh_lex.specs.Bytes.{is_line_end, is_line_byte}
 use Rattle.vh_lex.specs.State.{behind, moved}
-use Rattle.vh_lex_laws.specs.Places.{lines_in, since_line, place_behind}
+use Rattle.vh_lex.specs.Places.{lines_in, since_line, place_behind}
 
 abbrev place : ℕ → ℕ → ℕ → Place
 place file line column = record { file = file; line = line; column = column }

@@ -9,9 +9,9 @@ use Rattle.vh_lex.specs.Marks.{mark_rows}
 use Rattle.vh_lex.specs.Directives.{directive_rows}
 use Rattle.vh_lex.specs.Spelling.{expanded}
 use Rattle.vh_lex.specs.Lexed.{File, files_read}
-use Rattle.vh_lex_laws.specs.Texts.{HasText}
-use Rattle.vh_lex_laws.proofs.TextLemmas.{Gives, one-list, text_is_spelled}
-use Rattle.vh_lex_laws.proofs.ChainLemmas.{spelled_has_text}
+use Rattle.vh_lex.specs.SourceText.{HasText}
+use Rattle.vh_lex.proofs.TextLemmas.{Gives, one-list, text_is_spelled}
+use Rattle.vh_lex.proofs.ChainLemmas.{spelled_has_text}
 
 abbrev text : List ℕ → List File
 text bytes = record { number = 0; bytes = bytes } ∷ []

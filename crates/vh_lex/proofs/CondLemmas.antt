@@ -14,11 +14,11 @@ use Rattle.vh_lex.specs.Conditionals.{skips}
 use Rattle.vh_lex.specs.State.{State}
 use Rattle.vh_lex.specs.Directives.{Step, directive_of, name_behind, named_then, condition, opening, next_branch, opened as opened_in, branching, elsif_in, else_in, endif_by, directed, refused}
 use Rattle.vh_lex.specs.Spelling.{comment_skipped, use_skipped, name_skipped, step}
-use Rattle.vh_lex_laws.specs.Texts.{At, place_of, past, Names, Passes, comment, byte, quote, word, skipped_file, If, ifdef, ifndef, Elsif, elsif, Else, else_, Endif, endif, is_conditional}
-use Rattle.vh_lex_laws.proofs.StackLemmas.{innermost-last, without-last, with-last}
-use Rattle.vh_lex_laws.proofs.MacroLemmas.{Knows}
-use Rattle.vh_lex_laws.proofs.StepLemmas.{state_of, Moves, IsMore, step-leads, file-leads, skipped-step, quote-skips, word-step, more, word-more, comment-more}
-use Rattle.vh_lex_laws.proofs.GoesLemmas.{named-read, names-long}
+use Rattle.vh_lex.specs.SourceText.{At, place_of, past, Names, Passes, comment, byte, quote, word, skipped_file, If, ifdef, ifndef, Elsif, elsif, Else, else_, Endif, endif, is_conditional}
+use Rattle.vh_lex.proofs.StackLemmas.{innermost-last, without-last, with-last}
+use Rattle.vh_lex.proofs.MacroLemmas.{Knows}
+use Rattle.vh_lex.proofs.StepLemmas.{state_of, Moves, IsMore, step-leads, file-leads, skipped-step, quote-skips, word-step, more, word-more, comment-more}
+use Rattle.vh_lex.proofs.GoesLemmas.{named-read, names-long}
 
 -- a piece of skipped text
 bare-step : (b : ℕ) (bs : List ℕ) (s : State) → nat_eq b 96 ≡ false → comment_len (b ∷ bs) ≡ None → begins_with 47 42 (b ∷ bs) ≡ false

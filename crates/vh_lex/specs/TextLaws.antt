@@ -9,8 +9,8 @@ use Rattle.vh_lex.specs.declared.piece.Piece.TheVariants.{Kept}
 use Rattle.vh_lex.specs.Bytes.{begins_with}
 use Rattle.vh_lex.specs.Front.{front}
 use Rattle.vh_lex.specs.Lexed.{File, Spells, Refuses}
-use Rattle.vh_lex_laws.specs.Texts.{At, Goes, Passes, If, Elsif, Else, Endif, HasText}
-use Rattle.vh_lex_laws.specs.Fronts.{Stops}
+use Rattle.vh_lex.specs.SourceText.{At, Goes, Passes, If, Elsif, Else, Endif, HasText}
+use Rattle.vh_lex.specs.Reached.{Stops}
 
 -- The next bytes of a file are passed, one at least; or the file is, and the next one begins.
 pub record Cuts (a c : At) : Type 0 where
@@ -42,28 +42,19 @@ pub record Covers : Type 0 where
 abbrev pub SpelledHasText : Type 0
 SpelledHasText = (files : List File) (tokens : List Token) → Spells files tokens → HasText files tokens
 
--- the tokens of each text that they have are what they spell,
+-- and the tokens of each text that they have are what they spell.
 abbrev pub TextIsSpelled : Type 0
 TextIsSpelled = (files : List File) (tokens : List Token) → HasText files tokens → Spells files tokens
 
--- and so all texts that they have give the same tokens.
-abbrev pub OneText : Type 0
-OneText = (files : List File) (tokens others : List Token) → HasText files tokens → HasText files others → tokens ≡ others
-
--- Files have a text, or they are refused with a fault at a place, and never both.
-abbrev pub TextOrRefused : Type 0
-TextOrRefused = (files : List File) → ((tokens : List Token) × HasText files tokens) ⊎ ((fault : DesignFault) × ((place : Place) × Refuses files fault place))
-
-abbrev pub NeverBoth : Type 0
-NeverBoth = (files : List File) (tokens : List Token) (fault : DesignFault) (place : Place) → HasText files tokens → Refuses files fault place → ⊥
-
--- Where a fault is answered, the files have a text up to a byte and none that goes further, and no piece goes on from there; its place is that byte's, or that of a
--- byte behind it. Or they are gone over, and a conditional is open.
+-- Where a fault is answered, the files have a text up to a byte and none that goes further, and no piece goes on from there; its
+-- place is that byte's, or that of a byte behind it. Or they are gone over, and a conditional is open.
 abbrev pub FaultStops : Type 0
 FaultStops = (files : List File) (fault : DesignFault) (place : Place) → Refuses files fault place → Stops files fault place
 
 -- Where bytes begin with a token or a use, each front of them that holds it begins with it too: so it stands alone, and no longer
 -- front of them is one. A `(` before a `*` is left out: `(*)` begins with `(`, and `(*` with nothing.
 abbrev pub Longest : Type 0
-Longest = (bytes more : List ℕ) (p : Part) (len : ℕ) → front (bytes ++ more) ≡ Kept p len → len ≤ length bytes → begins_with 40 42 (bytes ++ more) ≡ false
+Longest =
+    (bytes more : List ℕ) (p : Part) (len : ℕ) → front (bytes ++ more) ≡ Kept p len → len ≤ length bytes
+    → begins_with 40 42 (bytes ++ more) ≡ false
     → front bytes ≡ Kept p len

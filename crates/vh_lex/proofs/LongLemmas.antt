@@ -18,7 +18,7 @@ use Rattle.vh_lex.specs.Keywords.{module_word, keyword_of}
 use Rattle.vh_lex.specs.Marks.{mark_rows}
 use Rattle.vh_lex.specs.Texts.{Decoded, decoded, text_len, text_by, text_within, text_of, text_at}
 use Rattle.vh_lex.specs.Front.{Named, comment_len, escaped_name, simple_name, name_of, is_long, named, word_by, word_of, word_at, system_of, system_at, escaped_by, use_by, mark_by, mark_piece, slash_by}
-use Rattle.vh_lex_laws.proofs.RunLemmas.{take-front, run-same, pair-front, not-front}
+use Rattle.vh_lex.proofs.RunLemmas.{take-front, run-same, pair-front, not-front}
 
 -- how many bytes a piece has that is kept
 abbrev pub Len : ℕ → Piece → Type 0

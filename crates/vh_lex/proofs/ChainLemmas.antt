@@ -31,19 +31,20 @@ use Rattle.vh_lex.specs.Spelling.{Making, Stop, and_then, with_token as token_mo
 use Rattle.vh_lex.specs.declared.fault.LexFault.{LexFault}
 use Rattle.vh_lex.specs.declared.fault.LexFault.TheVariants.{Refused, NoMemory}
 use Rattle.vh_lex.specs.Lexed.{File, Lexed, reading, refused as refused_at, exhausted, nothing_read, lexed_by, first_place, file_read, Refuses, files_after, closed_by, end_of, IfReading, files_read}
-use Rattle.vh_lex_laws.specs.Uses.{Macros, with_text, token_of}
-use Rattle.vh_lex_laws.specs.Texts.{At, place_of, past, opened, IsWord, Names, Goes, blank, token, macro, define, undef, sets, file, Passes, comment, byte, quote, word, skipped_file, If, ifdef, ifndef, Elsif, elsif, Else, else_, Endif, endif, is_conditional, before, Reads, read_end, read_piece, read_chosen, read_sought, Skips, skip_end, skip_piece, skip_conditional, Others, other_elsif, other_else, other_endif, Seeks, seek_chosen, seek_elsif, seek_else, seek_endif, HasText}
-use Rattle.vh_lex_laws.specs.Fronts.{ReadsTo, read_here, in_chosen, in_sought, in_others, in_seeks, SkipsTo, skip_here, skip_in, skip_others, OthersTo, other_in, other_past, other_in_else, SeeksTo, seek_in, seek_others, seek_skipped, seek_past, seek_in_else, IsStuck, IsLeftOpen}
-use Rattle.vh_lex_laws.specs.Laws.{SpelledHasText, TextOrRefused, FaultStops}
-use Rattle.vh_lex_laws.proofs.StackLemmas.{innermost-last, without-last, with-last, skips-last}
-use Rattle.vh_lex_laws.proofs.MacroLemmas.{Knows, knows-none, knows-with}
-use Rattle.vh_lex_laws.proofs.FrontLemmas.{IsFine, fine-front}
-use Rattle.vh_lex_laws.proofs.UseLemmas.{made-gives}
-use Rattle.vh_lex_laws.proofs.GoesLemmas.{names-long, goes-leads}
-use Rattle.vh_lex_laws.proofs.PlaceLemmas.{moved-place}
-use Rattle.vh_lex_laws.proofs.CondLemmas.{begun, turned, elsed, defined-same, passes-leads, if-leads}
-use Rattle.vh_lex_laws.proofs.StepLemmas.{state_of, lexed_in, outcome, IsMore, again, run-step, file-leads, eq-literal, kept-more, comment-more, left-in, config-of, next-step, next-of, next, Reach, here, further, reach-join, reach-end, reach-less, run-next}
-use Rattle.vh_lex_laws.proofs.TextLemmas.{reads-to}
+use Rattle.vh_lex.specs.MacroTokens.{Macros, with_text, token_of}
+use Rattle.vh_lex.specs.SourceText.{At, place_of, past, opened, IsWord, Names, Goes, blank, token, macro, define, undef, sets, file, Passes, comment, byte, quote, word, skipped_file, If, ifdef, ifndef, Elsif, elsif, Else, else_, Endif, endif, is_conditional, before, Reads, read_end, read_piece, read_chosen, read_sought, Skips, skip_end, skip_piece, skip_conditional, Others, other_elsif, other_else, other_endif, Seeks, seek_chosen, seek_elsif, seek_else, seek_endif, HasText}
+use Rattle.vh_lex.specs.Reached.{ReadsTo, read_here, in_chosen, in_sought, in_others, in_seeks, SkipsTo, skip_here, skip_in, skip_others, OthersTo, other_in, other_past, other_in_else, SeeksTo, seek_in, seek_others, seek_skipped, seek_past, seek_in_else, IsStuck, IsLeftOpen}
+use Rattle.vh_lex.specs.Laws.{TokensOrRefused}
+use Rattle.vh_lex.specs.TextLaws.{SpelledHasText, FaultStops}
+use Rattle.vh_lex.proofs.StackLemmas.{innermost-last, without-last, with-last, skips-last}
+use Rattle.vh_lex.proofs.MacroLemmas.{Knows, knows-none, knows-with}
+use Rattle.vh_lex.proofs.FrontLemmas.{IsFine, fine-front}
+use Rattle.vh_lex.proofs.UseLemmas.{made-gives}
+use Rattle.vh_lex.proofs.GoesLemmas.{names-long, goes-leads}
+use Rattle.vh_lex.proofs.PlaceLemmas.{moved-place}
+use Rattle.vh_lex.proofs.CondLemmas.{begun, turned, elsed, defined-same, passes-leads, if-leads}
+use Rattle.vh_lex.proofs.StepLemmas.{state_of, lexed_in, outcome, IsMore, again, run-step, file-leads, eq-literal, kept-more, comment-more, left-in, config-of, next-step, next-of, next, Reach, here, further, reach-join, reach-end, reach-less, run-next}
+use Rattle.vh_lex.proofs.TextLemmas.{reads-to}
 
 -- The conditionals that are open, the innermost first: what is left of each.
 abbrev TextFor : Branch → At → At → Type 0
@@ -775,7 +776,7 @@ known-files : (l : Lexed) (fs : List File) → IsKnown l → IsKnown (files_afte
 known-files l [] h = h
 known-files l (f ∷ fs) h = known-files (file_read f l) fs (known-file f l h)
 
-pub text_or_refused : TextOrRefused
+pub text_or_refused : TokensOrRefused HasText
 text_or_refused files = by (files_read files) refl (known-files nothing_read files tt)
   where
     closed : (first : Option Place) (t : State) → files_read files ≡ reading first t → (o : Option Conditional) → slice_get t.conditionals 0 ≡ o

@@ -9,11 +9,11 @@ use Rattle.vh_lex.specs.Bytes.{begins, begins_with, through}
 use Rattle.vh_lex.specs.Numbers.{number_at}
 use Rattle.vh_lex.specs.Texts.{text_at}
 use Rattle.vh_lex.specs.Front.{comment_len, name_of, word_at, system_at, escaped_by, use_by, mark_piece, slash_by, attribute_of, bracket_at, marked, front}
-use Rattle.vh_lex_laws.specs.Laws.{Longest}
-use Rattle.vh_lex_laws.proofs.FrontLemmas.{IsFine, fine-front}
-use Rattle.vh_lex_laws.proofs.RunLemmas.{pair-front, not-front}
-use Rattle.vh_lex_laws.proofs.LongLemmas.{word-same, system-same, escape-kept, use-kept, text-kept, mark-kept, slash-kept}
-use Rattle.vh_lex_laws.proofs.DigitLemmas.{number-kept}
+use Rattle.vh_lex.specs.TextLaws.{Longest}
+use Rattle.vh_lex.proofs.FrontLemmas.{IsFine, fine-front}
+use Rattle.vh_lex.proofs.RunLemmas.{pair-front, not-front}
+use Rattle.vh_lex.proofs.LongLemmas.{word-same, system-same, escape-kept, use-kept, text-kept, mark-kept, slash-kept}
+use Rattle.vh_lex.proofs.DigitLemmas.{number-kept}
 
 -- the same test of both
 if-kept : (t : Bool) (f g q r : Piece) (p : Part) (len : ℕ) → (f ≡ Kept p len → g ≡ Kept p len) → (q ≡ Kept p len → r ≡ Kept p len)
