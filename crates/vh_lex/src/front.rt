@@ -1,6 +1,6 @@
 ghost use Rattle.std.specs.Prelude.{◌≡◌, ◌≤◌, ◌<◌, ◌+◌, length, IfOk, IfSome};
 ghost use Rattle.vh_lex.specs.Front;
-ghost use Rattle.vh_lex.specs.Inside.{IsInside};
+ghost use Rattle.vh_lex.specs.Inside.{IsInside, IsLone};
 
 use crate::bytes::{Class, after, begins, begins_with, run_len, through};
 use crate::keyword::keyword_of;
@@ -157,9 +157,10 @@ fn use_at(alloc: Global, behind: &[u8]) -> Result<Piece, NoMemory>
     }
 }
 
-/// The mark of one byte with which the bytes begin, where its first byte is enough to know it.
+/// The mark of one byte with which the bytes begin, where at most one byte behind it is to be seen for
+/// that.
 pub(crate) fn lone_mark(bytes: &[u8]) -> Option<Mark>
-    ensures { IfSome result (λ mark. Front.front bytes.now ≡ Piece.Kept (Part.Token (Kind.Mark mark)) 1) }
+    ensures { IfSome result (λ mark. IsLone mark bytes.now) }
 {
     let Some((first, behind)) = bytes.split_first() else {
         return None;

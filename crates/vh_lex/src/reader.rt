@@ -1,26 +1,30 @@
-ghost use Rattle.std.specs.Prelude.{◌≡◌, ◌≤◌, ◌<◌, ◌+◌, ◌^◌, length, drop};
+ghost use Rattle.std.specs.Prelude.{◌≡◌, ◌≤◌, ◌<◌, ◌+◌, ◌^◌, false, length, drop, IfOk, IfSome};
+ghost use Rattle.vh_lex.specs.Conditionals.{skips};
 ghost use Rattle.vh_lex.specs.Directives;
 ghost use Rattle.vh_lex.specs.Front;
+ghost use Rattle.vh_lex.specs.Inside.{IsLone};
 ghost use Rattle.vh_lex.specs.Lexed;
 ghost use Rattle.vh_lex.specs.Outcomes.{Leaves, Went, Reads, stop_of, fault_of};
 ghost use Rattle.vh_lex.specs.Spelling;
 
-use crate::bytes::{after, begins, begins_with, upto};
+use crate::bytes::{Class, after, begins, begins_with, run_len, upto};
 use crate::conditional::Conditionals;
 use crate::directed::first_setting;
 use crate::directive::{Directive, directive_behind, directive_of};
 use crate::expand::{Around, expand};
 use crate::fault::{Halt, LexFault, Stop};
 use crate::front::{comment_len, front, lone_mark};
+use crate::keyword::keyword_of;
 use crate::macros::Macros;
 use crate::made::Output;
-use crate::name::word_name;
+use crate::mark::Mark;
+use crate::name::{is_long, word_name};
 use crate::piece::{Part, Piece};
 use crate::place::moved;
 use crate::setting::Setting;
 use crate::token::Kind;
 use std::alloc::Global;
-use vh_base::{DesignFault, Place};
+use vh_base::{DesignFault, Place, is_name_start, is_space};
 
 /// What reading has come to: the macros, the tokens, the conditionals that are open, what the
 /// directives so far set, and the place of the next byte.
@@ -62,6 +66,16 @@ impl Reader {
         let mut rest = bytes;
         while let Some((_, behind)) = rest.split_first() {
             let place = self.place;
+            if let Some(mark) = self.next_mark(rest) {
+                match self.mark_step(mark, rest) {
+                    Ok(_) => {
+                        self.place.column += 1;
+                        rest = behind;
+                        continue;
+                    }
+                    Err(stop) => return Err(placed(stop, place, rest)),
+                }
+            }
             match self.step(alloc, rest) {
                 Ok(len) => {
                     self.place = moved(place, upto(len, rest));
@@ -73,6 +87,27 @@ impl Reader {
         Ok(())
     }
 
+    // The mark of one byte with which the bytes begin, as `lone_mark` sees it, in text that is read.
+    fn next_mark(&self, bytes: &[u8]) -> Option<Mark>
+        ensures { IfSome result (λ mark. (skips self.now.conditionals ≡ false) × IsLone mark bytes.now) }
+    {
+        if self.conditionals.skips() {
+            return None;
+        }
+        lone_mark(bytes)
+    }
+
+    // Reads this mark, with which the bytes begin.
+    fn mark_step(&mut self, mark: Mark, _bytes: &[u8]) -> Result<usize, Stop>
+        requires read { skips self.old.conditionals ≡ false }
+        requires lone { IsLone mark _bytes.now }
+        ensures went { Went (Spelling.step _bytes.now self.old) result self.new }
+        ensures one { IfOk result (λ len. len ≡ 1) }
+        ensures place { self.new.place ≡ self.old.place }
+    {
+        made(1, self.made.push_mark(mark, self.place))
+    }
+
     // Reads what the bytes begin with; answers how many bytes that is.
     fn step(&mut self, alloc: Global, bytes: &[u8]) -> Result<usize, Stop>
         ensures { Went (Spelling.step bytes.now self.old) result self.new }
@@ -80,14 +115,32 @@ impl Reader {
         if self.conditionals.skips() {
             return self.skipped(bytes);
         }
-        if let Some(mark) = lone_mark(bytes) {
-            return made(1, self.made.push(Kind::Mark(mark), self.place));
+        if let Some((first, _)) = bytes.split_first() {
+            if !is_space(*first) && is_name_start(*first) {
+                return self.word(alloc, bytes);
+            }
         }
         match front(alloc, &mut self.made, bytes)? {
             Piece::Blank(len) => Ok(len),
             Piece::Kept(part, len) => self.part_read(alloc, part, len, bytes),
             Piece::Fault(fault, at) => Err(Stop::Fault(fault, at)),
         }
+    }
+
+    // Reads a keyword or a name.
+    fn word(&mut self, alloc: Global, bytes: &[u8]) -> Result<usize, Stop>
+        ensures { Went (Spelling.piece_read (Front.word_at bytes.now) bytes.now self.old) result self.new }
+    {
+        let word = &bytes[..run_len(Class::Name, bytes)];
+        if word == b"module".as_slice() {
+            return self.part_read(alloc, Part::Module, word.len(), bytes);
+        }
+        let kind = match keyword_of(word) {
+            Some(keyword) => Kind::Word(keyword),
+            None if is_long(word) => return Err(Stop::Fault(DesignFault::L6, 0)),
+            None => Kind::Name(self.made.shared(alloc, word)?),
+        };
+        made(word.len(), self.made.push(kind, self.place))
     }
 
     // Reads a part of so many bytes.

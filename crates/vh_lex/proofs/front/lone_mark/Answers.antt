@@ -4,48 +4,52 @@ use Rattle.vh_lex.proofs.front.lone_mark.Goals as goal
 
 pub returns-in-59 : goal.returns-in-59
 unfolding mark_rows
-returns-in-59 c = rw (c.in-Some.ensures.cases.0, c.in-59.is) refl
+returns-in-59 c = rw (c.in-Some.ensures.cases.0, c.in-59.is) (record { piece = refl; in_line = refl })
 
 pub returns-in-44 : goal.returns-in-44
 unfolding mark_rows
-returns-in-44 c = rw (c.in-Some.ensures.cases.0, c.in-44.is) refl
+returns-in-44 c = rw (c.in-Some.ensures.cases.0, c.in-44.is) (record { piece = refl; in_line = refl })
 
 pub returns-in-41 : goal.returns-in-41
 unfolding mark_rows
-returns-in-41 c = rw (c.in-Some.ensures.cases.0, c.in-41.is) refl
+returns-in-41 c = rw (c.in-Some.ensures.cases.0, c.in-41.is) (record { piece = refl; in_line = refl })
 
 pub returns-in-91 : goal.returns-in-91
 unfolding mark_rows
-returns-in-91 c = rw (c.in-Some.ensures.cases.0, c.in-91.is) refl
+returns-in-91 c = rw (c.in-Some.ensures.cases.0, c.in-91.is) (record { piece = refl; in_line = refl })
 
 pub returns-in-93 : goal.returns-in-93
 unfolding mark_rows
-returns-in-93 c = rw (c.in-Some.ensures.cases.0, c.in-93.is) refl
+returns-in-93 c = rw (c.in-Some.ensures.cases.0, c.in-93.is) (record { piece = refl; in_line = refl })
 
 pub returns-in-123 : goal.returns-in-123
 unfolding mark_rows
-returns-in-123 c = rw (c.in-Some.ensures.cases.0, c.in-123.is) refl
+returns-in-123 c = rw (c.in-Some.ensures.cases.0, c.in-123.is) (record { piece = refl; in_line = refl })
 
 pub returns-in-125 : goal.returns-in-125
 unfolding mark_rows
-returns-in-125 c = rw (c.in-Some.ensures.cases.0, c.in-125.is) refl
+returns-in-125 c = rw (c.in-Some.ensures.cases.0, c.in-125.is) (record { piece = refl; in_line = refl })
 
 pub returns-in-46 : goal.returns-in-46
 unfolding mark_rows
-returns-in-46 c = rw (c.in-Some.ensures.cases.0, c.in-46.is) refl
+returns-in-46 c = rw (c.in-Some.ensures.cases.0, c.in-46.is) (record { piece = refl; in_line = refl })
 
 pub returns-in-58 : goal.returns-in-58
 unfolding mark_rows
-returns-in-58 c = rw (c.in-Some.ensures.cases.0, c.in-58.is) refl
+returns-in-58 c = rw (c.in-Some.ensures.cases.0, c.in-58.is) (record { piece = refl; in_line = refl })
 
 pub returns-in-35 : goal.returns-in-35
 unfolding mark_rows
-returns-in-35 c = rw (c.in-Some.ensures.cases.0, c.in-35.is) refl
+returns-in-35 c = rw (c.in-Some.ensures.cases.0, c.in-35.is) (record { piece = refl; in_line = refl })
 
 pub returns-in-64 : goal.returns-in-64
 unfolding mark_rows
-returns-in-64 c = rw (c.in-Some.ensures.cases.0, c.in-64.is) refl
+returns-in-64 c = rw (c.in-Some.ensures.cases.0, c.in-64.is) (record { piece = refl; in_line = refl })
 
 pub returns-in-40 : goal.returns-in-40
 unfolding mark_rows
-returns-in-40 c = rw (c.in-Some.ensures.cases.0, c.in-40.is, sym c.if-not-begins.ensures.value) refl
+returns-in-40 c =
+    record {
+      piece = rw (c.in-Some.ensures.cases.0, c.in-40.is, sym c.if-not-begins.ensures.value) refl;
+      in_line = rw (c.in-Some.ensures.cases.0, c.in-40.is) refl;
+    }

@@ -7,13 +7,13 @@ use Rattle.vh_lex.proofs.reader.Reader.read.Goals as goal
 pub loop-behind-preserved : goal.loop-behind-preserved
 loop-behind-preserved c =
     let n = c.in-Some.ensures.cases.1 in
-    let len = c.in-Ok.len in
-    let t : length c.upto.result.now ≡ length (take c.in-Ok.len c.loop-behind.rest.now) = ap length c.upto.ensures in
-    let d = length-drop (c.in-Ok.len - 1) c.in-Some.behind.now in
-    let k = length-take c.in-Ok.len c.loop-behind.rest.now in
+    let len = c.in-Ok-step.len in
+    let t : length c.upto.result.now ≡ length (take c.in-Ok-step.len c.loop-behind.rest.now) = ap length c.upto.ensures in
+    let d = length-drop (c.in-Ok-step.len - 1) c.in-Some.behind.now in
+    let k = length-take c.in-Ok-step.len c.loop-behind.rest.now in
     rw (c.after-rest.ensures, c.saturating_sub.ensures) (
-      read-more (read c.args.bytes.now c.args.self.now) c.in-Some.field-0-0.now c.in-Some.behind.now c.loop-behind.rest.now c.loop-behind.self c.step.new.self c.in-Ok.len c.moved-self.result
-          c.in-Some.ensures.cases.0 c.in-Ok.ensures (c.moved-self.ensures.value ∙ ap (λ bs. moved bs c.loop-behind.self.place) c.upto.ensures) c.loop-behind.invariant.0,
+      read-more (read c.args.bytes.now c.args.self.now) c.in-Some.field-0-0.now c.in-Some.behind.now c.loop-behind.rest.now c.loop-behind.self c.step.new.self c.in-Ok-step.len c.moved-self.result
+          c.in-Some.ensures.cases.0 c.in-Ok-step.ensures (c.moved-self.ensures.value ∙ ap (λ bs. moved bs c.loop-behind.self.place) c.upto.ensures) c.loop-behind.invariant.0,
       omega arith,
       omega arith,
       c.moved-self.ensures.first,
