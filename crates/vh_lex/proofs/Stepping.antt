@@ -1,5 +1,6 @@
 -- Reading a file one piece after the other.
 use Rattle.std.proofs.Common.{◌≡◌, ℕ, zero, suc, ◌-◌, List, [], ◌∷◌, true, false, Result, Ok, Err, take, drop, refl, ap, sym, subst, ◌∙◌}
+use Rattle.std.specs.List.{prefix_len}
 use Rattle.vh_base.specs.Classes.{is_space, is_name_start}
 use Rattle.vh_base.specs.declared.place.Place.{Place}
 use Rattle.vh_lex.specs.declared.fault.Halt.{Halt}
@@ -75,3 +76,18 @@ step-word byte behind bytes s t result same e f g h = subst (λ (o : Step). Went
     is-read e = rw e refl
     is-word : step bytes s ≡ piece_read (word_at bytes) bytes s
     is-word = is-read e ∙ ap (λ (p : Piece). piece_read p bytes s) (ap (λ (r : List ℕ). front r) same ∙ is-front ∙ ap (λ (r : List ℕ). word_at r) (sym same))
+
+-- white space is passed over
+pub step-blank : (byte : ℕ) (behind bytes : List ℕ) (s : State) (len : ℕ) → bytes ≡ byte ∷ behind → skips s.conditionals ≡ false → is_space byte ≡ true
+    → len ≡ prefix_len is_space bytes → Went (step bytes s) (Ok len) s
+step-blank byte behind bytes s len same e f long = is-read e ∙ ap (λ (p : Piece). piece_read p bytes s) is-front ∙ ap (λ (n : ℕ). Ok (s, n)) (sym long)
+  where
+    is-read : skips s.conditionals ≡ false → step bytes s ≡ piece_read (front bytes) bytes s
+    is-read e = rw e refl
+    is-blank : front (byte ∷ behind) ≡ piece.Blank (prefix_len is_space (byte ∷ behind))
+    is-blank = by-first f
+      where
+        by-first : is_space byte ≡ true → front (byte ∷ behind) ≡ piece.Blank (prefix_len is_space (byte ∷ behind))
+        by-first f = rw f refl
+    is-front : front bytes ≡ piece.Blank (prefix_len is_space bytes)
+    is-front = ap (λ (r : List ℕ). front r) same ∙ is-blank ∙ ap (λ (r : List ℕ). piece.Blank (prefix_len is_space r)) (sym same)

@@ -116,7 +116,10 @@ impl Reader {
             return self.skipped(bytes);
         }
         if let Some((first, _)) = bytes.split_first() {
-            if !is_space(*first) && is_name_start(*first) {
+            if is_space(*first) {
+                return Ok(run_len(Class::Space, bytes));
+            }
+            if is_name_start(*first) {
                 return self.word(alloc, bytes);
             }
         }

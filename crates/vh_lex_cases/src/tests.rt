@@ -77,8 +77,8 @@ fn push_kind(line: &mut String, kind: &Kind) -> Result<(), Fail> {
         Kind::Text(text) => push_text(line, text.as_slice())?,
         Kind::Number(value, is_sized) => push_number(
             line,
-            value.number(),
-            value.width(),
+            value.get().number(),
+            value.get().width(),
             *is_sized,
         )?,
     }

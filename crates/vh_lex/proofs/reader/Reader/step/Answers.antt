@@ -2,7 +2,7 @@ use Rattle.std.proofs.Common.{sym, subst, ◌∙◌}
 use Rattle.vh_lex.specs.Made.{Made}
 use Rattle.vh_lex.specs.Outcomes.{Went}
 use Rattle.vh_lex.specs.Spelling.{part_read}
-use Rattle.vh_lex.proofs.Stepping.{step-skips, step-keeps, step-word}
+use Rattle.vh_lex.proofs.Stepping.{step-blank, step-skips, step-keeps, step-word}
 use Rattle.vh_lex.proofs.reader.Reader.step.Goals as goal
 
 pub returns-then-skips : goal.returns-then-skips
@@ -18,4 +18,9 @@ returns-in-Kept c =
 pub returns-then-is_name_start : goal.returns-then-is_name_start
 returns-then-is_name_start c =
     step-word c.in-Some.first.now c.in-Some.field-0-1.now c.args.bytes.now c.args.self.now c.word.new.self c.word.result c.in-Some.ensures.cases.0 (sym c.if-skips.ensures)
-    (sym c.if-not-is_space.ensures) (sym c.if-is_name_start.ensures) c.word.ensures
+    (sym c.if-is_space.ensures) (sym c.if-is_name_start.ensures) c.word.ensures
+
+pub returns-then-is_space : goal.returns-then-is_space
+returns-then-is_space c =
+    step-blank c.in-Some.first.now c.in-Some.field-0-1.now c.args.bytes.now c.args.self.now c.run_len.result c.in-Some.ensures.cases.0 (sym c.if-skips.ensures)
+    (sym c.if-is_space.ensures) c.run_len.ensures.value
