@@ -4,11 +4,12 @@
 //! The contract that the layer above uses: after [`Lexer::file`] a [`Lexer`] holds what
 //! `files_read` of specs/Lexed.antt gives for the files so far, and the answer is Ok, or the fault
 //! and its place; [`Lexer::end`] is Ok exactly where no conditional is open and no fault was
-//! answered. Want of memory is the one free answer. [`lex_laws`] says that files spell at most one
-//! list of tokens.
+//! answered, and then the tokens are those of the files' text, a tree of pieces and conditionals
+//! (specs/SourceText.antt). Want of memory is the one free answer. [`lex_laws`] and [`text_laws`] say
+//! that files spell at most one list of tokens, and what a text is.
 //!
-//! It stands on `vh_base`, on `vh_logic` and `vh_text` for the values of numbers, and on `indexmap`,
-//! in which macros are looked up.
+//! It stands on `vh_base`, on `vh_logic` and `vh_text` for the values of numbers, on `vh_shared` for
+//! names that many share, and on `indexmap`, in which macros are looked up.
 #![tactic(auto)]
 
 mod bytes;
