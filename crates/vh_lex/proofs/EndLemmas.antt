@@ -22,7 +22,7 @@ its-tokens exhausted = tt
 pub answers-end : (l : Lexed) (result : Result (Unit {0}) LexFault) → result ≡ end_of l → AnswersEnd l result
 answers-end l (Ok done) h files e =
     let spells : Spells files (tokens_of l) =
-        (ap end_of e ∙ sym h, subst (λ (k : Lexed). IfReading k (λ first s. s.made.tokens ≡ tokens_of l)) (sym e) (its-tokens l)) in
+    (ap end_of e ∙ sym h, subst (λ (k : Lexed). IfReading k (λ first s. s.made.tokens ≡ tokens_of l)) (sym e) (its-tokens l)) in
     let text = spelled_has_text files (tokens_of l) spells in
     record { text = text; one = λ others other. one_text files (tokens_of l) others text other }
 answers-end l (Err (Refused fault place)) h files e = no-text files fault place (ap end_of e ∙ sym h)

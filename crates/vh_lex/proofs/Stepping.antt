@@ -72,8 +72,10 @@ step-word byte behind bytes s t result same e f g h = subst (λ (o : Step). Went
   where
     is-front : front (byte ∷ behind) ≡ word_at (byte ∷ behind)
     is-front = rw (f, g) refl
+
     is-read : skips s.conditionals ≡ false → step bytes s ≡ piece_read (front bytes) bytes s
     is-read e = rw e refl
+
     is-word : step bytes s ≡ piece_read (word_at bytes) bytes s
     is-word = is-read e ∙ ap (λ (p : Piece). piece_read p bytes s) (ap (λ (r : List ℕ). front r) same ∙ is-front ∙ ap (λ (r : List ℕ). word_at r) (sym same))
 
@@ -84,10 +86,12 @@ step-blank byte behind bytes s len same e f long = is-read e ∙ ap (λ (p : Pie
   where
     is-read : skips s.conditionals ≡ false → step bytes s ≡ piece_read (front bytes) bytes s
     is-read e = rw e refl
+
     is-blank : front (byte ∷ behind) ≡ piece.Blank (prefix_len is_space (byte ∷ behind))
     is-blank = by-first f
       where
         by-first : is_space byte ≡ true → front (byte ∷ behind) ≡ piece.Blank (prefix_len is_space (byte ∷ behind))
         by-first f = rw f refl
+
     is-front : front bytes ≡ piece.Blank (prefix_len is_space bytes)
     is-front = ap (λ (r : List ℕ). front r) same ∙ is-blank ∙ ap (λ (r : List ℕ). piece.Blank (prefix_len is_space r)) (sym same)

@@ -16,11 +16,7 @@ use vh_base::{Bytes, DesignFault, NoMemory, is_digit, is_name_start, is_space};
 
 /// What the bytes begin with (IEEE 1364-2005, clause 3). It takes time in the number of bytes of
 /// that piece, and of white space behind it.
-pub(crate) fn front(
-    alloc: Global,
-    made: &mut Output,
-    bytes: &[u8],
-) -> Result<Piece, NoMemory>
+pub(crate) fn front(alloc: Global, made: &mut Output, bytes: &[u8]) -> Result<Piece, NoMemory>
     ensures value { IfOk result (λ piece. piece ≡ Front.front bytes.now) }
     ensures inside { IfOk result (λ piece. IsInside piece (length bytes.now)) }
     ensures kept { made.new ≡ made.old }
@@ -64,11 +60,7 @@ fn marked(
 }
 
 // A keyword or a name.
-fn word_at(
-    alloc: Global,
-    made: &mut Output,
-    bytes: &[u8],
-) -> Result<Piece, NoMemory>
+fn word_at(alloc: Global, made: &mut Output, bytes: &[u8]) -> Result<Piece, NoMemory>
     ensures value { IfOk result (λ piece. piece ≡ Front.word_at bytes.now) }
     ensures inside { IfOk result (λ piece. IsInside piece (length bytes.now)) }
     ensures kept { made.new ≡ made.old }
@@ -84,12 +76,7 @@ fn word_at(
 }
 
 // The token of a name whose spelling has so many bytes.
-fn name_piece(
-    alloc: Global,
-    made: &mut Output,
-    name: &[u8],
-    len: usize,
-) -> Result<Piece, NoMemory>
+fn name_piece(alloc: Global, made: &mut Output, name: &[u8], len: usize) -> Result<Piece, NoMemory>
     ensures value { IfOk result (λ piece. piece ≡ Front.named Kind.Name name.now len) }
     ensures inside { IfOk result (λ piece. IsInside piece len) }
     ensures kept { made.new ≡ made.old }
@@ -97,18 +84,11 @@ fn name_piece(
     if is_long(name) {
         return Ok(Piece::Fault(DesignFault::L6, 0));
     }
-    Ok(Piece::Kept(
-        Part::Token(Kind::Name(made.shared(alloc, name)?)),
-        len,
-    ))
+    Ok(Piece::Kept(Part::Token(Kind::Name(made.shared(alloc, name)?)), len))
 }
 
 // A system name.
-fn system_at(
-    alloc: Global,
-    made: &mut Output,
-    bytes: &[u8],
-) -> Result<Piece, NoMemory>
+fn system_at(alloc: Global, made: &mut Output, bytes: &[u8]) -> Result<Piece, NoMemory>
     ensures value { IfOk result (λ piece. piece ≡ Front.system_at bytes.now) }
     ensures inside { IfOk result (λ piece. IsInside piece (length bytes.now)) }
     ensures kept { made.new ≡ made.old }
@@ -127,11 +107,7 @@ fn system_at(
 }
 
 // An escaped name.
-fn escaped_at(
-    alloc: Global,
-    made: &mut Output,
-    bytes: &[u8],
-) -> Result<Piece, NoMemory>
+fn escaped_at(alloc: Global, made: &mut Output, bytes: &[u8]) -> Result<Piece, NoMemory>
     ensures value { IfOk result (λ piece. piece ≡ Front.escaped_by (Front.name_of bytes.now)) }
     ensures inside { IfOk result (λ piece. IsInside piece (length bytes.now)) }
     ensures kept { made.new ≡ made.old }

@@ -33,12 +33,7 @@ pub(crate) fn number_at(alloc: Global, bytes: &[u8]) -> Result<Piece, NoMemory>
 }
 
 // The number of so many bytes.
-fn number_of(
-    alloc: Global,
-    bytes: &[u8],
-    is_sized: bool,
-    len: usize,
-) -> Result<Piece, NoMemory>
+fn number_of(alloc: Global, bytes: &[u8], is_sized: bool, len: usize) -> Result<Piece, NoMemory>
     requires { len ≤ length bytes.now }
     ensures value { IfOk result (λ piece. piece ≡ Numbers.number_of bytes.now is_sized len) }
     ensures inside { IfOk result (λ piece. IsInside piece (length bytes.now)) }
