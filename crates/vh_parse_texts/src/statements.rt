@@ -162,7 +162,7 @@ pub(crate) fn push_type(line: &mut String, data_type: &DataType) -> Result<(), F
         line.push_str(" signed")?;
     }
     if let Some(range) = &data_type.range {
-        push_range(line, range)?;
+        push_range(line, range.get())?;
     }
     Ok(())
 }
@@ -173,10 +173,10 @@ fn push_vars(line: &mut String, vars: &[Var]) -> Result<(), Fail> {
         push_id(line, &var.id)?;
         match &var.part {
             VarPart::Plain => {}
-            VarPart::Range(range) => push_range(line, range)?,
+            VarPart::Range(range) => push_range(line, range.get())?,
             VarPart::Value(value) => {
                 line.push_str(" = ")?;
-                push_expr(line, value)?;
+                push_expr(line, value.get())?;
             }
         }
     }
@@ -189,7 +189,7 @@ fn push_inits(line: &mut String, inits: &[Init]) -> Result<(), Fail> {
         push_id(line, &init.id)?;
         if let Some(value) = &init.value {
             line.push_str(" = ")?;
-            push_expr(line, value)?;
+            push_expr(line, value.get())?;
         }
     }
     Ok(())

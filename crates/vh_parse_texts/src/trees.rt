@@ -73,7 +73,13 @@ fn conditional(
 }
 
 // A block that is repeated, as contracts see it.
-fn repeated(place: Place, start: Assigned, test: Expr, step: Assigned, body: Gblock<Item>) -> Item
+fn repeated(
+    place: Place,
+    start: Boxed<Assigned>,
+    test: Boxed<Expr>,
+    step: Boxed<Assigned>,
+    body: Boxed<Gblock<Item>>,
+) -> Item
     ensures { let first = assigned_tree start in
         let next = assigned_tree step in
         let form = I.for_item first (expr_tree test) next (gblock_tree body) in
@@ -256,18 +262,20 @@ fn branches(rt: HostRuntime) -> Result<(), Fail> {
 }
 
 // `i = 0`
-fn zeroed(alloc: Global, column: u32) -> Result<Assigned, NoMemory> {
-    Ok(Assigned {
+fn zeroed(alloc: Global, column: u32) -> Result<Boxed<Assigned>, NoMemory> {
+    let assigned = Assigned {
         id: id(alloc, column, b"i")?,
         value: zero(column),
-    })
+    };
+    Ok(Boxed::new(alloc, assigned)?)
 }
 
 #[test]
 fn a_repeated_block(rt: HostRuntime) -> Result<(), Fail> {
     let alloc = rt.alloc();
-    let body = Gblock::Item(at(30), Items::new(alloc));
-    let made = repeated(at(1), zeroed(alloc, 6)?, zero(13), zeroed(alloc, 16)?, body);
+    let test = Boxed::new(alloc, zero(13))?;
+    let body = Boxed::new(alloc, Gblock::Item(at(30), Items::new(alloc)))?;
+    let made = repeated(at(1), zeroed(alloc, 6)?, test, zeroed(alloc, 16)?, body);
     assert_eq!(rt; made.place, at(1));
     Ok(())
 }
