@@ -90,6 +90,7 @@ pub(crate) fn called(
     ensures { let made = trees.called (name_tree name) (exprs_seen arguments) in
         MatchResult result (λ e. expr_tree e ≡ made) (λ stop. stop ≡ Memory) }
 {
+    let name = Boxed::new(alloc, name)?;
     Ok(Boxed::new(alloc, Expr::called(name, arguments))?)
 }
 
@@ -99,7 +100,7 @@ pub(crate) fn system(alloc: Global, id: Id, arguments: Items<Expr>) -> Result<Bo
         MatchResult result (λ e. expr_tree e ≡ made) (λ stop. stop ≡ Memory) }
 {
     let place = id.place;
-    let form = ExprForm::Primary(Primary::System(id, arguments));
+    let form = ExprForm::Primary(Primary::System(Boxed::new(alloc, id)?, arguments));
     Ok(Boxed::new(alloc, Expr { place, form })?)
 }
 

@@ -146,7 +146,7 @@ pub fn single(alloc: Global, path: Path) -> Result<Lv, Stop>
     ensures { MatchResult result (λ l. lv_tree l ≡ names.single (path_tree path)) (λ stop. stop ≡ Memory) }
 {
     let (name, sel) = path.into_selected(alloc)?;
-    let place = name.first.id.place;
+    let place = name.get().first.id.place;
     let parts = only(alloc, LvPart::Name(name, sel))?;
     Ok(Lv { place, parts })
 }

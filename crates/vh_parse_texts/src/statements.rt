@@ -7,7 +7,7 @@ use std::test::Fail;
 use vh_ast::{
     AssignWord, BlockWord, CaseWord, DataType, Decl, Delay, DelayValue, Edge, Ev, Event, Expr,
     ExprForm, ForceWord, Id, Init, Labels, LoopWord, Lv, LvPart, Name, Primary, Range, ReleaseWord,
-    Sel, Set, Simple, Step, Stmt, StmtForm, Var, VarPart,
+    Sel, Set, Simple, Step, Stmt, StmtForm, Var, VarPart, held,
 };
 use vh_base::Place;
 use vh_lex::Lexer;
@@ -33,7 +33,7 @@ fn push_number(line: &mut String, number: Option<u64>) -> Result<(), Fail> {
 fn push_index(line: &mut String, index: &Expr) -> Result<(), Fail> {
     match &index.form {
         ExprForm::Primary(Primary::Number(number)) => push_number(line, number.value.number()),
-        ExprForm::Primary(Primary::Name(name, None)) => push_id(line, &name.first.id),
+        ExprForm::Primary(Primary::Name(name, None)) => push_id(line, &name.get().first.id),
         _ => Ok(line.push('?')?),
     }
 }
@@ -59,8 +59,8 @@ fn push_name(line: &mut String, name: &Name<Expr>) -> Result<(), Fail> {
 }
 
 // Of a select its first index alone.
-fn push_sel(line: &mut String, sel: &Option<Sel<Expr>>) -> Result<(), Fail> {
-    match sel {
+fn push_sel(line: &mut String, sel: &Option<Boxed<Sel<Expr>>>) -> Result<(), Fail> {
+    match held(sel) {
         Some(Sel::Index(_, index)) => {
             line.push('[')?;
             push_index(line, index.get())?;
@@ -82,7 +82,7 @@ pub(crate) fn push_expr(line: &mut String, expr: &Expr) -> Result<(), Fail> {
     match &expr.form {
         ExprForm::Primary(Primary::Number(number)) => push_number(line, number.value.number()),
         ExprForm::Primary(Primary::Name(name, sel)) => {
-            push_name(line, name)?;
+            push_name(line, name.get())?;
             push_sel(line, sel)
         }
         _ => Ok(line.push('?')?),
@@ -95,7 +95,7 @@ fn push_lv(line: &mut String, lv: &Lv) -> Result<(), Fail> {
             LvPart::Open => line.push('{')?,
             LvPart::Name(name, sel) => {
                 line.push(' ')?;
-                push_name(line, name)?;
+                push_name(line, name.get())?;
                 push_sel(line, sel)?;
             }
             LvPart::Close => line.push_str(" }")?,

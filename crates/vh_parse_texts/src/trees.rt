@@ -43,7 +43,8 @@ fn name(alloc: Global, column: u32, text: &[u8]) -> Result<Name<Expr>, NoMemory>
 }
 
 fn named(alloc: Global, column: u32, text: &[u8]) -> Result<Expr, NoMemory> {
-    Ok(Expr::named(name(alloc, column, text)?, None))
+    let name = Boxed::new(alloc, name(alloc, column, text)?)?;
+    Ok(Expr::named(name, None))
 }
 
 fn zero(column: u32) -> Expr {
@@ -140,7 +141,8 @@ fn braced(alloc: Global, braces: u32) -> Result<Lv, NoMemory> {
     for _ in 0..braces {
         parts.push(LvPart::Open)?;
     }
-    parts.push(LvPart::Name(name(alloc, 1, b"a")?, None))?;
+    let name = Boxed::new(alloc, name(alloc, 1, b"a")?)?;
+    parts.push(LvPart::Name(name, None))?;
     for _ in 0..braces {
         parts.push(LvPart::Close)?;
     }
@@ -219,7 +221,8 @@ fn a_choice(rt: HostRuntime) -> Result<(), Fail> {
 #[test]
 fn a_call(rt: HostRuntime) -> Result<(), Fail> {
     let alloc = rt.alloc();
-    let call = Expr::called(name(alloc, 4, b"f")?, Items::new(alloc));
+    let name = Boxed::new(alloc, name(alloc, 4, b"f")?)?;
+    let call = Expr::called(name, Items::new(alloc));
     assert_eq!(rt; call.place, at(4));
     Ok(())
 }
