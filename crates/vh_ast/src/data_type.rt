@@ -1,4 +1,5 @@
 use crate::expr::Expr;
+use sqlite_items::Boxed;
 use vh_base::Place;
 
 /// `NET` (IEEE 1364-2005, 4.2.1).
@@ -28,9 +29,10 @@ pub struct Range {
     pub right: Expr,
 }
 
-/// `type = [ "signed" ] [ range ]`
+/// `type = [ "signed" ] [ range ]`. The range stands in a box, so that a type without one takes
+/// little.
 #[derive(Drop)]
 pub struct DataType {
     pub signed: bool,
-    pub range: Option<Range>,
+    pub range: Option<Boxed<Range>>,
 }

@@ -1,7 +1,7 @@
 use crate::data_type::{DataType, Range};
 use crate::expr::Expr;
 use crate::token::Id;
-use sqlite_items::Items;
+use sqlite_items::{Boxed, Items};
 use vh_base::Place;
 
 /// `ID "=" expr`
@@ -15,25 +15,25 @@ pub struct Assigned {
 #[derive(Drop)]
 pub struct Net {
     pub id: Id,
-    pub value: Option<Expr>,
+    pub value: Option<Boxed<Expr>>,
 }
 
 /// `init = ID [ "=" expr ]`
 #[derive(Drop)]
 pub struct Init {
     pub id: Id,
-    pub value: Option<Expr>,
+    pub value: Option<Boxed<Expr>>,
 }
 
-/// What stands behind the name of a register.
+/// What stands behind the name of a register. It stands in a box: most registers have nothing there.
 #[derive(Drop)]
 pub enum VarPart {
     /// Nothing.
     Plain,
     /// `range`: the register is a memory with these addresses.
-    Range(Range),
+    Range(Boxed<Range>),
     /// `"=" expr`
-    Value(Expr),
+    Value(Boxed<Expr>),
 }
 
 /// `var = ID [ range | "=" expr ]`

@@ -8,7 +8,8 @@ use std::alloc::Global;
 use vh_base::{NoMemory, Place};
 use vh_shared::SharedBytes;
 
-/// `prim`, over expressions `E` (IEEE 1364-2005, 5.2 and Annex A.8.4).
+/// `prim`, over expressions `E` (IEEE 1364-2005, 5.2 and Annex A.8.4). A name and a select stand in boxes,
+/// so that an expression takes little, whatever it is.
 #[derive(Drop)]
 pub enum Primary<E> {
     /// `NUMBER`
@@ -16,11 +17,11 @@ pub enum Primary<E> {
     /// `STRING`, after its escapes.
     Text(SharedBytes),
     /// `name [ sel ]`
-    Name(Name<E>, Option<Sel<E>>),
+    Name(Boxed<Name<E>>, Option<Boxed<Sel<E>>>),
     /// `name "(" expr { "," expr } ")"`
-    Call(Name<E>, Items<E>),
+    Call(Boxed<Name<E>>, Items<E>),
     /// `SYS [ "(" expr { "," expr } ")" ]`: no expression where nothing is written.
-    System(Id, Items<E>),
+    System(Boxed<Id>, Items<E>),
     /// `"(" expr ")"`
     Paren(Boxed<E>),
     /// `"{" expr { "," expr } "}"`
@@ -67,19 +68,19 @@ impl Expr {
     ghost use Rattle.vh_ast.specs.Views.{expr_tree, link_tree, name_tree, sel_tree};
 
     /// A name, with the select behind it.
-    pub fn named(name: Name<Expr>, sel: Option<Sel<Expr>>) -> Expr
+    pub fn named(name: Boxed<Name<Expr>>, sel: Option<Boxed<Sel<Expr>>>) -> Expr
         ensures { expr_tree result ≡ named_at (name_tree name) (sel_tree sel) }
     {
-        let place = name.first.id.place;
+        let place = name.get().first.id.place;
         let form = ExprForm::Primary(Primary::Name(name, sel));
         Expr { place, form }
     }
 
     /// A call of a name with its arguments.
-    pub fn called(name: Name<Expr>, arguments: Items<Expr>) -> Expr
+    pub fn called(name: Boxed<Name<Expr>>, arguments: Items<Expr>) -> Expr
         ensures { expr_tree result ≡ Expressions.called (name_tree name) (map expr_tree arguments) }
     {
-        let place = name.first.id.place;
+        let place = name.get().first.id.place;
         let form = ExprForm::Primary(Primary::Call(name, arguments));
         Expr { place, form }
     }

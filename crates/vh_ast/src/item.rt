@@ -8,7 +8,7 @@ use crate::stmt::Stmt;
 use crate::target::Set;
 use crate::timing::Delay;
 use crate::token::{Id, Ids};
-use sqlite_items::Items;
+use sqlite_items::{Boxed, Items};
 use vh_base::Place;
 
 /// `"parameter" | "localparam"` (IEEE 1364-2005, 4.10).
@@ -25,7 +25,8 @@ pub enum ProcessWord {
     Always,
 }
 
-/// An item in which none stands.
+/// An item in which none stands. What is large stands in a box, so that it takes little in a row of
+/// items.
 #[derive(Drop)]
 pub enum Plain {
     /// `( "input" | "output" ) [ NET | "reg" | "integer" | "time" ] type ID { "," ID } ";"`
@@ -39,7 +40,7 @@ pub enum Plain {
     Net {
         net_type: NetType,
         data_type: DataType,
-        delay: Option<Delay>,
+        delay: Option<Boxed<Delay>>,
         nets: Items<Net>,
     },
     /// `decl`
@@ -55,11 +56,11 @@ pub enum Plain {
         values: Items<Assigned>,
     },
     /// `"assign" [ delay ] lv "=" expr { "," lv "=" expr } ";"`
-    Assign(Option<Delay>, Items<Set>),
+    Assign(Option<Boxed<Delay>>, Items<Set>),
     /// `GATE [ delay ] gate { "," gate } ";"`
     Gate {
         gate_type: GateType,
-        delay: Option<Delay>,
+        delay: Option<Boxed<Delay>>,
         gates: Items<Gate>,
     },
     /// `ID [ "#" "(" conns ")" ] inst { "," inst } ";"`: no `conns` where nothing is written.
@@ -69,11 +70,11 @@ pub enum Plain {
         insts: Items<Inst>,
     },
     /// `( "initial" | "always" ) stmt`
-    Process(ProcessWord, Stmt),
+    Process(ProcessWord, Boxed<Stmt>),
     /// `"task" .. "endtask"`
-    Task(Task),
+    Task(Boxed<Task>),
     /// `"function" .. "endfunction"`
-    Function(Function),
+    Function(Boxed<Function>),
 }
 
 /// `gblock = item | "begin" [ ":" ID ] { item } "end"`, over items `I`.
@@ -90,7 +91,8 @@ pub enum Gblock<I> {
 }
 
 /// What an item is. A `generate` region is its two words in a row of items, with its items between
-/// them, so that regions of any depth are flat; each first word has its second one.
+/// them, so that regions of any depth are flat; each first word has its second one. What is large stands
+/// in a box, as in [`Plain`].
 #[derive(Drop)]
 pub enum ItemForm<I> {
     Plain(Plain),
@@ -100,16 +102,16 @@ pub enum ItemForm<I> {
     Endgenerate,
     /// `"for" "(" ID "=" expr ";" expr ";" ID "=" expr ")" gblock`
     For {
-        start: Assigned,
-        test: Expr,
-        step: Assigned,
-        body: Gblock<I>,
+        start: Boxed<Assigned>,
+        test: Boxed<Expr>,
+        step: Boxed<Assigned>,
+        body: Boxed<Gblock<I>>,
     },
     /// `"if" "(" expr ")" gblock [ "else" gblock ]`
     If {
-        test: Expr,
-        holds: Gblock<I>,
-        fails: Option<Gblock<I>>,
+        test: Boxed<Expr>,
+        holds: Boxed<Gblock<I>>,
+        fails: Option<Boxed<Gblock<I>>>,
     },
 }
 

@@ -3,7 +3,8 @@
 //!
 //! The contract that the layers above use: contracts see each tree as plain data (specs/Views.antt).
 //! The six functions of [`Expr`] and [`Stmt`] make trees whose parts may be absent or stand in lists;
-//! all others are made as they are written. A chain of operators, a target's braces and `generate`
+//! all others are made as they are written. [`only`] begins a list with no more room than it needs, and
+//! [`held`] looks into a box that may be absent. A chain of operators, a target's braces and `generate`
 //! regions are flat: a tree is as deep as what the depth limit counts.
 //!
 //! It stands on `vh_base` for texts and places, on `vh_logic` for the values of numbers, on `vh_lex`
@@ -11,11 +12,13 @@
 //! may hold itself in.
 #![tactic(auto)]
 
+mod boxed;
 mod data_type;
 mod declared;
 mod expr;
 mod instance;
 mod item;
+mod list;
 mod module;
 mod name;
 mod operator;
@@ -26,11 +29,13 @@ mod target;
 mod timing;
 mod token;
 
+pub use boxed::held;
 pub use data_type::{DataType, NetType, Range, Variable};
 pub use declared::{Assigned, Decl, Init, Net, Var, VarPart};
 pub use expr::{Expr, ExprForm, Link, Primary};
 pub use instance::{Conn, Conns, Gate, GateType, Inst};
 pub use item::{Gblock, Item, ItemForm, ParameterWord, Plain, ProcessWord};
+pub use list::only;
 pub use module::{Module, Source};
 pub use name::{Esel, Name, Part, Sel, Step};
 pub use operator::{Binary, Unary};

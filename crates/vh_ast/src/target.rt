@@ -1,15 +1,15 @@
 use crate::expr::Expr;
 use crate::name::{Name, Sel};
-use sqlite_items::Items;
+use sqlite_items::{Boxed, Items};
 use vh_base::Place;
 
-/// What stands in a row of targets.
+/// What stands in a row of targets. A name and a select stand in boxes, so that a brace takes little.
 #[derive(Drop)]
 pub enum LvPart {
     /// `"{"`
     Open,
     /// `name [ sel ]`
-    Name(Name<Expr>, Option<Sel<Expr>>),
+    Name(Boxed<Name<Expr>>, Option<Boxed<Sel<Expr>>>),
     /// `"}"`
     Close,
 }

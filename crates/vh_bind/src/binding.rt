@@ -20,7 +20,7 @@ use crate::parts::{
 use crate::scope::{Mode, Scope};
 use crate::selects::{Bounded, bit_of, indexed_of, number_in, part_of};
 use crate::value::value_at;
-use sqlite_items::Items;
+use sqlite_items::{Boxed, Items};
 use std::alloc::Global;
 use vh_ast::{Expr, ExprForm, Id, Link, Name, Part, Primary, Sel};
 use vh_base::{DesignFault, ExprId, Place};
@@ -78,12 +78,16 @@ fn bind(
                 bytes.as_slice(),
             ),
             Primary::Name(name, sel) => {
-                let value = name_value(scope, name)?;
+                let value = name_value(scope, name.get())?;
                 let value = sel_value(alloc, scope, place, value, sel)?;
                 push_literal(scope, Mode::Constant, nodes, place, value)
             }
-            Primary::Call(name, _) => Err(ElabFault::Refused(call_fault(scope, name), place)),
-            Primary::System(id, arguments) => { bind_system(alloc, scope, nodes, id, arguments) }
+            Primary::Call(name, _) => {
+                Err(ElabFault::Refused(call_fault(scope, name.get()), place))
+            }
+            Primary::System(id, arguments) => {
+                bind_system(alloc, scope, nodes, id.get(), arguments)
+            }
             Primary::Paren(inner) => bind(alloc, scope, nodes, inner.get()),
             Primary::Concat(parts) => {
                 let parts = bind_entries(alloc, scope, nodes, parts)?;
@@ -158,18 +162,20 @@ pub fn sel_value(
     scope: &Scope,
     place: Place,
     value: Option<Bounded>,
-    sel: &Option<Sel<Expr>>,
+    sel: &Option<Boxed<Sel<Expr>>>,
 ) -> Result<Option<Vec4>, ElabFault>
     ensures { Gives (sel_value (scope_seen scope.now) place value (sel_tree sel.now)) result }
 {
-    match sel {
-        None => Ok(value.map(|bounded| bounded.1)),
-        Some(Sel::Index(_, index)) => {
+    let Some(sel) = sel else {
+        return Ok(value.map(|bounded| bounded.1));
+    };
+    match sel.get() {
+        Sel::Index(_, index) => {
             let index = constant_in(alloc, scope, index.get())?;
             Ok(bit_of(value, index))
         }
-        Some(Sel::Both { .. }) => Err(ElabFault::Refused(DesignFault::N1, place)),
-        Some(Sel::Part(last)) => match &last.part {
+        Sel::Both { .. } => Err(ElabFault::Refused(DesignFault::N1, place)),
+        Sel::Part(last) => match &last.part {
             Part::Index(index) => {
                 let index = constant_in(alloc, scope, index.get())?;
                 Ok(bit_of(value, index))

@@ -433,7 +433,7 @@ fn means(alloc: Global, world: &World, text: &str, wanted: &str, call: bool) -> 
     };
     match &expr.form {
         ExprForm::Primary(Primary::Name(name, _)) => {
-            let answer = meaning_of(alloc, world, name, call);
+            let answer = meaning_of(alloc, world, name.get(), call);
             answered(alloc, answer, wanted)
         }
         _ => Ok(false),

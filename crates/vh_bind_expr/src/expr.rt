@@ -21,7 +21,7 @@ use crate::reads::{
     whole_of, with_numbers, word_of,
 };
 use crate::rows::{count_at, push_chained, push_genvar, push_repeated, range_at, width_at};
-use sqlite_items::Items;
+use sqlite_items::{Boxed, Items};
 use std::alloc::Global;
 use vh_ast::{Esel, Expr, ExprForm, Id, Link, Name, Part, Primary, Sel, TaskDirection};
 use vh_base::{DesignFault, ExprId, ObjId, Place, Sequence};
@@ -79,15 +79,17 @@ fn bind(
                 push(scope, Mode::Value, nodes, place, ExprKind::Literal(n.value))
             }
             Primary::Text(bytes) => push_text(scope, Mode::Value, nodes, place, bytes.as_slice()),
-            Primary::Name(name, sel) => bind_name(alloc, scope, nodes, place, sel, name),
+            Primary::Name(name, sel) => bind_name(alloc, scope, nodes, place, sel, name.get()),
             Primary::Call(name, arguments) => {
-                let called = function_called(alloc, scope, place, name, arguments)?;
+                let called = function_called(alloc, scope, place, name.get(), arguments)?;
                 let Some(function) = called else {
                     return Ok(None);
                 };
                 bind_call(alloc, scope, nodes, place, &function, arguments.as_slice())
             }
-            Primary::System(id, arguments) => bind_system(alloc, scope, nodes, id, arguments),
+            Primary::System(id, arguments) => {
+                bind_system(alloc, scope, nodes, id.get(), arguments)
+            }
             Primary::Paren(inner) => bind(alloc, scope, nodes, inner.get()),
             Primary::Concat(parts) => {
                 let parts = bind_entries(alloc, scope, nodes, parts)?;
@@ -124,7 +126,7 @@ fn bind_name(
     scope: &Scope,
     nodes: &mut Vec<ExprNode>,
     place: Place,
-    sel: &Option<Sel<Expr>>,
+    sel: &Option<Boxed<Sel<Expr>>>,
     name: &Name<Expr>,
 ) -> Result<Option<ExprId>, ElabFault>
     requires sound { IsSound mode.Value (scope_seen scope.now) nodes.old.items }
@@ -165,7 +167,7 @@ fn bind_vector(
     place: Place,
     object: ObjId,
     range: Range,
-    sel: &Option<Sel<Expr>>,
+    sel: &Option<Boxed<Sel<Expr>>>,
 ) -> Result<Option<ExprId>, ElabFault>
     requires sound { IsSound mode.Value (scope_seen scope.now) nodes.old.items }
     requires unit { is_unit (scope_seen scope.now).precision (scope_seen scope.now).unit ≡ true }
@@ -178,14 +180,16 @@ fn bind_vector(
     ensures grows { OnOk result (length nodes.old.items ≤ length nodes.new.items) }
 {
     let of = whole_of(object);
-    match sel {
-        None => push_selected(scope, nodes, place, of, Some(Select::Whole)),
-        Some(Sel::Index(_, index)) => {
+    let Some(sel) = sel else {
+        return push_selected(scope, nodes, place, of, Some(Select::Whole));
+    };
+    match sel.get() {
+        Sel::Index(_, index) => {
             let index = bind(alloc, scope, nodes, index.get())?;
             push_selected(scope, nodes, place, of, bit_select(range, index))
         }
-        Some(Sel::Both { .. }) => Err(ElabFault::Refused(DesignFault::N1, place)),
-        Some(Sel::Part(last)) => {
+        Sel::Both { .. } => Err(ElabFault::Refused(DesignFault::N1, place)),
+        Sel::Part(last) => {
             let select = bind_part(alloc, scope, nodes, range, last)?;
             push_selected(scope, nodes, place, of, select)
         }
@@ -201,7 +205,7 @@ fn bind_memory(
     place: Place,
     object: ObjId,
     range: Range,
-    sel: &Option<Sel<Expr>>,
+    sel: &Option<Boxed<Sel<Expr>>>,
 ) -> Result<Option<ExprId>, ElabFault>
     requires sound { IsSound mode.Value (scope_seen scope.now) nodes.old.items }
     requires unit { is_unit (scope_seen scope.now).precision (scope_seen scope.now).unit ≡ true }
@@ -213,9 +217,12 @@ fn bind_memory(
     ensures below { IfOk result (λ o. IfSome o (λ n. n < length nodes.new.items)) }
     ensures grows { OnOk result (length nodes.old.items ≤ length nodes.new.items) }
 {
-    match sel {
-        None | Some(Sel::Part(_)) => Err(ElabFault::Refused(DesignFault::N1, place)),
-        Some(Sel::Index(_, index)) => {
+    let Some(sel) = sel else {
+        return Err(ElabFault::Refused(DesignFault::N1, place));
+    };
+    match sel.get() {
+        Sel::Part(_) => Err(ElabFault::Refused(DesignFault::N1, place)),
+        Sel::Index(_, index) => {
             let index = bind(alloc, scope, nodes, index.get())?;
             push_selected(
                 scope,
@@ -225,7 +232,7 @@ fn bind_memory(
                 Some(Select::Whole),
             )
         }
-        Some(Sel::Both { index, last, .. }) => {
+        Sel::Both { index, last, .. } => {
             let index = bind(alloc, scope, nodes, index.get())?;
             let select = bind_part(alloc, scope, nodes, range, last)?;
             push_selected(scope, nodes, place, word_of(object, index), select)
@@ -540,6 +547,7 @@ fn bind_target(
     match &e.form {
         ExprForm::Primary(primary) => match primary {
             Primary::Name(name, sel) => {
+                let name = name.get();
                 let Some(number) = bind_variable(alloc, scope, nodes, place, sel, name)? else {
                     return Ok(false);
                 };
@@ -594,7 +602,7 @@ fn bind_variable(
     scope: &Scope,
     nodes: &mut Vec<ExprNode>,
     place: Place,
-    sel: &Option<Sel<Expr>>,
+    sel: &Option<Boxed<Sel<Expr>>>,
     name: &Name<Expr>,
 ) -> Result<Option<ExprId>, ElabFault>
     requires sound { IsSound mode.Value (scope_seen scope.now) nodes.old.items }

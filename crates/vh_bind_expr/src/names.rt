@@ -9,7 +9,7 @@ ghost use Rattle.vh_bind_expr.specs.Kinds.{IsReadable, IsCallable};
 ghost use Rattle.vh_bind_expr.specs.Rows.{constant_at};
 
 use crate::functions::{directions_of, function_meant};
-use sqlite_items::Items;
+use sqlite_items::{Boxed, Items};
 use std::alloc::Global;
 use vh_ast::{Expr, Name, Sel};
 use vh_base::{DesignFault, Place};
@@ -103,7 +103,7 @@ pub(crate) fn genvar_value(
     scope: &Scope,
     place: Place,
     value: Vec4,
-    sel: &Option<Sel<Expr>>,
+    sel: &Option<Boxed<Sel<Expr>>>,
 ) -> Result<Option<Vec4>, ElabFault>
     ensures { Gives
         (sel_value (scope_seen scope.now) place (genvar_bounded value) (sel_tree sel.now)) result }

@@ -11,7 +11,7 @@ ghost use Rattle.vh_bind.specs.Views.{scope_seen};
 ghost use Rattle.vh_bind_expr.specs.Rows.{count_at, repeated_pushed, range_at, width_at, genvar_pushed};
 
 use crate::names::{constant_at, genvar_value};
-use sqlite_items::Items;
+use sqlite_items::{Boxed, Items};
 use std::alloc::Global;
 use vh_ast::{Expr, Link, Sel};
 use vh_base::{ExprId, Place};
@@ -135,7 +135,7 @@ pub(crate) fn push_genvar(
     nodes: &mut Vec<ExprNode>,
     place: Place,
     value: Vec4,
-    sel: &Option<Sel<Expr>>,
+    sel: &Option<Boxed<Sel<Expr>>>,
 ) -> Result<Option<ExprId>, ElabFault>
     requires sound { IsSound mode.Value (scope_seen scope.now) nodes.old.items }
     ensures step { Steps

@@ -8,6 +8,7 @@ ghost use Rattle.vh_bind.specs.Views.{scope_seen};
 ghost use Rattle.vh_bind_stmt.specs.Events.{edge_of, digits_term, below_term, select_term, index_term, indexed_term, slice_term, by_index, by_base, part_terms, sel_terms, never, width_at, read_terms, event_terms, event_at, event_of, or_event, name_terms, expr_terms, all_terms};
 
 use crate::meant::object_of;
+use sqlite_items::Boxed;
 use std::alloc::Global;
 use vh_ast::{Edge as Word, Esel, Ev, Expr, ExprForm, Name, Part, Primary, Sel};
 use vh_base::{DesignFault, NoMemory, ObjId, Place, Sequence};
@@ -262,15 +263,17 @@ fn sel_terms(
     place: Place,
     of: Watched,
     range: Range,
-    sel: &Option<Sel<Expr>>,
+    sel: &Option<Boxed<Sel<Expr>>>,
 ) -> Result<Option<Terms>, ElabFault>
     ensures { Gives
         (sel_terms (scope_seen here.now) place of.object of.width of.edge range (sel_tree sel.now))
         result }
 {
-    match sel {
-        None => Ok(Some(digits_term(alloc, of, 0, of.width)?)),
-        Some(Sel::Index(_, index)) => {
+    let Some(sel) = sel else {
+        return Ok(Some(digits_term(alloc, of, 0, of.width)?));
+    };
+    match sel.get() {
+        Sel::Index(_, index) => {
             let index = match constant(alloc, here, index.get(), 0) {
                 Err(ElabFault::Refused(DesignFault::N4, _)) => {
                     return Err(ElabFault::Refused(DesignFault::N6, place));
@@ -280,8 +283,8 @@ fn sel_terms(
             };
             by_index(alloc, of, range, index)
         }
-        Some(Sel::Both { .. }) => Err(ElabFault::Refused(DesignFault::N6, place)),
-        Some(Sel::Part(last)) => match part_terms(alloc, here, of, range, last) {
+        Sel::Both { .. } => Err(ElabFault::Refused(DesignFault::N6, place)),
+        Sel::Part(last) => match part_terms(alloc, here, of, range, last) {
             Err(ElabFault::Refused(DesignFault::N4, _)) => {
                 Err(ElabFault::Refused(DesignFault::N6, place))
             }
@@ -298,7 +301,7 @@ fn never(
     place: Place,
     of: Watched,
     range: Range,
-    sel: &Option<Sel<Expr>>,
+    sel: &Option<Boxed<Sel<Expr>>>,
 ) -> Result<Option<Terms>, ElabFault>
     ensures { Gives
         (never (sel_terms (scope_seen here.now) place of.object of.width of.edge range (sel_tree sel.now)))
@@ -327,7 +330,7 @@ fn read_terms(
     place: Place,
     start: Place,
     edge: Edge,
-    sel: &Option<Sel<Expr>>,
+    sel: &Option<Boxed<Sel<Expr>>>,
     readable: Readable,
 ) -> Result<Option<Terms>, ElabFault>
     ensures { Gives
@@ -369,7 +372,7 @@ fn event_terms(
     alloc: Global,
     place: Place,
     word: Option<Word>,
-    sel: &Option<Sel<Expr>>,
+    sel: &Option<Boxed<Sel<Expr>>>,
     object: ObjId,
 ) -> Result<Option<Terms>, ElabFault>
     ensures { Gives (event_terms place word (sel_tree sel.now) object) result }
@@ -411,7 +414,7 @@ pub fn name_terms(
     place: Place,
     word: Option<Word>,
     name: &Name<Expr>,
-    sel: &Option<Sel<Expr>>,
+    sel: &Option<Boxed<Sel<Expr>>>,
 ) -> Result<Option<Terms>, ElabFault>
     ensures { Gives
         (name_terms (scope_seen here.now) place word (name_tree name.now) (sel_tree sel.now)) result }
@@ -433,7 +436,7 @@ fn expr_terms(alloc: Global, here: &Scope, ev: &Ev) -> Result<Option<Terms>, Ela
     let place = ev.expr.place;
     match &ev.expr.form {
         ExprForm::Primary(primary) => match primary {
-            Primary::Name(name, sel) => name_terms(alloc, here, place, ev.edge, name, sel),
+            Primary::Name(name, sel) => { name_terms(alloc, here, place, ev.edge, name.get(), sel) }
             Primary::Number(_)
             | Primary::Text(_)
             | Primary::Call(_, _)

@@ -11,6 +11,7 @@ ghost use Rattle.vh_bind_stmt.specs.Targets.{with_selected, vector_target, memor
 ghost use Rattle.vh_ast.specs.Expressions.{exprs};
 ghost use Rattle.vh_bind_stmt.specs.Views.{AddsTo};
 
+use sqlite_items::Boxed;
 use std::alloc::Global;
 use vh_ast::{Esel, Expr, ExprForm, Lv, LvPart, Name, Part, Primary, Sel};
 use vh_base::{DesignFault, ExprId, NoMemory, ObjId, Place, Sequence};
@@ -97,7 +98,7 @@ fn vector_target(
     place: Place,
     object: ObjId,
     range: Range,
-    sel: &Option<Sel<Expr>>,
+    sel: &Option<Boxed<Sel<Expr>>>,
 ) -> Result<bool, ElabFault>
     requires sound { IsSound mode.Value (scope_seen scope.now) nodes.old.items }
     requires unit { is_unit (scope_seen scope.now).precision (scope_seen scope.now).unit ≡ true }
@@ -107,14 +108,16 @@ fn vector_target(
     ensures sound { OnOk result (IsSound mode.Value (scope_seen scope.now) nodes.new.items) }
 {
     let of = whole_of(object);
-    match sel {
-        None => Ok(with_selected(targets, of, Some(Select::Whole))?),
-        Some(Sel::Index(_, index)) => {
+    let Some(sel) = sel else {
+        return Ok(with_selected(targets, of, Some(Select::Whole))?);
+    };
+    match sel.get() {
+        Sel::Index(_, index) => {
             let index: Option<ExprId> = bind_expr(alloc, nodes, scope, index.get())?;
             Ok(with_selected(targets, of, bit_select(range, index))?)
         }
-        Some(Sel::Both { .. }) => Err(ElabFault::Refused(DesignFault::N1, place)),
-        Some(Sel::Part(last)) => {
+        Sel::Both { .. } => Err(ElabFault::Refused(DesignFault::N1, place)),
+        Sel::Part(last) => {
             let select = bind_part(alloc, scope, nodes, range, last)?;
             Ok(with_selected(targets, of, select)?)
         }
@@ -130,7 +133,7 @@ fn memory_target(
     place: Place,
     object: ObjId,
     range: Range,
-    sel: &Option<Sel<Expr>>,
+    sel: &Option<Boxed<Sel<Expr>>>,
 ) -> Result<bool, ElabFault>
     requires sound { IsSound mode.Value (scope_seen scope.now) nodes.old.items }
     requires unit { is_unit (scope_seen scope.now).precision (scope_seen scope.now).unit ≡ true }
@@ -139,13 +142,16 @@ fn memory_target(
         result targets.new.items nodes.new.items }
     ensures sound { OnOk result (IsSound mode.Value (scope_seen scope.now) nodes.new.items) }
 {
-    match sel {
-        None | Some(Sel::Part(_)) => Err(ElabFault::Refused(DesignFault::N1, place)),
-        Some(Sel::Index(_, index)) => {
+    let Some(sel) = sel else {
+        return Err(ElabFault::Refused(DesignFault::N1, place));
+    };
+    match sel.get() {
+        Sel::Part(_) => Err(ElabFault::Refused(DesignFault::N1, place)),
+        Sel::Index(_, index) => {
             let index = bind_expr(alloc, nodes, scope, index.get())?;
             Ok(with_selected(targets, word_of(object, index), Some(Select::Whole))?)
         }
-        Some(Sel::Both { index, last, .. }) => {
+        Sel::Both { index, last, .. } => {
             let index = bind_expr(alloc, nodes, scope, index.get())?;
             let select = bind_part(alloc, scope, nodes, range, last)?;
             Ok(with_selected(targets, word_of(object, index), select)?)
@@ -160,7 +166,7 @@ fn bind_name(
     nodes: &mut Vec<ExprNode>,
     targets: &mut Vec<Selected>,
     name: &Name<Expr>,
-    sel: &Option<Sel<Expr>>,
+    sel: &Option<Boxed<Sel<Expr>>>,
 ) -> Result<bool, ElabFault>
     requires sound { IsSound mode.Value (scope_seen scope.now) nodes.old.items }
     requires unit { is_unit (scope_seen scope.now).precision (scope_seen scope.now).unit ≡ true }
@@ -204,7 +210,7 @@ fn bind_piece(
 {
     match piece {
         LvPart::Open | LvPart::Close => Ok(true),
-        LvPart::Name(name, sel) => bind_name(alloc, scope, nodes, targets, name, sel),
+        LvPart::Name(name, sel) => bind_name(alloc, scope, nodes, targets, name.get(), sel),
     }
 }
 
@@ -297,7 +303,7 @@ fn output_pieces(
 {
     match &e.form {
         ExprForm::Primary(primary) => match primary {
-            Primary::Name(name, sel) => bind_name(alloc, scope, nodes, targets, name, sel),
+            Primary::Name(name, sel) => bind_name(alloc, scope, nodes, targets, name.get(), sel),
             Primary::Concat(parts) => {
                 outputs_pieces(alloc, scope, nodes, targets, parts.as_slice())
             }

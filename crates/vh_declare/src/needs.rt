@@ -53,8 +53,8 @@ fn add_type_ids<'a>(data_type: Option<&'a DataType>, ids: &mut Vec<&'a Id>) -> R
         return Ok(());
     };
     if let Some(range) = &data_type.range {
-        expr_ids(&range.left, ids)?;
-        expr_ids(&range.right, ids)?;
+        expr_ids(&range.get().left, ids)?;
+        expr_ids(&range.get().right, ids)?;
     }
     Ok(())
 }

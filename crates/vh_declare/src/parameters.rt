@@ -13,7 +13,7 @@ use crate::objects::{name_of, set_bounds};
 use crate::ranges::{range_of, span};
 use crate::standing::value_at;
 use std::alloc::Global;
-use vh_ast::{DataType, Expr, ParameterWord};
+use vh_ast::{DataType, Expr, ParameterWord, held};
 use vh_base::{ExprId, NoMemory};
 use vh_bind::{ElabFault, Scope, constant};
 use vh_logic::{MAX_WIDTH, Vec4, resize};
@@ -94,7 +94,7 @@ fn parameter_value(
     match data_type {
         None => typed_value(alloc, scope, false, None, e),
         Some(data_type) => {
-            typed_value(alloc, scope, data_type.signed, data_type.range.as_ref(), e)
+            typed_value(alloc, scope, data_type.signed, held(&data_type.range), e)
         }
     }
 }
@@ -130,13 +130,15 @@ fn given_value(
 {
     match data_type {
         None => given_range(alloc, scope, false, value, None),
-        Some(data_type) => given_range(
-            alloc,
-            scope,
-            data_type.signed,
-            value,
-            data_type.range.as_ref(),
-        ),
+        Some(data_type) => {
+            given_range(
+                alloc,
+                scope,
+                data_type.signed,
+                value,
+                held(&data_type.range),
+            )
+        }
     }
 }
 

@@ -10,6 +10,7 @@ ghost use Rattle.vh_declare.specs.Views.{BothBy};
 ghost use Rattle.vh_declare.specs.Constants;
 
 use crate::objects::LONE_DIGIT;
+use sqlite_items::Boxed;
 use std::alloc::Global;
 use vh_ast::{DataType, Expr};
 use vh_base::{DesignFault, Place};
@@ -131,7 +132,7 @@ pub(crate) fn type_range(
 {
     match &data_type.range {
         None => Ok(Some(LONE_DIGIT)),
-        Some(range) => range_of(alloc, scope, MAX_WIDTH, range),
+        Some(range) => range_of(alloc, scope, MAX_WIDTH, range.get()),
     }
 }
 
@@ -210,7 +211,11 @@ fn both_ranges(
     both(own, other)
 }
 
-fn own_or(range: &Option<vh_ast::Range>, own: Option<Range>, other: Option<Range>) -> Option<Range>
+fn own_or(
+    range: &Option<Boxed<vh_ast::Range>>,
+    own: Option<Range>,
+    other: Option<Range>,
+) -> Option<Range>
     requires own { IfSome own (λ r. Constants.span r ≤ MAX_WIDTH) }
     requires other { IfSome other (λ r. Constants.span r ≤ MAX_WIDTH) }
     ensures value { result ≡ Constants.own_or (option_map range_tree range.now) (own, other) }

@@ -15,6 +15,7 @@ ghost use Rattle.vh_lower.specs.Making.{Makes, performed};
 ghost use Rattle.vh_lower.specs.Views.{added_seen, Performs};
 ghost use Rattle.vh_drives.specs.Gates;
 
+use sqlite_items::Boxed;
 use std::alloc::Global;
 use vh_ast::{Delay, Expr, GateType, Unary};
 use vh_base::{DesignFault, ExprId, NoMemory, ObjId, Place, Sequence};
@@ -192,7 +193,7 @@ pub fn gate_delay(
     around: &Surroundings,
     added: &mut Added,
     operations: &mut Vec<Operation>,
-    delay: &Option<Delay>,
+    delay: &Option<Boxed<Delay>>,
 ) -> Result<Option<Wait>, LowerFault>
     requires sound { IsSound mode.Value (surroundings_seen around.now).scope
         (added_seen added.old).exprs }
@@ -207,7 +208,7 @@ pub fn gate_delay(
     match delay {
         None => Ok(None),
         Some(delay) => {
-            let wait = delay_of(alloc, around, added, operations, delay)?;
+            let wait = delay_of(alloc, around, added, operations, delay.get())?;
             Ok(Some(wait))
         }
     }

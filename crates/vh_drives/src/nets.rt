@@ -8,6 +8,7 @@ ghost use Rattle.vh_bind.specs.Steps.{Gives};
 ghost use Rattle.vh_bind.specs.Views.{scope_seen};
 ghost use Rattle.vh_drives.specs.Nets;
 
+use sqlite_items::Boxed;
 use std::alloc::Global;
 use vh_ast::{Esel, Expr, Name, Part, Sel};
 use vh_base::{DesignFault, ObjId, Place};
@@ -274,26 +275,31 @@ fn net_driver(
     place: Place,
     object: ObjId,
     range: Range,
-    sel: &Option<Sel<Expr>>,
+    sel: &Option<Boxed<Sel<Expr>>>,
 ) -> Result<Option<DriverInfo>, ElabFault>
     ensures { Gives (Nets.net_driver (here (scope_seen scope.now) nodes.now) place object range
         (sel_tree sel.now)) result }
 {
-    match sel {
-        None => Ok(Some(driver(object, 0, object_width(scope.objects, object)))),
-        Some(Sel::Index(_, index)) => bit_driver(alloc, scope, nodes, object, range, index.get()),
-        Some(Sel::Both { .. }) => Err(ElabFault::Refused(DesignFault::N1, place)),
-        Some(Sel::Part(last)) => part_driver(alloc, scope, nodes, object, range, last),
+    let Some(sel) = sel else {
+        return Ok(Some(driver(object, 0, object_width(scope.objects, object))));
+    };
+    match sel.get() {
+        Sel::Index(_, index) => bit_driver(alloc, scope, nodes, object, range, index.get()),
+        Sel::Both { .. } => Err(ElabFault::Refused(DesignFault::N1, place)),
+        Sel::Part(last) => part_driver(alloc, scope, nodes, object, range, last),
     }
 }
 
 // A memory takes none.
-fn memory_fault(sel: &Option<Sel<Expr>>) -> DesignFault
+fn memory_fault(sel: &Option<Boxed<Sel<Expr>>>) -> DesignFault
     ensures { result ≡ Nets.memory_fault (sel_tree sel.now) }
 {
-    match sel {
-        None | Some(Sel::Part(_)) => DesignFault::N1,
-        Some(Sel::Index(_, _) | Sel::Both { .. }) => DesignFault::N5,
+    let Some(sel) = sel else {
+        return DesignFault::N1;
+    };
+    match sel.get() {
+        Sel::Part(_) => DesignFault::N1,
+        Sel::Index(_, _) | Sel::Both { .. } => DesignFault::N5,
     }
 }
 
@@ -313,7 +319,7 @@ pub(crate) fn name_driver(
     scope: &Scope,
     nodes: &[ExprNode],
     name: &Name<Expr>,
-    sel: &Option<Sel<Expr>>,
+    sel: &Option<Boxed<Sel<Expr>>>,
 ) -> Result<Option<DriverInfo>, ElabFault>
     ensures { Gives (Nets.name_driver (here (scope_seen scope.now) nodes.now)
         (name_tree name.now) (sel_tree sel.now)) result }

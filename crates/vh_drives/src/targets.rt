@@ -9,6 +9,7 @@ ghost use Rattle.vh_drives.specs.Nets;
 ghost use Rattle.vh_drives.specs.Views.{Drives, row_seen};
 
 use crate::nets::name_driver;
+use sqlite_items::Boxed;
 use std::alloc::Global;
 use vh_ast::{Expr, ExprForm, Lv, LvPart, Name, Primary, Sel};
 use vh_base::{DesignFault, NoMemory, Place, Sequence};
@@ -37,7 +38,7 @@ fn add_name(
     scope: &Scope,
     nodes: &[ExprNode],
     name: &Name<Expr>,
-    sel: &Option<Sel<Expr>>,
+    sel: &Option<Boxed<Sel<Expr>>>,
     drivers: &mut Vec<DriverInfo>,
 ) -> Result<bool, ElabFault>
     ensures { Drives (Nets.with_driver drivers.old.items (Nets.name_driver
@@ -61,7 +62,7 @@ fn add_piece(
 {
     match piece {
         LvPart::Open | LvPart::Close => Ok(true),
-        LvPart::Name(name, sel) => add_name(alloc, scope, nodes, name, sel, drivers),
+        LvPart::Name(name, sel) => add_name(alloc, scope, nodes, name.get(), sel, drivers),
     }
 }
 
@@ -143,7 +144,7 @@ fn add_expr(
 {
     match &e.form {
         ExprForm::Primary(primary) => match primary {
-            Primary::Name(name, sel) => add_name(alloc, scope, nodes, name, sel, drivers),
+            Primary::Name(name, sel) => add_name(alloc, scope, nodes, name.get(), sel, drivers),
             Primary::Concat(parts) => add_exprs(alloc, scope, nodes, parts.as_slice(), drivers),
             Primary::Number(_)
             | Primary::Text(_)

@@ -13,6 +13,7 @@ ghost use Rattle.vh_elab.specs.Coded;
 ghost use Rattle.vh_elab.specs.Views.{DrivesBy, Looks, Puts, Tries, coding_seen, ready_seen};
 
 use crate::routines::Routines;
+use sqlite_items::Boxed;
 use std::alloc::Global;
 use vh_ast::{Delay, Expr, Stmt};
 use vh_base::{DesignFault, DriverId, NoMemory, ObjId, Place, Sequence};
@@ -361,7 +362,7 @@ fn code_drive(
     ready: Ready,
     around: &Surroundings,
     numbers: DriverIds,
-    delay: &Option<Delay>,
+    delay: &Option<Boxed<Delay>>,
     e: &Expr,
     coding: &mut Coding,
 ) -> Result<(), NoMemory>
@@ -387,7 +388,7 @@ pub(crate) fn code_assignment(
     alloc: Global,
     ready: Ready,
     around: &Surroundings,
-    delay: &Option<Delay>,
+    delay: &Option<Boxed<Delay>>,
     target: Driven,
     e: &Expr,
     coding: &mut Coding,

@@ -14,6 +14,7 @@ ghost use Rattle.vh_elab.specs.Coded;
 ghost use Rattle.vh_elab.specs.Views.{coding_seen, delay_made, inputs_seen, ready_seen};
 
 use crate::coding::{Coding, Ready, put_code, put_drivers, take_fault, tried};
+use sqlite_items::Boxed;
 use std::alloc::Global;
 use vh_ast::{Delay, Expr, Gate, GateType};
 use vh_base::{DesignFault, ExprId, NoMemory, Place, Sequence};
@@ -271,7 +272,7 @@ fn code_delay(
     alloc: Global,
     ready: Ready,
     around: &Surroundings,
-    delay: &Option<Delay>,
+    delay: &Option<Boxed<Delay>>,
     coding: &mut Coding,
 ) -> Result<(Option<Wait>, Vec<Operation>), NoMemory>
     requires values { IsSound mode.Value (surroundings_seen around.now).scope
@@ -301,7 +302,7 @@ fn code_terminals(
     around: &Surroundings,
     place: Place,
     word: GateType,
-    delay: &Option<Delay>,
+    delay: &Option<Boxed<Delay>>,
     output: &Expr,
     all: &[Expr],
     coding: &mut Coding,
@@ -334,7 +335,7 @@ pub(crate) fn code_gate(
     ready: Ready,
     around: &Surroundings,
     word: GateType,
-    delay: &Option<Delay>,
+    delay: &Option<Boxed<Delay>>,
     gate: &Gate,
     coding: &mut Coding,
 ) -> Result<(), NoMemory>

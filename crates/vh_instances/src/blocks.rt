@@ -9,6 +9,7 @@ ghost use Rattle.vh_instances.specs.Views.{making_seen, turn_seen};
 ghost use Rattle.vh_sites.specs.Views.{block_name_seen, block_text_seen, choice_seen, genvar_at_seen, sites_seen, standing_seen};
 
 use crate::names::declared_ids;
+use sqlite_items::Boxed;
 use std::alloc::Global;
 use vh_ast::{Gblock, Id, Item, ItemForm};
 use vh_base::{NoMemory, ObjId, Place};
@@ -232,7 +233,7 @@ fn add_first<'a>(
 fn add_other<'a>(
     alloc: Global,
     standing: Standing<'a, '_>,
-    block: &'a Option<Gblock<Item>>,
+    block: &'a Option<Boxed<Gblock<Item>>>,
     word: BlockText<'a>,
     left: &mut Left<'a, '_>,
     sites: &mut Listing<'a>,
@@ -243,7 +244,7 @@ fn add_other<'a>(
 {
     match block {
         None => Ok(()),
-        Some(block) => add_branch(alloc, standing, block, word, left, sites),
+        Some(block) => add_branch(alloc, standing, block.get(), word, left, sites),
     }
 }
 
@@ -252,7 +253,7 @@ fn add_other<'a>(
 fn add_else<'a>(
     alloc: Global,
     standing: Standing<'a, '_>,
-    block: &'a Option<Gblock<Item>>,
+    block: &'a Option<Boxed<Gblock<Item>>>,
     choice: Choice<'a>,
     left: &mut Left<'a, '_>,
     sites: &mut Listing<'a>,
@@ -419,11 +420,19 @@ fn add_one<'a>(
         ItemForm::Generate | ItemForm::Endgenerate => Ok(()),
         ItemForm::For { start, body, .. } => {
             let choice = take(left);
-            add_loop(alloc, standing, &start.id, body, choice, left, sites)
+            add_loop(
+                alloc,
+                standing,
+                &start.get().id,
+                body.get(),
+                choice,
+                left,
+                sites,
+            )
         }
         ItemForm::If { holds, fails, .. } => {
             let choice = take(left);
-            add_first(alloc, standing, holds, choice, left, sites)?;
+            add_first(alloc, standing, holds.get(), choice, left, sites)?;
             add_else(alloc, standing, fails, choice, left, sites)
         }
     }

@@ -4,6 +4,7 @@ ghost use Rattle.vh_ast.specs.Views.{assigned_tree, decl_tree, gate_tree, gblock
 ghost use Rattle.vh_ports.specs.Views.{directed_seen, ids_seen};
 ghost use Rattle.vh_instances.specs.Instances;
 
+use sqlite_items::Boxed;
 use std::alloc::Global;
 use vh_ast::{Assigned, Decl, Gate, Gblock, Id, Init, Inst, Item, ItemForm, Net, Par, Plain, Var};
 use vh_base::NoMemory;
@@ -118,8 +119,8 @@ fn see_plain<'a>(plain: &'a Plain, ids: &mut Vec<&'a Id>) -> Result<(), NoMemory
         Plain::Parameter { values, .. } => see_constants(values.as_slice(), ids),
         Plain::Gate { gates, .. } => see_gates(gates.as_slice(), ids),
         Plain::Inst { insts, .. } => see_insts(insts.as_slice(), ids),
-        Plain::Task(task) => see(&task.id, ids),
-        Plain::Function(function) => see(&function.id, ids),
+        Plain::Task(task) => see(&task.get().id, ids),
+        Plain::Function(function) => see(&function.get().id, ids),
         Plain::Assign(_, _) | Plain::Process(_, _) => Ok(()),
     }
 }
@@ -135,13 +136,16 @@ fn see_block<'a>(block: &'a Gblock<Item>, ids: &mut Vec<&'a Id>) -> Result<(), N
     }
 }
 
-fn see_else<'a>(block: &'a Option<Gblock<Item>>, ids: &mut Vec<&'a Id>) -> Result<(), NoMemory>
+fn see_else<'a>(
+    block: &'a Option<Boxed<Gblock<Item>>>,
+    ids: &mut Vec<&'a Id>,
+) -> Result<(), NoMemory>
     ensures { OnOk result (ids_seen ids.new.items
         ≡ ids_seen ids.old.items ++ Instances.else_ids (gelse_tree block.now)) }
 {
     match block {
         None => Ok(()),
-        Some(block) => see_block(block, ids),
+        Some(block) => see_block(block.get(), ids),
     }
 }
 
@@ -152,9 +156,9 @@ fn see_item<'a>(item: &'a Item, ids: &mut Vec<&'a Id>) -> Result<(), NoMemory>
     match &item.form {
         ItemForm::Plain(plain) => see_plain(plain, ids),
         ItemForm::Generate | ItemForm::Endgenerate => Ok(()),
-        ItemForm::For { body, .. } => see_block(body, ids),
+        ItemForm::For { body, .. } => see_block(body.get(), ids),
         ItemForm::If { holds, fails, .. } => {
-            see_block(holds, ids)?;
+            see_block(holds.get(), ids)?;
             see_else(fails, ids)
         }
     }

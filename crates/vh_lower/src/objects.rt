@@ -13,6 +13,7 @@ ghost use Rattle.vh_lower.specs.Views.{added_seen};
 
 use crate::added::Added;
 use crate::fault::LowerFault;
+use sqlite_items::Boxed;
 use std::alloc::Global;
 use vh_ast::{Expr, ForceWord, Lv, LvPart, Name, ReleaseWord, Sel};
 use vh_base::{DesignFault, ObjId, Place};
@@ -117,7 +118,7 @@ pub(crate) fn disable_target_of(
 // What stands whole under a name.
 fn whole_row(
     place: Place,
-    sel: &Option<Sel<Expr>>,
+    sel: &Option<Boxed<Sel<Expr>>>,
     readable: Readable,
 ) -> Result<Option<ObjId>, ElabFault>
     ensures { Gives (whole_row place (sel_tree sel.now) readable) result }
@@ -150,7 +151,7 @@ fn whole_parts(
     let Some(LvPart::Name(name, sel)) = target.parts.as_slice().first() else {
         return Err(ElabFault::Refused(DesignFault::N5, place));
     };
-    let readable = name_read(alloc, scope, nodes, name)?;
+    let readable = name_read(alloc, scope, nodes, name.get())?;
     whole_row(place, sel, readable)
 }
 

@@ -18,7 +18,7 @@ use crate::assignments::and_then;
 use crate::fault::LowerFault;
 use crate::labels::{Operations, in_row};
 use crate::making::{delay_of, reading_from, value_of};
-use sqlite_items::Items;
+use sqlite_items::{Boxed as TreeBox, Items};
 use std::alloc::Global;
 use vh_ast::{Delay, Expr};
 use vh_base::{Boxed, ExprId, NoMemory, ObjId, WaitId};
@@ -172,7 +172,7 @@ fn drive_labels(
     around: &Surroundings,
     added: &mut Added,
     drivers: DriverIds,
-    delay: &Option<Delay>,
+    delay: &Option<TreeBox<Delay>>,
     value: &Expr,
 ) -> Result<Operations, LowerFault>
     requires sound { IsSound mode.Value (surroundings_seen around.now).scope (added_seen added.old).exprs }
@@ -188,7 +188,7 @@ fn drive_labels(
     match delay {
         None => drive_behind(alloc, around, added, drivers, operations, None, value),
         Some(delay) => {
-            let delay = delay_of(alloc, around, added, &mut operations, delay)?;
+            let delay = delay_of(alloc, around, added, &mut operations, delay.get())?;
             drive_behind(
                 alloc,
                 around,
@@ -208,7 +208,7 @@ fn laid_assignment(
     around: &Surroundings,
     added: &mut Added,
     drivers: DriverIds,
-    delay: &Option<Delay>,
+    delay: &Option<TreeBox<Delay>>,
     value: &Expr,
 ) -> Result<Code, LowerFault>
     requires sound { IsSound mode.Value (surroundings_seen around.now).scope (added_seen added.old).exprs }
@@ -230,7 +230,7 @@ pub fn drive_code(
     around: &Surroundings,
     added: &mut Added,
     drivers: DriverIds,
-    delay: &Option<Delay>,
+    delay: &Option<TreeBox<Delay>>,
     value: &Expr,
 ) -> Result<Code, LowerFault>
     requires sound { IsSound mode.Value (surroundings_seen around.now).scope (added_seen added.old).exprs }

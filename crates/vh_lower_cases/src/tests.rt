@@ -9,6 +9,7 @@ ghost use Rattle.vh_bind.specs.Views.{scope_seen};
 ghost use Rattle.vh_bind_stmt.specs.Views.{surroundings_seen};
 ghost use Rattle.vh_lower.specs.Views.{added_seen};
 
+use sqlite_items::Boxed;
 use std::alloc::Global;
 use std::process::Abort;
 use std::test::Fail;
@@ -215,12 +216,9 @@ enum Wanted {
     Driven,
 }
 
-fn right_side(stmt: Stmt) -> Option<(Option<Delay>, Expr)> {
+fn right_side(stmt: Stmt) -> Option<(Option<Boxed<Delay>>, Boxed<Expr>)> {
     match stmt.form {
-        StmtForm::Simple(Simple::Assign { delay, value, .. }) => match delay {
-            Some(delay) => Some((Some(delay.into_inner()), value.into_inner())),
-            None => Some((None, value.into_inner())),
-        },
+        StmtForm::Simple(Simple::Assign { delay, value, .. }) => Some((delay, value)),
         _ => None,
     }
 }
@@ -236,7 +234,7 @@ fn initial(
         (surroundings_seen around.now).scope.unit ≡ true }
 {
     match right_side(stmt) {
-        Some((_, value)) => initial_code(alloc, around, added, ObjId::new(4), &value),
+        Some((_, value)) => initial_code(alloc, around, added, ObjId::new(4), value.get()),
         None => Err(LowerFault::PassedOver),
     }
 }
@@ -253,7 +251,7 @@ fn driven(
 {
     let drivers = Sequence::new(Vec::new(alloc));
     match right_side(stmt) {
-        Some((delay, value)) => drive_code(alloc, around, added, drivers, &delay, &value),
+        Some((delay, value)) => drive_code(alloc, around, added, drivers, &delay, value.get()),
         None => Err(LowerFault::PassedOver),
     }
 }

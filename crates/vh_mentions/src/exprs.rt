@@ -20,11 +20,11 @@ pub fn expr_ids<'a>(e: &'a Expr, ids: &mut Vec<&'a Id>) -> Result<(), NoMemory>
         ExprForm::Primary(primary) => match primary {
             Primary::Number(_) | Primary::Text(_) => Ok(()),
             Primary::Name(name, sel) => {
-                name_ids(name, ids)?;
+                name_ids(name.get(), ids)?;
                 sel_ids(sel, ids)
             }
             Primary::Call(name, arguments) => {
-                called_ids(name, ids)?;
+                called_ids(name.get(), ids)?;
                 all_ids(arguments.as_slice(), ids)
             }
             Primary::System(_, arguments) => all_ids(arguments.as_slice(), ids),
@@ -127,18 +127,20 @@ fn index_ids<'a>(index: &'a Option<Boxed<Expr>>, ids: &mut Vec<&'a Id>) -> Resul
 }
 
 #[cycle(exprs)]
-fn sel_ids<'a>(sel: &'a Option<Sel<Expr>>, ids: &mut Vec<&'a Id>) -> Result<(), NoMemory>
+fn sel_ids<'a>(sel: &'a Option<Boxed<Sel<Expr>>>, ids: &mut Vec<&'a Id>) -> Result<(), NoMemory>
     ensures { OnOk result (ids_seen ids.new.items
         ≡ Mentions.sel_ids (sel_tree sel.now) (ids_seen ids.old.items)) }
 {
-    match sel {
-        None => Ok(()),
-        Some(Sel::Index(_, e)) => expr_ids(e.get(), ids),
-        Some(Sel::Both { index, last, .. }) => {
+    let Some(sel) = sel else {
+        return Ok(());
+    };
+    match sel.get() {
+        Sel::Index(_, e) => expr_ids(e.get(), ids),
+        Sel::Both { index, last, .. } => {
             expr_ids(index.get(), ids)?;
             part_ids(&last.part, ids)
         }
-        Some(Sel::Part(last)) => part_ids(&last.part, ids),
+        Sel::Part(last) => part_ids(&last.part, ids),
     }
 }
 
@@ -168,7 +170,7 @@ fn piece_ids<'a>(piece: &'a LvPart, ids: &mut Vec<&'a Id>) -> Result<(), NoMemor
     match piece {
         LvPart::Open | LvPart::Close => Ok(()),
         LvPart::Name(name, sel) => {
-            name_ids(name, ids)?;
+            name_ids(name.get(), ids)?;
             sel_ids(sel, ids)
         }
     }

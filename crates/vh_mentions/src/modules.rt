@@ -4,6 +4,7 @@ ghost use Rattle.vh_ast.specs.Views.{gblock_tree, gelse_tree, item_tree, module_
 ghost use Rattle.vh_mentions.specs.Mentions;
 ghost use Rattle.vh_mentions.specs.Views.{ids_seen};
 
+use sqlite_items::Boxed;
 use std::alloc::Global;
 use vh_ast::{Gblock, Id, Item, ItemForm, Module, Plain};
 use vh_base::NoMemory;
@@ -41,9 +42,9 @@ fn item_modules<'a>(item: &'a Item, ids: &mut Vec<&'a Id>) -> Result<(), NoMemor
     match &item.form {
         ItemForm::Plain(plain) => plain_modules(plain, ids),
         ItemForm::Generate | ItemForm::Endgenerate => Ok(()),
-        ItemForm::For { body, .. } => gblock_modules(body, ids),
+        ItemForm::For { body, .. } => gblock_modules(body.get(), ids),
         ItemForm::If { holds, fails, .. } => {
-            gblock_modules(holds, ids)?;
+            gblock_modules(holds.get(), ids)?;
             else_modules(fails, ids)
         }
     }
@@ -61,13 +62,16 @@ fn gblock_modules<'a>(block: &'a Gblock<Item>, ids: &mut Vec<&'a Id>) -> Result<
 }
 
 #[cycle(items)]
-fn else_modules<'a>(fails: &'a Option<Gblock<Item>>, ids: &mut Vec<&'a Id>) -> Result<(), NoMemory>
+fn else_modules<'a>(
+    fails: &'a Option<Boxed<Gblock<Item>>>,
+    ids: &mut Vec<&'a Id>,
+) -> Result<(), NoMemory>
     ensures { OnOk result (ids_seen ids.new.items
         ≡ Mentions.else_modules (gelse_tree fails.now) (ids_seen ids.old.items)) }
 {
     match fails {
         None => Ok(()),
-        Some(block) => gblock_modules(block, ids),
+        Some(block) => gblock_modules(block.get(), ids),
     }
 }
 

@@ -13,7 +13,7 @@ ghost use Rattle.vh_parse_decl.specs.Conditions.{var_advances, init_advances};
 
 use crate::lists::{Listed, list};
 use crate::values::{behind, value};
-use sqlite_items::Items;
+use sqlite_items::{Boxed, Items};
 use std::alloc::Global;
 use vh_ast::{DataType, Decl, Id, Init, Range, Var, VarPart};
 use vh_parse_expr::{At, Read, expression, id, sign, then_sign};
@@ -41,8 +41,8 @@ fn sign_mark<'t>(at: At<'t>) -> Read<'t, bool>
     Ok((true, at.take(Class::Is(Sign::Signed))?))
 }
 
-// `[ range ]`
-fn written_range<'t>(alloc: Global, depth: usize, at: At<'t>) -> Read<'t, Option<Range>>
+// `[ range ]`, in a box.
+fn written_range<'t>(alloc: Global, depth: usize, at: At<'t>) -> Read<'t, Option<Boxed<Range>>>
     ensures { let part = opt (is signs.LeftBracket) a_range in
         Reads (option_map range_tree) depth part at.entry result }
 {
@@ -50,7 +50,7 @@ fn written_range<'t>(alloc: Global, depth: usize, at: At<'t>) -> Read<'t, Option
         return Ok((None, at));
     }
     let (range, rest) = range(alloc, depth, at)?;
-    Ok((Some(range), rest))
+    Ok((Some(Boxed::new(alloc, range)?), rest))
 }
 
 /// `type`
@@ -88,11 +88,11 @@ fn var_part<'t>(alloc: Global, depth: usize, at: At<'t>) -> Read<'t, VarPart>
     if at.next_is(Class::Is(Sign::LeftBracket)) {
         let (range, more) = range(alloc, depth, at)?;
         let ((), rest) = no_range(true, more)?;
-        return Ok((VarPart::Range(range), rest));
+        return Ok((VarPart::Range(Boxed::new(alloc, range)?), rest));
     }
     if at.next_is(Class::Is(Sign::Equal)) {
         let (value, rest) = behind(alloc, depth, true, Sign::Equal, at)?;
-        return Ok((VarPart::Value(value), rest));
+        return Ok((VarPart::Value(Boxed::new(alloc, value)?), rest));
     }
     Ok((VarPart::Plain, at))
 }

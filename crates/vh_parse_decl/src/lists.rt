@@ -12,6 +12,7 @@ ghost use Rattle.vh_parse_expr.specs.Views.{Reads, read_from};
 
 use sqlite_items::Items;
 use std::alloc::Global;
+use vh_ast::only;
 use vh_parse_expr::{At, Read};
 use vh_syntax::{Class, Sign};
 
@@ -76,7 +77,6 @@ pub fn list<'t, T: Listed>(
     ensures { Reads (map T.view) depth (comma_list (T.part form)) at.entry result }
 {
     let (first, rest) = T::read(alloc, depth, form, at)?;
-    let mut all = Items::new(alloc);
-    all.push(first)?;
+    let all = only(alloc, first)?;
     further::<T>(alloc, depth, form, all, rest)
 }

@@ -15,7 +15,7 @@ use crate::rows::{delay_number, edge};
 use crate::values::behind;
 use sqlite_items::{Boxed, Items};
 use std::alloc::Global;
-use vh_ast::{Delay, DelayValue, Ev, Event};
+use vh_ast::{Delay, DelayValue, Ev, Event, only};
 use vh_parse_expr::{At, Read, Standing, expression, id, path, sign, then_sign};
 use vh_syntax::{Class, Group, Rows, Sign};
 
@@ -143,8 +143,7 @@ fn evs<'t>(alloc: Global, depth: usize, at: At<'t>) -> Read<'t, Items<Ev>>
     ensures { Reads (map ev_tree) depth ev_list at.entry result }
 {
     let (first, rest) = ev(alloc, depth, at)?;
-    let mut all = Items::new(alloc);
-    all.push(first)?;
+    let all = only(alloc, first)?;
     further_evs(alloc, depth, all, rest)
 }
 

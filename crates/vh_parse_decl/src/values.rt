@@ -41,16 +41,16 @@ pub fn ended<'t>(alloc: Global, depth: usize, at: At<'t>) -> Read<'t, Expr>
     Ok((expr, rest))
 }
 
-/// `[ "=" expr ]`
+/// `[ "=" expr ]`, in a box.
 #[tactic(auto, unfolding(vh_syntax::specs::Declarations::a_value))]
-pub fn value<'t>(alloc: Global, depth: usize, at: At<'t>) -> Read<'t, Option<Expr>>
+pub fn value<'t>(alloc: Global, depth: usize, at: At<'t>) -> Read<'t, Option<Boxed<Expr>>>
     ensures { Reads (option_map expr_tree) depth a_value at.entry result }
 {
     if !at.next_is(Class::Is(Sign::Equal)) {
         return Ok((None, at));
     }
     let (value, rest) = behind(alloc, depth, true, Sign::Equal, at)?;
-    Ok((Some(value), rest))
+    Ok((Some(Boxed::new(alloc, value)?), rest))
 }
 
 /// `"(" expr ")"`, in a box.

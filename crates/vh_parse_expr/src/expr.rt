@@ -637,7 +637,7 @@ fn chain<'t>(
         let mut links = Items::new(alloc);
         'links: while rest.next_is(Class::Operator(below)) {
             let ((operator, operand), behind) = link(alloc, depth, below, calls, rest)?;
-            links.push(made::linked(operator, operand))?;
+            made::with_link(alloc, &mut links, made::linked(operator, operand))?;
             rest = behind;
         }
         head = made::chained(alloc, head, links)?;

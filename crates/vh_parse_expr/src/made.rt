@@ -1,7 +1,7 @@
 //! Trees that are made of their parts, and signs behind a part. A function that reads leaves to these
 //! what it holds, so that little is held where it stops.
 
-ghost use Rattle.std.specs.Prelude.{◌≡◌, IfOk, MatchResult, [], ◌∷◌};
+ghost use Rattle.std.specs.Prelude.{◌≡◌, ◌++◌, IfOk, MatchResult, [], ◌∷◌};
 ghost use Rattle.vh_grammar.specs.declared.stop.Stop.TheVariants.{Memory};
 ghost use Rattle.vh_grammar.specs.Says.{Says};
 ghost use Rattle.vh_ast.specs.Views.{expr_tree, link_tree, name_tree};
@@ -17,7 +17,7 @@ use crate::name::{Last, Path, Stem};
 use crate::word::{At, Read};
 use sqlite_items::{Boxed, Items};
 use std::alloc::Global;
-use vh_ast::{Binary, Esel, Expr, ExprForm, Id, Link, Name, Part, Primary, Sel, Unary};
+use vh_ast::{Binary, Esel, Expr, ExprForm, Id, Link, Name, Part, Primary, Sel, Unary, only};
 use vh_base::Place;
 use vh_grammar::Stop;
 use vh_syntax::{Class, Sign};
@@ -69,9 +69,7 @@ pub(crate) fn reselected(
 pub(crate) fn one(alloc: Global, expr: Boxed<Expr>) -> Result<Items<Expr>, Stop>
     ensures { MatchResult result (λ all. all ≡ expr ∷ []) (λ stop. stop ≡ Memory) }
 {
-    let mut all = Items::new(alloc);
-    all.push(expr.into_inner())?;
-    Ok(all)
+    Ok(only(alloc, expr.into_inner())?)
 }
 
 // A name with its select.
@@ -92,6 +90,7 @@ pub(crate) fn called(
     ensures { let made = trees.called (name_tree name) (exprs_seen arguments) in
         MatchResult result (λ e. expr_tree e ≡ made) (λ stop. stop ≡ Memory) }
 {
+    let name = Boxed::new(alloc, name)?;
     Ok(Boxed::new(alloc, Expr::called(name, arguments))?)
 }
 
@@ -101,7 +100,7 @@ pub(crate) fn system(alloc: Global, id: Id, arguments: Items<Expr>) -> Result<Bo
         MatchResult result (λ e. expr_tree e ≡ made) (λ stop. stop ≡ Memory) }
 {
     let place = id.place;
-    let form = ExprForm::Primary(Primary::System(id, arguments));
+    let form = ExprForm::Primary(Primary::System(Boxed::new(alloc, id)?, arguments));
     Ok(Boxed::new(alloc, Expr { place, form })?)
 }
 
@@ -157,6 +156,22 @@ pub(crate) fn linked(operator: Binary, operand: Boxed<Expr>) -> Link<Expr>
 {
     let operand = operand.into_inner();
     Link { operator, operand }
+}
+
+// The operators so far, with one more. Most chains have one alone: its list takes room for one.
+pub(crate) fn with_link(
+    alloc: Global,
+    all: &mut Items<Link<Expr>>,
+    link: Link<Expr>,
+) -> Result<(), Stop>
+    ensures { MatchResult result (λ u. all.new ≡ all.old ++ link ∷ []) (λ stop. stop ≡ Memory) }
+{
+    if all.is_empty() {
+        *all = only(alloc, link)?;
+        return Ok(());
+    }
+    all.push(link)?;
+    Ok(())
 }
 
 // An operand, and operators of one precedence with what stands behind each.

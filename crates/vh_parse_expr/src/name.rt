@@ -78,14 +78,16 @@ impl Last {
         }
     }
 
-    // The select where there is one.
-    fn into_sel(self) -> Option<Sel<Expr>>
-        ensures { sel_tree result ≡ sel_of (last_tree self) }
+    // The select where there is one, in a box.
+    fn into_sel(self, alloc: Global) -> Result<Option<Boxed<Sel<Expr>>>, Stop>
+        ensures { MatchResult result (λ s. sel_tree s ≡ sel_of (last_tree self)) (λ stop. stop ≡ Memory) }
     {
         match self {
-            Last::Plain => None,
-            Last::Indexed(place, index) => Some(Sel::Index(place, index)),
-            Last::Closed(sel) => Some(sel),
+            Last::Plain => Ok(None),
+            Last::Indexed(place, index) => {
+                Ok(Some(Boxed::new(alloc, Sel::Index(place, index))?))
+            }
+            Last::Closed(sel) => Ok(Some(Boxed::new(alloc, sel)?)),
         }
     }
 }
@@ -148,12 +150,16 @@ impl Path {
         self.stem.into_name(alloc, self.last.into_index())
     }
 
-    /// The path as a name with a select: an index behind the last `ID` is the select's. It takes
-    /// time in the number of steps.
-    pub fn into_selected(self, alloc: Global) -> Result<(Name<Expr>, Option<Sel<Expr>>), Stop>
+    /// The path as a name with a select, each in a box: an index behind the last `ID` is the select's.
+    /// It takes time in the number of steps.
+    pub fn into_selected(
+        self,
+        alloc: Global,
+    ) -> Result<(Boxed<Name<Expr>>, Option<Boxed<Sel<Expr>>>), Stop>
         ensures { MatchResult result (λ n. IsMade n (path_tree self)) (λ stop. stop ≡ Memory) }
     {
-        let sel = self.last.into_sel();
-        Ok((self.stem.into_name(alloc, None)?, sel))
+        let sel = self.last.into_sel(alloc)?;
+        let name = self.stem.into_name(alloc, None)?;
+        Ok((Boxed::new(alloc, name)?, sel))
     }
 }

@@ -14,7 +14,7 @@ use crate::name::Path;
 use crate::word::{At, Read, sign};
 use sqlite_items::Items;
 use std::alloc::Global;
-use vh_ast::{Lv, LvPart};
+use vh_ast::{Lv, LvPart, only};
 use vh_base::Place;
 use vh_grammar::Stop;
 use vh_syntax::{Class, Sign};
@@ -112,12 +112,10 @@ fn row_rest<'t>(alloc: Global, depth: usize, calls: bool, first: Row, at: At<'t>
 fn braced_rest<'t>(alloc: Global, depth: usize, calls: bool, at: At<'t>) -> Read<'t, Items<LvPart>>
     ensures { Reads pieces_seen depth (names.braced_rest (expression calls)) at.entry result }
 {
-    let mut parts = Items::new(alloc);
-    parts.push(LvPart::Open)?;
     let first = Row {
         open: 1,
         wants: true,
-        parts,
+        parts: only(alloc, LvPart::Open)?,
     };
     let (row, rest) = row_rest(alloc, depth, calls, first, at)?;
     if row.wants || row.open > 0 {
@@ -148,9 +146,8 @@ pub fn single(alloc: Global, path: Path) -> Result<Lv, Stop>
     ensures { MatchResult result (λ l. lv_tree l ≡ names.single (path_tree path)) (λ stop. stop ≡ Memory) }
 {
     let (name, sel) = path.into_selected(alloc)?;
-    let place = name.first.id.place;
-    let mut parts = Items::new(alloc);
-    parts.push(LvPart::Name(name, sel))?;
+    let place = name.get().first.id.place;
+    let parts = only(alloc, LvPart::Name(name, sel))?;
     Ok(Lv { place, parts })
 }
 

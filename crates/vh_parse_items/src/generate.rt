@@ -20,7 +20,7 @@ use crate::region::{
 use crate::routine::{function_item, process_item, task_item};
 use sqlite_items::{Boxed, Items};
 use std::alloc::Global;
-use vh_ast::{Assigned, Expr, Gblock, Item};
+use vh_ast::{Assigned, Expr, Gblock, Item, only};
 use vh_parse_decl::in_parens;
 use vh_parse_expr::{At, Read, expression, sign, then_sign};
 use vh_parse_parts::{
@@ -343,8 +343,7 @@ fn one_item_rest<'t>(
     ensures { Reads gblock_tree depth (parts.one_item_rest (word_pair word)) at.entry result }
 {
     let place = made::place_of(word.1.get());
-    let mut items = Items::new(alloc);
-    made::with_item(&mut items, word.1)?;
+    let items = only(alloc, word.1.into_inner())?;
     let open = word.0;
     let (items, rest) = region_rest(alloc, depth, Region { open, items }, at)?;
     Ok((made::one_item(alloc, place, items)?, rest))

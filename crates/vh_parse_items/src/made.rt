@@ -43,7 +43,7 @@ pub(crate) fn task(
         locals,
         body: body.into_inner(),
     };
-    plain(alloc, place, Plain::Task(task))
+    plain(alloc, place, Plain::Task(Boxed::new(alloc, task)?))
 }
 
 // A type out of its box.
@@ -80,7 +80,7 @@ pub(crate) fn function(
         locals,
         body: body.into_inner(),
     };
-    plain(alloc, place, Plain::Function(function))
+    plain(alloc, place, Plain::Function(Boxed::new(alloc, function)?))
 }
 
 // A loop of items.
@@ -95,10 +95,10 @@ pub(crate) fn for_item(
 {
     let GenerateHead { start, test, step } = head.into_inner();
     let form = ItemForm::For {
-        start: start.into_inner(),
-        test: test.into_inner(),
-        step: step.into_inner(),
-        body: body.into_inner(),
+        start,
+        test,
+        step,
+        body,
     };
     Ok(Boxed::new(alloc, Item { place, form })?)
 }
@@ -115,20 +115,7 @@ pub(crate) fn if_item(
         let made = parts.if_of place (expr_tree test, (gblock_tree holds, others)) in
         MatchResult result (λ i. item_tree i ≡ made) (λ stop. stop ≡ Memory) }
 {
-    let test = test.into_inner();
-    let holds = holds.into_inner();
-    let form = match fails {
-        Some(other) => ItemForm::If {
-            test,
-            holds,
-            fails: Some(other.into_inner()),
-        },
-        None => ItemForm::If {
-            test,
-            holds,
-            fails: None,
-        },
-    };
+    let form = ItemForm::If { test, holds, fails };
     Ok(Boxed::new(alloc, Item { place, form })?)
 }
 
@@ -141,7 +128,7 @@ pub(crate) fn process(
     ensures { let made = parts.process_of word (stmt_tree body) in
         MatchResult result (λ i. item_tree i ≡ made) (λ stop. stop ≡ Memory) }
 {
-    plain(alloc, word.0, Plain::Process(word.1, body.into_inner()))
+    plain(alloc, word.0, Plain::Process(word.1, body))
 }
 
 // Ports out of their box.

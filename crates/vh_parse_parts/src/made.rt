@@ -39,16 +39,6 @@ pub(crate) fn ports(alloc: Global, head: PortHead, ids: Ids) -> Result<Boxed<Ite
     plain(alloc, head.place, form)
 }
 
-// A delay out of its box.
-fn unboxed(delay: Option<Boxed<Delay>>) -> Option<Delay>
-    ensures { option_map delay_tree result ≡ option_map delay_tree delay }
-{
-    match delay {
-        Some(delay) => Some(delay.into_inner()),
-        None => None,
-    }
-}
-
 // A declaration of nets.
 pub(crate) fn nets(
     alloc: Global,
@@ -62,7 +52,7 @@ pub(crate) fn nets(
     let form = Plain::Net {
         net_type: word.1,
         data_type: data_type.into_inner(),
-        delay: unboxed(all.0),
+        delay: all.0,
         nets: all.1,
     };
     plain(alloc, word.0, form)
@@ -116,7 +106,7 @@ pub(crate) fn assigns(
     ensures { let made = parts.assign_of place (option_map delay_tree delay, map set_tree sets) in
         MatchResult result (λ i. item_tree i ≡ made) (λ stop. stop ≡ Memory) }
 {
-    plain(alloc, place, Plain::Assign(unboxed(delay), sets))
+    plain(alloc, place, Plain::Assign(delay, sets))
 }
 
 // Gates of one kind.
@@ -131,7 +121,7 @@ pub(crate) fn gates(
 {
     let form = Plain::Gate {
         gate_type: word.1,
-        delay: unboxed(delay),
+        delay,
         gates,
     };
     plain(alloc, word.0, form)

@@ -15,7 +15,7 @@ ghost use Rattle.vh_parse_parts.specs.Views.{delayed_tree, nets_pair};
 
 use sqlite_items::{Boxed, Items};
 use std::alloc::Global;
-use vh_ast::{Delay, Net};
+use vh_ast::{Delay, Net, only};
 use vh_parse_decl::{Listed, bare_id, boxed_delay, further, list, value};
 use vh_parse_expr::{At, Read};
 use vh_syntax::{Class, Group, Sign};
@@ -113,11 +113,9 @@ fn delayed_row<'t>(alloc: Global, depth: usize, at: At<'t>) -> Read<'t, Delayed>
     let (delay, more) = boxed_delay(alloc, depth, at)?;
     let (net, more) = net(alloc, depth, more)?;
     let valued = is_valued(&net);
-    let mut nets = Items::new(alloc);
-    nets.push(net)?;
     let first = Delayed {
         delay,
-        nets,
+        nets: only(alloc, net)?,
         valued,
     };
     more_delayed(alloc, depth, first, more)

@@ -17,7 +17,7 @@ use crate::ids::bare_ids;
 use crate::rows::{task_direction, variable};
 use sqlite_items::{Boxed, Items};
 use std::alloc::Global;
-use vh_ast::{DataType, Id, Ids, Local, Targ, TaskDirection, Variable};
+use vh_ast::{DataType, Id, Ids, Local, Targ, TaskDirection, Variable, only};
 use vh_base::Place;
 use vh_grammar::Stop;
 use vh_parse_decl::{bare_id, declaration};
@@ -123,9 +123,7 @@ fn targ<'t>(alloc: Global, depth: usize, at: At<'t>) -> Read<'t, Targ>
 fn one_id(alloc: Global, id: Id) -> Result<Ids, Stop>
     ensures { MatchResult result (λ ids. ids ≡ id ∷ []) (λ stop. stop ≡ Memory) }
 {
-    let mut ids = Items::new(alloc);
-    ids.push(id)?;
-    Ok(ids)
+    Ok(only(alloc, id)?)
 }
 
 // `targ`, up to its first `ID`.

@@ -13,7 +13,7 @@ ghost use Rattle.vh_parse_stmt.specs.Views.{head_tree, label_tree, values_tree};
 
 use sqlite_items::{Boxed, Items};
 use std::alloc::Global;
-use vh_ast::{Decl, Event, Expr, Id, Set};
+use vh_ast::{Decl, Event, Expr, Id, Set, only};
 use vh_base::Place;
 use vh_parse_decl::{Exprs, declaration, event, further, set};
 use vh_parse_expr::{At, Read, expression, id, then_sign};
@@ -122,8 +122,7 @@ pub(crate) fn case_values<'t>(alloc: Global, depth: usize, at: At<'t>) -> Read<'
 {
     let (first, more) = expression(alloc, depth, true, at)?;
     let place = first.place;
-    let mut all = Items::new(alloc);
-    all.push(first)?;
+    let all = only(alloc, first)?;
     let (all, rest) = further::<Exprs>(alloc, depth, true, all, more)?;
     Ok((Boxed::new(alloc, Values { place, all })?, rest))
 }

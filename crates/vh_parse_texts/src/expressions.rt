@@ -107,17 +107,17 @@ fn push_bracketed<'e>(
 fn push_named<'e>(pieces: &mut Pieces<'e>, primary: &'e Primary<Expr>) -> Result<(), Fail> {
     match primary {
         Primary::Name(name, Some(sel)) => {
-            push_sel(pieces, sel)?;
-            push_name(pieces, name)
+            push_sel(pieces, sel.get())?;
+            push_name(pieces, name.get())
         }
-        Primary::Name(name, None) => push_name(pieces, name),
+        Primary::Name(name, None) => push_name(pieces, name.get()),
         Primary::Call(name, arguments) => {
             push_bracketed(pieces, "!(", arguments.as_slice(), ")")?;
-            push_name(pieces, name)
+            push_name(pieces, name.get())
         }
         Primary::System(id, arguments) => {
             push_bracketed(pieces, "(", arguments.as_slice(), ")")?;
-            pieces.push(Piece::Id(id))?;
+            pieces.push(Piece::Id(id.get()))?;
             Ok(())
         }
         _ => Ok(()),

@@ -7,7 +7,7 @@ use std::test::Fail;
 use vh_ast::{
     AssignWord, BlockWord, CaseWord, DataType, Decl, Delay, DelayValue, Edge, Ev, Event, Expr,
     ExprForm, ForceWord, Id, Init, Labels, LoopWord, Lv, LvPart, Name, Primary, Range, ReleaseWord,
-    Sel, Set, Simple, Step, Stmt, StmtForm, Var, VarPart,
+    Sel, Set, Simple, Step, Stmt, StmtForm, Var, VarPart, held,
 };
 use vh_base::Place;
 use vh_lex::Lexer;
@@ -33,7 +33,7 @@ fn push_number(line: &mut String, number: Option<u64>) -> Result<(), Fail> {
 fn push_index(line: &mut String, index: &Expr) -> Result<(), Fail> {
     match &index.form {
         ExprForm::Primary(Primary::Number(number)) => push_number(line, number.value.number()),
-        ExprForm::Primary(Primary::Name(name, None)) => push_id(line, &name.first.id),
+        ExprForm::Primary(Primary::Name(name, None)) => push_id(line, &name.get().first.id),
         _ => Ok(line.push('?')?),
     }
 }
@@ -59,8 +59,8 @@ fn push_name(line: &mut String, name: &Name<Expr>) -> Result<(), Fail> {
 }
 
 // Of a select its first index alone.
-fn push_sel(line: &mut String, sel: &Option<Sel<Expr>>) -> Result<(), Fail> {
-    match sel {
+fn push_sel(line: &mut String, sel: &Option<Boxed<Sel<Expr>>>) -> Result<(), Fail> {
+    match held(sel) {
         Some(Sel::Index(_, index)) => {
             line.push('[')?;
             push_index(line, index.get())?;
@@ -82,7 +82,7 @@ pub(crate) fn push_expr(line: &mut String, expr: &Expr) -> Result<(), Fail> {
     match &expr.form {
         ExprForm::Primary(Primary::Number(number)) => push_number(line, number.value.number()),
         ExprForm::Primary(Primary::Name(name, sel)) => {
-            push_name(line, name)?;
+            push_name(line, name.get())?;
             push_sel(line, sel)
         }
         _ => Ok(line.push('?')?),
@@ -95,7 +95,7 @@ fn push_lv(line: &mut String, lv: &Lv) -> Result<(), Fail> {
             LvPart::Open => line.push('{')?,
             LvPart::Name(name, sel) => {
                 line.push(' ')?;
-                push_name(line, name)?;
+                push_name(line, name.get())?;
                 push_sel(line, sel)?;
             }
             LvPart::Close => line.push_str(" }")?,
@@ -162,7 +162,7 @@ pub(crate) fn push_type(line: &mut String, data_type: &DataType) -> Result<(), F
         line.push_str(" signed")?;
     }
     if let Some(range) = &data_type.range {
-        push_range(line, range)?;
+        push_range(line, range.get())?;
     }
     Ok(())
 }
@@ -173,10 +173,10 @@ fn push_vars(line: &mut String, vars: &[Var]) -> Result<(), Fail> {
         push_id(line, &var.id)?;
         match &var.part {
             VarPart::Plain => {}
-            VarPart::Range(range) => push_range(line, range)?,
+            VarPart::Range(range) => push_range(line, range.get())?,
             VarPart::Value(value) => {
                 line.push_str(" = ")?;
-                push_expr(line, value)?;
+                push_expr(line, value.get())?;
             }
         }
     }
@@ -189,7 +189,7 @@ fn push_inits(line: &mut String, inits: &[Init]) -> Result<(), Fail> {
         push_id(line, &init.id)?;
         if let Some(value) = &init.value {
             line.push_str(" = ")?;
-            push_expr(line, value)?;
+            push_expr(line, value.get())?;
         }
     }
     Ok(())

@@ -43,7 +43,8 @@ fn name(alloc: Global, column: u32, text: &[u8]) -> Result<Name<Expr>, NoMemory>
 }
 
 fn named(alloc: Global, column: u32, text: &[u8]) -> Result<Expr, NoMemory> {
-    Ok(Expr::named(name(alloc, column, text)?, None))
+    let name = Boxed::new(alloc, name(alloc, column, text)?)?;
+    Ok(Expr::named(name, None))
 }
 
 fn zero(column: u32) -> Expr {
@@ -73,7 +74,13 @@ fn conditional(
 }
 
 // A block that is repeated, as contracts see it.
-fn repeated(place: Place, start: Assigned, test: Expr, step: Assigned, body: Gblock<Item>) -> Item
+fn repeated(
+    place: Place,
+    start: Boxed<Assigned>,
+    test: Boxed<Expr>,
+    step: Boxed<Assigned>,
+    body: Boxed<Gblock<Item>>,
+) -> Item
     ensures { let first = assigned_tree start in
         let next = assigned_tree step in
         let form = I.for_item first (expr_tree test) next (gblock_tree body) in
@@ -134,7 +141,8 @@ fn braced(alloc: Global, braces: u32) -> Result<Lv, NoMemory> {
     for _ in 0..braces {
         parts.push(LvPart::Open)?;
     }
-    parts.push(LvPart::Name(name(alloc, 1, b"a")?, None))?;
+    let name = Boxed::new(alloc, name(alloc, 1, b"a")?)?;
+    parts.push(LvPart::Name(name, None))?;
     for _ in 0..braces {
         parts.push(LvPart::Close)?;
     }
@@ -213,7 +221,8 @@ fn a_choice(rt: HostRuntime) -> Result<(), Fail> {
 #[test]
 fn a_call(rt: HostRuntime) -> Result<(), Fail> {
     let alloc = rt.alloc();
-    let call = Expr::called(name(alloc, 4, b"f")?, Items::new(alloc));
+    let name = Boxed::new(alloc, name(alloc, 4, b"f")?)?;
+    let call = Expr::called(name, Items::new(alloc));
     assert_eq!(rt; call.place, at(4));
     Ok(())
 }
@@ -256,18 +265,20 @@ fn branches(rt: HostRuntime) -> Result<(), Fail> {
 }
 
 // `i = 0`
-fn zeroed(alloc: Global, column: u32) -> Result<Assigned, NoMemory> {
-    Ok(Assigned {
+fn zeroed(alloc: Global, column: u32) -> Result<Boxed<Assigned>, NoMemory> {
+    let assigned = Assigned {
         id: id(alloc, column, b"i")?,
         value: zero(column),
-    })
+    };
+    Ok(Boxed::new(alloc, assigned)?)
 }
 
 #[test]
 fn a_repeated_block(rt: HostRuntime) -> Result<(), Fail> {
     let alloc = rt.alloc();
-    let body = Gblock::Item(at(30), Items::new(alloc));
-    let made = repeated(at(1), zeroed(alloc, 6)?, zero(13), zeroed(alloc, 16)?, body);
+    let test = Boxed::new(alloc, zero(13))?;
+    let body = Boxed::new(alloc, Gblock::Item(at(30), Items::new(alloc)))?;
+    let made = repeated(at(1), zeroed(alloc, 6)?, test, zeroed(alloc, 16)?, body);
     assert_eq!(rt; made.place, at(1));
     Ok(())
 }

@@ -5,7 +5,7 @@ ghost use Rattle.vh_sites.specs.Sites.{each, type_at, var_declared, var_site, in
 ghost use Rattle.vh_sites.specs.Views.{declared_seen, home_seen, sites_seen, var_type_seen};
 
 use crate::site::{Declared, Listing, Thing, VarType, add_named};
-use vh_ast::{DataType, Decl, Init, Var, VarPart};
+use vh_ast::{DataType, Decl, Init, Var, VarPart, held};
 use vh_base::NoMemory;
 use vh_ports::Ports;
 
@@ -40,8 +40,8 @@ fn var_declared<'a>(
 {
     match part {
         VarPart::Plain => Declared::Typed(Thing::Variable(None), var_type),
-        VarPart::Range(range) => Declared::Words(data_type, range),
-        VarPart::Value(value) => Declared::Typed(Thing::Variable(Some(value)), var_type),
+        VarPart::Range(range) => Declared::Words(data_type, range.get()),
+        VarPart::Value(value) => Declared::Typed(Thing::Variable(Some(value.get())), var_type),
     }
 }
 
@@ -91,7 +91,7 @@ fn add_inits<'a>(
         (sites_seen sites.old)) }
 {
     for init in inits {
-        let declared = Declared::Typed(Thing::Variable(init.value.as_ref()), var_type);
+        let declared = Declared::Typed(Thing::Variable(held(&init.value)), var_type);
         add_named(scope, &init.id, declared, sites)?;
     }
     Ok(())

@@ -12,6 +12,7 @@ use crate::decls::{add_decl, type_at};
 use crate::routines::{add_function, add_task};
 use crate::site::{CodeWord, Declared, Driven, Listing, Thing, VarType, add_named, add_site};
 use crate::stmts::add_stmt;
+use sqlite_items::Boxed;
 use std::alloc::Global;
 use vh_ast::{
     Assigned, Conn, DataType, Delay, Direction, Expr, Gate, GateType, Id, Inst, Item, ItemForm,
@@ -262,10 +263,10 @@ pub fn add_ports<'a>(
 // What a declaration assigns to its net.
 fn add_value<'a>(
     scope: u32,
-    delay: &'a Option<Delay>,
+    delay: &'a Option<Boxed<Delay>>,
     number: u32,
     id: &'a Id,
-    value: &'a Option<Expr>,
+    value: &'a Option<Boxed<Expr>>,
     sites: &mut Listing<'a>,
 ) -> Result<(), NoMemory>
     ensures { OnOk result (sites_seen sites.new ≡
@@ -275,7 +276,7 @@ fn add_value<'a>(
     match value {
         None => Ok(()),
         Some(value) => {
-            let declared = Declared::Drives(delay, Driven::Net(number), value);
+            let declared = Declared::Drives(delay, Driven::Net(number), value.get());
             add_site(scope, &[], id.place, declared, sites)
         }
     }
@@ -286,7 +287,7 @@ fn add_net<'a>(
     standing: Standing<'a, '_>,
     word: NetType,
     data_type: &'a DataType,
-    delay: &'a Option<Delay>,
+    delay: &'a Option<Boxed<Delay>>,
     net: &'a Net,
     sites: &mut Listing<'a>,
 ) -> Result<(), NoMemory>
@@ -309,7 +310,7 @@ fn add_nets<'a>(
     standing: Standing<'a, '_>,
     word: NetType,
     data_type: &'a DataType,
-    delay: &'a Option<Delay>,
+    delay: &'a Option<Boxed<Delay>>,
     nets: &'a [Net],
     sites: &mut Listing<'a>,
 ) -> Result<(), NoMemory>
@@ -327,7 +328,7 @@ fn add_nets<'a>(
 fn add_set<'a>(
     alloc: Global,
     standing: Standing<'a, '_>,
-    delay: &'a Option<Delay>,
+    delay: &'a Option<Boxed<Delay>>,
     set: &'a Set,
     sites: &mut Listing<'a>,
 ) -> Result<(), NoMemory>
@@ -345,7 +346,7 @@ fn add_set<'a>(
 fn add_sets<'a>(
     alloc: Global,
     standing: Standing<'a, '_>,
-    delay: &'a Option<Delay>,
+    delay: &'a Option<Boxed<Delay>>,
     sets: &'a [Set],
     sites: &mut Listing<'a>,
 ) -> Result<(), NoMemory>
@@ -373,7 +374,7 @@ fn add_gate<'a>(
     alloc: Global,
     standing: Standing<'a, '_>,
     word: GateType,
-    delay: &'a Option<Delay>,
+    delay: &'a Option<Boxed<Delay>>,
     gate: &'a Gate,
     sites: &mut Listing<'a>,
 ) -> Result<(), NoMemory>
@@ -398,7 +399,7 @@ fn add_gates<'a>(
     alloc: Global,
     standing: Standing<'a, '_>,
     word: GateType,
-    delay: &'a Option<Delay>,
+    delay: &'a Option<Boxed<Delay>>,
     gates: &'a [Gate],
     sites: &mut Listing<'a>,
 ) -> Result<(), NoMemory>
@@ -577,9 +578,9 @@ pub fn add_plain<'a>(
             insts.as_slice(),
             sites,
         ),
-        Plain::Process(word, stmt) => add_construct(scope, place, *word, stmt, sites),
-        Plain::Task(task) => add_task(scope, task, sites),
-        Plain::Function(function) => add_function(scope, function, sites),
+        Plain::Process(word, stmt) => add_construct(scope, place, *word, stmt.get(), sites),
+        Plain::Task(task) => add_task(scope, task.get(), sites),
+        Plain::Function(function) => add_function(scope, function.get(), sites),
     }
 }
 

@@ -3,6 +3,7 @@ ghost use Rattle.vh_sites.specs.Sites;
 ghost use Rattle.vh_sites.specs.Views.{declared_seen, name_seen, sites_seen};
 
 use crate::entries::{BlockName, BlockText};
+use sqlite_items::Boxed;
 use vh_ast::{
     BlockWord, Conn, DataType, Delay, Direction, Expr, Gate, GateType, Id, Inst, Lv, NetType,
     ParameterWord, Range, Stmt, TaskDirection,
@@ -71,9 +72,9 @@ pub enum Declared<'a> {
     Code(CodeWord, &'a Stmt),
     Block(BlockWord),
     /// A continuous assignment, with its delay if one is written (6.1).
-    Drives(&'a Option<Delay>, Driven<'a>, &'a Expr),
+    Drives(&'a Option<Boxed<Delay>>, Driven<'a>, &'a Expr),
     /// A gate, which is no object (7.1).
-    Gate(GateType, &'a Option<Delay>, &'a Gate),
+    Gate(GateType, &'a Option<Boxed<Delay>>, &'a Gate),
     /// A wire that no declaration makes (4.5).
     Wire,
     /// A generate block, with the value that a genvar has in it (12.4).

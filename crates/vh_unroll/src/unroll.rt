@@ -14,6 +14,7 @@ use crate::state::{
     take_fault, value_of,
 };
 use indexmap::IndexSet;
+use sqlite_items::Boxed;
 use std::alloc::Global;
 use vh_ast::{Assigned, Expr, Gblock, Id, Item, ItemForm};
 use vh_base::{DesignFault, NoMemory, ObjId, Place};
@@ -792,7 +793,7 @@ fn unroll_else<'a>(
     instance: Instance<'a, '_>,
     scope: u32,
     counted: BlockText<'a>,
-    fails: &'a Option<Gblock<Item>>,
+    fails: &'a Option<Boxed<Gblock<Item>>>,
     state: &mut Unrolling<'a>,
 ) -> Result<(), NoMemory>
     ensures { OnOk result (unrolling_seen state.new
@@ -802,6 +803,7 @@ fn unroll_else<'a>(
     match fails {
         None => add_choice(Choice::Neither, state),
         Some(fails) => {
+            let fails = fails.get();
             add_choice(Choice::Fails(block_word(fails, counted)), state)?;
             unroll_branch(alloc, instance, scope, fails, counted, state)
         }
@@ -861,7 +863,7 @@ fn unroll_other<'a>(
     instance: Instance<'a, '_>,
     scope: u32,
     counted: BlockText<'a>,
-    fails: &'a Option<Gblock<Item>>,
+    fails: &'a Option<Boxed<Gblock<Item>>>,
     taken: Branch,
     state: &mut Unrolling<'a>,
 ) -> Result<(), NoMemory>
@@ -900,12 +902,22 @@ fn unroll_item<'a>(
         } => {
             let place = item.place;
             unroll_for(
-                alloc, instance, scope, place, body, start, test, step, counted, state,
+                alloc,
+                instance,
+                scope,
+                place,
+                body.get(),
+                start.get(),
+                test.get(),
+                step.get(),
+                counted,
+                state,
             )
         }
         ItemForm::If { test, holds, fails } => {
+            let holds = holds.get();
             let word = block_word(holds, counted);
-            let taken = test_if(alloc, instance, scope, test, word, state)?;
+            let taken = test_if(alloc, instance, scope, test.get(), word, state)?;
             unroll_first(alloc, instance, scope, counted, holds, taken, state)?;
             unroll_other(alloc, instance, scope, counted, fails, taken, state)
         }

@@ -31,7 +31,7 @@ chain-links-smaller t c = fewer _ _ (link_less _ _ _ _ _ _ _ c.in_ok-operator.en
 
 pub chain-links-preserved : goal.chain-links-preserved
 chain-links-preserved t c =
-    rw (c.in_ok-push.ensures.ok, map-append, c.linked.ensures)
+    rw (c.in_ok-with_link.ensures, map-append, c.linked.ensures)
     (c.links.invariant ∙ links_go_on _ _ _ _ _ (tokens_seen c.links.rest.tokens.now) (tokens_seen c.in_ok-operator.behind.tokens.now) c.links.rest.mark c.in_ok-operator.behind.mark (sym c.links-test.ensures) c.in_ok-operator.ensures)
 
 pub chain-levels-preserved : goal.chain-levels-preserved
