@@ -19,9 +19,12 @@ pub(crate) fn delay_number<'t>(at: At<'t>) -> Read<'t, DelayValue>
     let [first, rest @ ..] = at.tokens else {
         return Err(at.lost());
     };
-    match first.token.kind {
+    match &first.token.kind {
         Kind::Number(value, sized) => {
-            let number = Number { value, sized };
+            let number = Number {
+                value: *value.get(),
+                sized: *sized,
+            };
             Ok((DelayValue::Number(number), at.before(rest)))
         }
         _ => Err(at.lost()),

@@ -105,10 +105,14 @@ pub(crate) fn number<'t>(alloc: Global, at: At<'t>) -> Read<'t, Boxed<Expr>>
     let [first, rest @ ..] = at.tokens else {
         return Err(at.lost());
     };
-    match first.token.kind {
+    match &first.token.kind {
         Kind::Number(value, sized) => {
             let place = first.token.place;
-            let form = ExprForm::Primary(Primary::Number(Number { value, sized }));
+            let number = Number {
+                value: *value.get(),
+                sized: *sized,
+            };
+            let form = ExprForm::Primary(Primary::Number(number));
             Ok((Boxed::new(alloc, Expr { place, form })?, at.before(rest)))
         }
         _ => Err(at.lost()),
