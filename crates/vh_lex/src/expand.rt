@@ -94,6 +94,7 @@ fn used<'a>(around: &Around<'a>, name: &[u8]) -> Result<&'a [Part], Halt>
 }
 
 // The same kind once more, which shares its name or text.
+#[inline(always)]
 fn copied_kind(alloc: Global, kind: &Kind) -> Result<Kind, NoMemory>
     ensures { IfOk result (λ copy. copy ≡ kind.now) }
 {

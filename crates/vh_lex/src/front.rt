@@ -36,6 +36,7 @@ pub(crate) fn front(alloc: Global, made: &mut Output, bytes: &[u8]) -> Result<Pi
 }
 
 // What the bytes begin with, by a first byte that is no white space and begins no word or number.
+#[inline(never)]
 fn marked(
     alloc: Global,
     made: &mut Output,

@@ -8,7 +8,7 @@ use crate::front::front;
 use crate::made::Output;
 use crate::piece::{Part, Piece};
 use std::alloc::Global;
-use vh_base::{NoMemory, Sequence};
+use vh_base::{NoMemory, Sequence, is_space};
 
 /// Within what a byte of a macro's text stands.
 #[derive(Clone, Copy, PartialEq, Eq)]
@@ -175,7 +175,11 @@ fn parts_of(alloc: Global, made: &mut Output, text: &[u8]) -> Result<Sequence<Pa
 {
     let mut parts = Vec::new(alloc);
     let mut rest = text;
-    while let Some((_, behind)) = rest.split_first() {
+    while let Some((first, behind)) = rest.split_first() {
+        if is_space(*first) {
+            rest = after(run_len(Class::Space, rest).saturating_sub(1), behind);
+            continue;
+        }
         match front(alloc, made, rest)? {
             Piece::Blank(len) => rest = after(len.saturating_sub(1), behind),
             Piece::Kept(part, len) => {

@@ -47,6 +47,7 @@ impl Output {
     }
 
     /// A token more.
+    #[inline(always)]
     pub(crate) fn push(&mut self, kind: Kind, place: Place) -> Result<(), Halt>
         ensures value { Makes (with_token kind place self.old) result self.new }
         ensures uses { self.new.uses ≡ self.old.uses }

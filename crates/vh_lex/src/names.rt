@@ -43,6 +43,7 @@ impl Names {
     }
 }
 
+#[cold]
 fn free_slots(alloc: Global) -> Result<Vec<Option<SharedBytes>>, NoMemory> {
     let mut slots = Vec::with_capacity(alloc, SLOTS)?;
     for _ in 0..SLOTS {

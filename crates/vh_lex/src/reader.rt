@@ -123,6 +123,14 @@ impl Reader {
                 return self.word(alloc, bytes);
             }
         }
+        self.piece(alloc, bytes)
+    }
+
+    // Reads the piece that the bytes begin with.
+    #[inline(never)]
+    fn piece(&mut self, alloc: Global, bytes: &[u8]) -> Result<usize, Stop>
+        ensures { Went (Spelling.piece_read (Front.front bytes.now) bytes.now self.old) result self.new }
+    {
         match front(alloc, &mut self.made, bytes)? {
             Piece::Blank(len) => Ok(len),
             Piece::Kept(part, len) => self.part_read(alloc, part, len, bytes),
@@ -202,6 +210,7 @@ impl Reader {
     }
 
     // Passes over what skipped bytes begin with; answers how many bytes that is.
+    #[inline(never)]
     fn skipped(&mut self, bytes: &[u8]) -> Result<usize, Stop>
         ensures { Went (Spelling.skipped bytes.now self.old) result self.new }
     {
