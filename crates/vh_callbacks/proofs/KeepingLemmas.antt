@@ -1,5 +1,5 @@
 -- What the registry keeps: its live and held callbacks in one map, through each change.
-use Rattle.std.proofs.Common.{◌≡◌, ◌<◌, ◌≤◌, ◌+◌, ◌-◌, ◌++◌, ℕ, List, [], ◌∷◌, length, Bool, true, false, cond, not, refl, sym, ap, subst, ◌∙◌, arith, length-append, Option, Some, None, Vec, Result, OnOk, OnErr, IfSome, IfNone}
+use Rattle.std.proofs.Common.{◌≡◌, ◌<◌, ◌≤◌, ◌+◌, ◌-◌, ◌++◌, ℕ, List, [], ◌∷◌, length, Bool, true, false, cond, not, refl, sym, ap, subst, ◌∙◌, arith, length-append, Option, Some, None, Result, OnOk, OnErr, IfSome, IfNone}
 use Rattle.std.proofs.lemmas.Bool.{eqb-true}
 use Rattle.std.proofs.lemmas.List.{append-nil}
 use Rattle.std.specs.BTreeMap.{is_at, insert_entry}
@@ -7,7 +7,6 @@ use Rattle.std.specs.Cmp.{nat_eq_equiv}
 use Rattle.std.specs.Option.{option_map, option_or}
 use Rattle.std.specs.Ordering.{nat_cmp}
 use Rattle.std.specs.Prelude.{nat_eq, is_some}
-use Rattle.std.specs.declared.alloc.Global.{Global}
 use Rattle.vh_base.specs.declared.faults.NoMemory.{NoMemory}
 use Rattle.vh_base.specs.declared.orders.Object.{Object}
 use Rattle.vh_base.specs.declared.words.Reason.{Reason}
@@ -158,7 +157,7 @@ module _ {B : Type 0} where
       apart_mark true k there = refl
       apart_mark false k there = cc
 
-  pub kept_sound : (es : List (ℕ × Kept B)) (index : List (Watch × Vec ℕ Global)) (next many : ℕ) (marks : List (List ℕ)) → IsKept es index next many marks
+  pub kept_sound : (es : List (ℕ × Kept B)) (index : List (Watch × List ℕ)) (next many : ℕ) (marks : List (List ℕ)) → IsKept es index next many marks
       → IsSound ((shown es next marks).callbacks)
   kept_sound es index next many marks kept = record {
     rise = rise_passing is_live_one 1 es next kept.rise;
@@ -170,7 +169,7 @@ module _ {B : Type 0} where
     runs = kept.runs;
   }
 
-  pub kept_marked : (es : List (ℕ × Kept B)) (index : List (Watch × Vec ℕ Global)) (next many : ℕ) (marks : List (List ℕ)) → IsKept es index next many marks
+  pub kept_marked : (es : List (ℕ × Kept B)) (index : List (Watch × List ℕ)) (next many : ℕ) (marks : List (List ℕ)) → IsKept es index next many marks
       → IsMarked (shown es next marks)
   kept_marked es index next many marks kept = record {
     sound = kept_sound es index next many marks kept;
@@ -201,7 +200,7 @@ module _ {B : Type 0} where
       subst P same (ap is_some (live_more_new 1 es next l h))
   still_by false c es next l is h there = ap is_some (live_more_other c es next l is) ∙ there
 
-  pub kept_registered : (es : List (ℕ × Kept B)) (index old : List (Watch × Vec ℕ Global)) (next many : ℕ) (marks : List (List ℕ)) (l : Live B)
+  pub kept_registered : (es : List (ℕ × Kept B)) (index old : List (Watch × List ℕ)) (next many : ℕ) (marks : List (List ℕ)) (l : Live B)
       → IsKept es old next many marks → many < 65536 → Indexes index (live_of (es ++ (next, live_kept l) ∷ []))
       → IsKept (es ++ (next, live_kept l) ∷ []) index (next + 1) (many + 1) marks
   kept_registered es index old next many marks l kept room indexed = record {
@@ -218,7 +217,7 @@ module _ {B : Type 0} where
 
   -- ---- a removal
 
-  pub kept_gone : (c : ℕ) (es fs : List (ℕ × Kept B)) (index old : List (Watch × Vec ℕ Global)) (next many : ℕ) (marks left : List (List ℕ))
+  pub kept_gone : (c : ℕ) (es fs : List (ℕ × Kept B)) (index old : List (Watch × List ℕ)) (next many : ℕ) (marks left : List (List ℕ))
       → IsKept es old next many marks → Rise 1 fs next → live_of fs ≡ without c (live_of es) → is_some (live_at c (live_of es)) ≡ true
       → ((d : ℕ) (l : Live B) → live_at d (held_among fs) ≡ Some l → is_running l ≡ true)
       → Indexes index (without c (live_of es)) → ((d : ℕ) → set_at d left ≡ without_number c (set_at d marks))
@@ -255,7 +254,7 @@ module _ {B : Type 0} where
 
   -- ---- a callback that is changed
 
-  pub kept_changed : (f : Live B → Live B) (c : ℕ) (es : List (ℕ × Kept B)) (index : List (Watch × Vec ℕ Global)) (next many : ℕ) (marks : List (List ℕ))
+  pub kept_changed : (f : Live B → Live B) (c : ℕ) (es : List (ℕ × Kept B)) (index : List (Watch × List ℕ)) (next many : ℕ) (marks : List (List ℕ))
       → IsKept es index next many marks → ((w : Watch) (l : Live B) → watches w (c, f l) ≡ watches w (c, l))
       → ((l : Live B) → live_at c (held_among es) ≡ Some l → is_running (f l) ≡ true)
       → IsKept (changed (inside f) c es) index next many marks
@@ -282,7 +281,7 @@ module _ {B : Type 0} where
   pub live_gone : (c : ℕ) (es : List (ℕ × Kept B)) (next : ℕ) → Rise 1 es next → live_at c (live_of es) ≡ None → live_of (without c es) ≡ live_of es
   live_gone c es next h none = passing_without is_live_one c es next h ∙ without_absent c (live_of es) none
 
-  pub kept_forgotten : (c : ℕ) (es : List (ℕ × Kept B)) (index : List (Watch × Vec ℕ Global)) (next many : ℕ) (marks : List (List ℕ))
+  pub kept_forgotten : (c : ℕ) (es : List (ℕ × Kept B)) (index : List (Watch × List ℕ)) (next many : ℕ) (marks : List (List ℕ))
       → IsKept es index next many marks → live_at c (live_of es) ≡ None → IsKept (without c es) index next many marks
   kept_forgotten c es index next many marks kept none =
       let live : live_of (without c es) ≡ live_of es = live_gone c es next kept.rise none in
@@ -298,7 +297,7 @@ module _ {B : Type 0} where
 
   -- ---- other sets
 
-  pub kept_marks : (es : List (ℕ × Kept B)) (index : List (Watch × Vec ℕ Global)) (next many : ℕ) (marks left : List (List ℕ))
+  pub kept_marks : (es : List (ℕ × Kept B)) (index : List (Watch × List ℕ)) (next many : ℕ) (marks left : List (List ℕ))
       → IsKept es index next many marks → ((d : ℕ) → IsSet (set_at d left))
       → ((d c : ℕ) → is_among c (set_at d left) ≡ true → is_some (live_at c (live_of es)) ≡ true)
       → IsKept es index next many left
@@ -312,7 +311,7 @@ module _ {B : Type 0} where
     indexed = kept.indexed;
   }
 
-  pub kept_taken : (depth : ℕ) (r : Option ℕ) (es : List (ℕ × Kept B)) (index : List (Watch × Vec ℕ Global)) (next many : ℕ) (marks left : List (List ℕ))
+  pub kept_taken : (depth : ℕ) (r : Option ℕ) (es : List (ℕ × Kept B)) (index : List (Watch × List ℕ)) (next many : ℕ) (marks left : List (List ℕ))
       → IfSome r (λ c. (d : ℕ) → set_at d left ≡ cond (nat_eq d depth) (without_number c (set_at d marks)) (set_at d marks))
       → IfNone r ((d : ℕ) → set_at d left ≡ set_at d marks)
       → IsKept es index next many marks → IsKept es index next many left
@@ -322,7 +321,7 @@ module _ {B : Type 0} where
       (λ d. taken_sets IsSet depth r marks left set_without some none d (kept.sets d))
       (λ d. taken_sets P depth r marks left (λ c xs p e among. p e (among_less e c xs among).0) some none d (kept.live d))
 
-  pub kept_filled : (depth : ℕ) (r : Result (Unit {0}) NoMemory) (numbers : List ℕ) (es : List (ℕ × Kept B)) (index : List (Watch × Vec ℕ Global)) (next many : ℕ) (marks left : List (List ℕ))
+  pub kept_filled : (depth : ℕ) (r : Result (Unit {0}) NoMemory) (numbers : List ℕ) (es : List (ℕ × Kept B)) (index : List (Watch × List ℕ)) (next many : ℕ) (marks left : List (List ℕ))
       → IsSet numbers → ((c : ℕ) → is_among c numbers ≡ true → is_some (live_at c (live_of es)) ≡ true)
       → OnOk r ((d : ℕ) → set_at d left ≡ cond (nat_eq d depth) numbers (set_at d marks))
       → OnErr r ((d : ℕ) → set_at d left ≡ set_at d marks)
@@ -339,7 +338,7 @@ module _ {B : Type 0} where
   some_told reason object (Some l) is = refl
 
   -- The matching numbers are a set of live ones.
-  pub matching_set : (reason : Reason) (object : Option Object) (es : List (ℕ × Kept B)) (index : List (Watch × Vec ℕ Global)) (next many : ℕ) (marks : List (List ℕ))
+  pub matching_set : (reason : Reason) (object : Option Object) (es : List (ℕ × Kept B)) (index : List (Watch × List ℕ)) (next many : ℕ) (marks : List (List ℕ))
       → IsKept es index next many marks → IsSet (numbers_of reason object (live_of es))
   matching_set reason object es index next many marks kept = record {
     rising = rising_all reason object next (live_of es) (rise_passing is_live_one 1 es next kept.rise);

@@ -1,10 +1,14 @@
 -- Sets of numbers: what is left without one of them, and the sets by depth.
-use Rattle.std.proofs.Common.{◌≡◌, ◌<◌, ◌≤◌, ◌+◌, ℕ, zero, suc, List, [], ◌∷◌, length, Bool, true, false, not, cond, nat_eq, Option, Some, None, IsSome, OnSome, IfSome, IfNone, OnOk, OnErr, Result, Ok, Err, slice_get, refl, ap, subst, sym, ◌∙◌, arith, ◌||◌, ⊎_elim}
+use Rattle.std.proofs.Common.{◌≡◌, ◌<◌, ◌≤◌, ◌+◌, ℕ, zero, suc, List, [], ◌∷◌, length, get_or, Bool, true, false, not, cond, nat_eq, Option, Some, None, IsSome, OnSome, IfSome, IfNone, OnOk, OnErr, Result, Ok, Err, slice_get, refl, ap, subst, sym, ◌∙◌, arith, ◌||◌, ⊎_elim}
 use Rattle.std.specs.List.{remove}
+use Rattle.std.specs.List.Sorted.{IsBinarySearchResult}
+use Rattle.std.specs.Ordering.{nat_cmp}
+use Rattle.std.specs.Result.{MatchResult}
 use Rattle.vh_base.specs.declared.faults.NoMemory.{NoMemory}
 use Rattle.std.specs.Prelude.{unwrap_or, nat_lt}
 use Rattle.std.proofs.lemmas.Bool.{ne_eqb, eq-eqb, eqb-true, lt-ltb, le-ltb, or_parts, cases_lt, cases_eq}
-use Rattle.std.proofs.lemmas.Option.{slice_get_past}
+use Rattle.std.proofs.lemmas.List.Sorted.{searched}
+use Rattle.std.proofs.lemmas.Option.{slice_get_past, slice_get-get_or}
 use Rattle.vh_callbacks.specs.Callbacks.{IsRising}
 use Rattle.vh_callbacks.specs.Marks.{without_number, is_among, set_at, IsSet}
 use Rattle.vh_callbacks.proofs.CallbacksLemmas.{from_lower}
@@ -61,6 +65,37 @@ removed_is low (n ∷ ns) (suc k) c rising is =
     let later : n + 1 ≤ c = above (n + 1) ns k c rising.1 is in
     let apart : nat_eq n c ≡ false = ne_eqb n c (λ same. omega arith) in
     rw apart (ap (λ (ms : List ℕ). n ∷ ms) (removed_is (n + 1) ns k c rising.1 is))
+
+-- Rising numbers don't fall.
+pub never_fall : (low : ℕ) (ns : List ℕ) → IsRising low ns → (i j : ℕ) → i ≤ j → j < length ns → get_or ns i 0 ≤ get_or ns j 0
+never_fall low [] rising i j le within = absurd (omega arith)
+never_fall low (n ∷ ns) rising zero zero le within = omega arith
+never_fall low (n ∷ ns) rising zero (suc j) le within =
+    let h : n + 1 ≤ get_or ns j 0 = above (n + 1) ns j (get_or ns j 0) rising.1 (slice_get-get_or ns j 0 (omega arith)) in omega arith
+never_fall low (n ∷ ns) rising (suc i) zero le within = absurd (omega arith)
+never_fall low (n ∷ ns) rising (suc i) (suc j) le within = never_fall (n + 1) ns rising.1 i j (omega arith) (omega arith)
+
+-- A number that is at no place leaves the list.
+nowhere : (c : ℕ) (ns : List ℕ) → ((k : ℕ) → k < length ns → get_or ns k 0 ≡ c → ⊥) → without_number c ns ≡ ns
+nowhere c [] never = refl
+nowhere c (n ∷ ns) never =
+    let apart : nat_eq n c ≡ false = ne_eqb n c (never 0 (omega arith)) in
+    rw apart (ap (λ (ms : List ℕ). n ∷ ms) (nowhere c ns (λ k within. never (suc k) (omega arith))))
+
+-- What a search for a number says of the list without it: it is at that place, or nowhere.
+pub searched_is : (c : ℕ) (ns : List ℕ) (r : Result ℕ ℕ) → IsRising 0 ns → IsBinarySearchResult (λ n. nat_cmp n c) ns r
+    → MatchResult r (λ k. remove ns k ≡ without_number c ns) (λ k. ns ≡ without_number c ns)
+searched_is c ns (Ok k) rising ended =
+    let at = searched ns c (Ok k) ended (never_fall 0 ns rising) in
+    removed_is 0 ns k c rising (slice_get-get_or ns k 0 at.0 ∙ ap (λ (n : ℕ). Some n) at.1)
+searched_is c ns (Err k) rising ended =
+    let apart = searched ns c (Err k) ended (never_fall 0 ns rising) in
+    sym (nowhere c ns
+    (λ i within same.
+    ⊎_elim
+    (λ (before : i < k). let less = apart.1 i before in omega arith)
+    (λ (after : k ≤ i). let more = apart.2 i after within in omega arith)
+    (cases_lt i k)))
 
 -- What holds where there is a result, where there is one.
 pub where_some : {X : Type 0} (r : Option X) (P : Type 0) → OnSome r P → IsSome r → P
@@ -148,6 +183,16 @@ pub filled_sets : (P : List ℕ → Type 0) (depth : ℕ) (r : Result (Unit {0})
     → (d : ℕ) → P (set_at d marks) → P (set_at d left)
 filled_sets P depth (Err e) numbers marks left new ok err d p = subst P (sym (err d)) p
 filled_sets P depth (Ok u) numbers marks left new ok err d p = subst P (sym (ok d)) (set_by P (nat_eq d depth) numbers (set_at d marks) new p)
+
+stays_by : (b : Bool) (depth d : ℕ) (numbers : List ℕ) (marks : List (List ℕ)) → nat_eq d depth ≡ b → numbers ≡ [] → set_at depth marks ≡ []
+    → set_at d marks ≡ cond b numbers (set_at d marks)
+stays_by true depth d numbers marks is none empty = ap (λ (k : ℕ). set_at k marks) (eqb-true d depth is) ∙ empty ∙ sym none
+stays_by false depth d numbers marks is none empty = refl
+
+-- An empty set that gets no number stays.
+pub empty_stays : (depth d : ℕ) (numbers : List ℕ) (marks : List (List ℕ)) → numbers ≡ [] → set_at depth marks ≡ []
+    → set_at d marks ≡ cond (nat_eq d depth) numbers (set_at d marks)
+empty_stays depth d numbers marks none empty = stays_by (nat_eq d depth) depth d numbers marks refl none empty
 
 -- ---- a number that is taken out of set after set
 

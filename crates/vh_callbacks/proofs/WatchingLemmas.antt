@@ -1,25 +1,25 @@
 -- What the index keeps beside the callbacks, through a registration and a removal.
-use Rattle.std.proofs.Common.{◌≡◌, ◌+◌, ◌++◌, ℕ, List, [], ◌∷◌, map, filter, length, Bool, true, false, cond, not, refl, sym, ap, ◌∙◌, arith, slice_get, Option, Some, None, Vec, Less, Equal, Greater}
+use Rattle.std.proofs.Common.{◌≡◌, ◌<◌, ◌≤◌, ◌+◌, ◌++◌, ℕ, List, [], ◌∷◌, map, filter, length, Bool, true, false, cond, not, refl, sym, ap, ◌∙◌, arith, slice_get, Option, Some, None, Less, Equal, Greater}
 use Rattle.std.proofs.lemmas.Bool.{eqb-true, ne_eqb, eq-eqb, and_parts}
 use Rattle.std.proofs.lemmas.List.{append-nil}
 use Rattle.std.proofs.lemmas.List.Elements.{filter-append}
 use Rattle.std.specs.BTreeMap.{is_at}
 use Rattle.std.specs.Cmp.{nat_eq_equiv}
 use Rattle.std.specs.Map.{lookup, set_value}
-use Rattle.std.specs.Option.{option_cmp, option_map}
+use Rattle.std.specs.Option.{option_cmp}
 use Rattle.std.specs.Ordering.{nat_cmp, is_eq, ordering_then}
-use Rattle.std.specs.declared.alloc.Global.{Global}
 use Rattle.std.specs.declared.cmp.Ordering.{Ordering}
 use Rattle.std.specs.Prelude.{nat_eq, ◌&&◌, is_some}
+use Rattle.vh_base.specs.declared.limits.TheConstants.{MOST_CALLBACKS}
 use Rattle.vh_base.specs.declared.orders.Object.{Object}
 use Rattle.vh_base.specs.declared.words.Reason.{Reason}
 use Rattle.vh_callbacks.specs.declared.index.Watch.{Watch}
 use Rattle.vh_callbacks.specs.declared.live.Live.{Live}
 use Rattle.vh_callbacks.specs.Registration.{same_word, same_reason, same_object}
-use Rattle.vh_callbacks.specs.Callbacks.{Rise, live_at, without, changed, changed_by, has_reason, numbers_of, any_of}
+use Rattle.vh_callbacks.specs.Callbacks.{Rise, IsRising, live_at, without, changed, changed_by, has_reason, numbers_of, any_of}
 use Rattle.vh_callbacks.specs.Watching.{watch, watch_cmp, watches, watchers, listed, list_under, numbers_under, if_any, Indexes}
-use Rattle.vh_callbacks.specs.Marks.{without_number}
-use Rattle.vh_callbacks.proofs.CallbacksLemmas.{at_eq, live_below, live_above, some}
+use Rattle.vh_callbacks.specs.Marks.{without_number, IsSet}
+use Rattle.vh_callbacks.proofs.CallbacksLemmas.{from_lower, at_eq, live_below, live_above, some}
 
 -- ---- when two watch the same
 
@@ -92,23 +92,16 @@ watch_exact a b same =
 -- ---- what a change of the index at one place does everywhere
 
 abbrev pub Entries : Type 0
-Entries = List (Watch × Vec ℕ Global)
+Entries = List (Watch × List ℕ)
 
 -- The index has w under k, and elsewhere what it had.
-abbrev pub ChangesAt : Watch → Entries → Entries → Option (Vec ℕ Global) → Type 0
+abbrev pub ChangesAt : Watch → Entries → Entries → Option (List ℕ) → Type 0
 ChangesAt k old new w = (q : Watch) → lookup (is_at (watch_cmp q)) new ≡ cond (is_at (watch_cmp k) q) w (lookup (is_at (watch_cmp q)) old)
 
-abbrev pub items_of : Option (Vec ℕ Global) → Option (List ℕ)
-items_of = option_map (λ v. v.items)
-
-list_head : (b : Bool) (w old : Option (Vec ℕ Global)) (o : Option (List ℕ)) → items_of w ≡ o → items_of (cond b w old) ≡ cond b o (items_of old)
-list_head true w old o is = is
-list_head false w old o is = refl
-
--- So it has the list of that under k, and elsewhere the list that it had.
-pub list_changed : (k : Watch) (old new : Entries) (w : Option (Vec ℕ Global)) (o : Option (List ℕ)) → ChangesAt k old new w → items_of w ≡ o
+-- So it has what that is.
+pub list_changed : (k : Watch) (old new : Entries) (w o : Option (List ℕ)) → ChangesAt k old new w → w ≡ o
     → (q : Watch) → list_under q new ≡ cond (is_at (watch_cmp k) q) o (list_under q old)
-list_changed k old new w o upd is q = ap items_of (upd q) ∙ list_head (is_at (watch_cmp k) q) w (lookup (is_at (watch_cmp q)) old) o is
+list_changed k old new w o upd is q = upd q ∙ ap (λ (p : Option (List ℕ)). cond (is_at (watch_cmp k) q) p (list_under q old)) is
 
 same_head : (k q : Watch) (old : Entries) (o : Option (List ℕ)) (b : Bool) → is_at (watch_cmp k) q ≡ b → list_under k old ≡ o
     → list_under q old ≡ cond b o (list_under q old)
@@ -269,8 +262,33 @@ module _ {B : Type 0} where
 
   -- ---- the index beside the callbacks
 
-  numbers_are : (es : List (ℕ × Live B)) (index : Entries) → Indexes index es → (w : Watch) → numbers_under w index ≡ watchers w es
+  pub numbers_are : (es : List (ℕ × Live B)) (index : Entries) → Indexes index es → (w : Watch) → numbers_under w index ≡ watchers w es
   numbers_are es index indexed w = ap listed (indexed w) ∙ listed_any (watchers w es)
+
+  end_by : (b : Bool) (low n : ℕ) (e : ℕ × Live B) (rest : List (ℕ × Live B)) → low ≤ e.0
+      → IsRising (e.0 + 1) (map (λ (f : ℕ × Live B). f.0) rest ++ n ∷ []) → IsRising low (kept b e rest ++ n ∷ [])
+  end_by true low n e rest above rising = (above, rising)
+  end_by false low n e rest above rising = from_lower (e.0 + 1) low (map (λ (f : ℕ × Live B). f.0) rest ++ n ∷ []) (omega arith) rising
+
+  rising_end : (w : Watch) (low n : ℕ) (es : List (ℕ × Live B)) → Rise low es n → IsRising low (watchers w es ++ n ∷ [])
+  rising_end w low n [] rise = (rise, tt)
+  rising_end w low n (e ∷ es) rise = end_by (watches w e) low n e (filter (watches w) es) rise.0 (rising_end w (e.0 + 1) n es rise.1)
+
+  few_end_by : (b : Bool) (n : ℕ) (e : ℕ × Live B) (es rest : List (ℕ × Live B))
+      → length (map (λ (f : ℕ × Live B). f.0) rest ++ n ∷ []) ≤ length es + 1 → length (kept b e rest ++ n ∷ []) ≤ length (e ∷ es) + 1
+  few_end_by true n e es rest few = omega arith
+  few_end_by false n e es rest few = omega arith
+
+  few_end : (w : Watch) (n : ℕ) (es : List (ℕ × Live B)) → length (watchers w es ++ n ∷ []) ≤ length es + 1
+  few_end w n [] = omega arith
+  few_end w n (e ∷ es) = few_end_by (watches w e) n e es (filter (watches w) es) (few_end w n es)
+
+  -- Those that watch this, with a number above all, are a set where one more may be live.
+  pub set_end : (w : Watch) (n : ℕ) (es : List (ℕ × Live B)) → Rise 1 es n → length es < MOST_CALLBACKS → IsSet (watchers w es ++ n ∷ [])
+  set_end w n es rise room = record {
+    rising = from_lower 1 0 (watchers w es ++ n ∷ []) (omega arith) (rising_end w 1 n es rise);
+    few = (let few = few_end w n es in omega arith);
+  }
 
   more_head : (k q : Watch) (n : ℕ) (l : Live B) (b : Bool) (es : List (ℕ × Live B)) (old : Entries) (after : Option (List ℕ))
       → k ≡ watch l.registration.reason l.registration.object → is_at (watch_cmp k) q ≡ b → Indexes old es

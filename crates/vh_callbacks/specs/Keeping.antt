@@ -1,8 +1,7 @@
 -- How the callbacks and the sets stand in what the registry keeps: live and held callbacks in one map, each
 -- with the mark whether it is live. (own)
-use Rattle.std.specs.Prelude.{◌≡◌, ◌≤◌, ℕ, List, [], ◌∷◌, length, Bool, true, false, if◌then◌else◌, not, Option, Some, None, is_some, Vec}
+use Rattle.std.specs.Prelude.{◌≡◌, ◌≤◌, ℕ, List, [], ◌∷◌, length, Bool, true, false, if◌then◌else◌, not, Option, Some, None, is_some}
 use Rattle.std.specs.Option.{option_map}
-use Rattle.std.specs.declared.alloc.Global.{Global}
 use Rattle.vh_base.specs.declared.limits.TheConstants.{MOST_CALLBACKS}
 use Rattle.vh_callbacks.specs.declared.index.Watch.{Watch}
 use Rattle.vh_callbacks.specs.declared.live.Kept.{Kept}
@@ -71,7 +70,7 @@ module _ {B : Type 0} where
 
   -- What is kept: numbers rise and are below the next one; so many are live; of each that is held an
   -- activation runs; each set is one of live numbers; and the index is that of the live ones.
-  pub record IsKept (es : List (ℕ × Kept B)) (index : List (Watch × Vec ℕ Global)) (next many : ℕ) (marks : List (List ℕ)) : Type 0 where
+  pub record IsKept (es : List (ℕ × Kept B)) (index : List (Watch × List ℕ)) (next many : ℕ) (marks : List (List ℕ)) : Type 0 where
     pub rise : Rise 1 es next
     pub count : many ≡ length (live_of es)
     pub few : many ≤ MOST_CALLBACKS

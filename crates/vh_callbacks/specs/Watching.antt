@@ -1,11 +1,10 @@
 -- The live callbacks by what they watch: the index that the registry keeps beside them. (own)
-use Rattle.std.specs.Prelude.{◌≡◌, ℕ, List, [], ◌∷◌, map, filter, Bool, true, false, Option, Some, None, Vec}
+use Rattle.std.specs.Prelude.{◌≡◌, ℕ, List, [], ◌∷◌, map, filter, Bool, true, false, Option, Some, None}
 use Rattle.std.specs.BTreeMap.{is_at}
 use Rattle.std.specs.Map.{lookup}
-use Rattle.std.specs.Option.{option_cmp, option_map}
+use Rattle.std.specs.Option.{option_cmp}
 use Rattle.std.specs.Ordering.{nat_cmp, ordering_then}
 use Rattle.std.specs.declared.cmp.Ordering.{Ordering}
-use Rattle.std.specs.declared.alloc.Global.{Global}
 use Rattle.vh_base.specs.declared.orders.Object.{Object}
 use Rattle.vh_base.specs.declared.words.Reason.{Reason}
 use Rattle.vh_callbacks.specs.declared.index.Watch.{Watch}
@@ -22,8 +21,8 @@ abbrev pub watch_cmp : Watch → Watch → Ordering
 watch_cmp a b = ordering_then (nat_cmp a.reason b.reason) (ordering_then (option_cmp nat_cmp a.object b.object) (option_cmp nat_cmp a.word b.word))
 
 -- The list that an index has under what is watched, if it has one.
-abbrev pub list_under : Watch → List (Watch × Vec ℕ Global) → Option (List ℕ)
-list_under w index = option_map (λ v. v.items) (lookup (is_at (watch_cmp w)) index)
+abbrev pub list_under : Watch → List (Watch × List ℕ) → Option (List ℕ)
+list_under w index = lookup (is_at (watch_cmp w)) index
 
 -- The numbers of a list that may be missing.
 abbrev pub listed : Option (List ℕ) → List ℕ
@@ -31,7 +30,7 @@ listed None = []
 listed (Some ns) = ns
 
 -- The numbers that an index has under what is watched.
-abbrev pub numbers_under : Watch → List (Watch × Vec ℕ Global) → List ℕ
+abbrev pub numbers_under : Watch → List (Watch × List ℕ) → List ℕ
 numbers_under w index = listed (list_under w index)
 
 -- A list, if it has a number.
@@ -56,5 +55,5 @@ module _ {B : Type 0} where
 
   -- Whatever is watched, the index has the list of exactly these under it where there are some, and
   -- none where there are none.
-  abbrev pub Indexes : List (Watch × Vec ℕ Global) → List (ℕ × Live B) → Type 0
+  abbrev pub Indexes : List (Watch × List ℕ) → List (ℕ × Live B) → Type 0
   Indexes index es = (w : Watch) → list_under w index ≡ if_any (watchers w es)

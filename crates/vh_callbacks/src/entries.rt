@@ -1,4 +1,4 @@
-ghost use Rattle.std.specs.Prelude.{◌≡◌, ◌<◌, ◌++◌, ◌∷◌, [], true, is_some, Some, if◌then◌else◌, IfErr, OnOk, OnErr};
+ghost use Rattle.std.specs.Prelude.{◌≡◌, ◌<◌, ◌++◌, ◌∷◌, [], length, true, is_some, Some, if◌then◌else◌, IfErr, OnOk, OnErr};
 ghost use Rattle.std.specs.Option.{option_copied, option_map};
 ghost use Rattle.vh_callbacks.specs.Callbacks.{live_at, without, changed, one_more, one_less, with_data, Rise};
 ghost use Rattle.vh_callbacks.specs.Keeping.{inside, live_of, unmarked, only, is_live_one, watched_by, is_running_one, is_last_one, activations_in};
@@ -8,7 +8,7 @@ use crate::index::{Index, Watch, add, take, watch_of};
 use crate::live::{Kept, Live};
 use std::alloc::Global;
 use std::collections::BTreeMap;
-use vh_base::{CbNumber, MOST_FRAMES, NoMemory};
+use vh_base::{CbNumber, MOST_CALLBACKS, MOST_FRAMES, NoMemory};
 
 /// The live and held callbacks by number.
 pub(crate) type Entries<B> = BTreeMap<u64, Kept<B>, Global>;
@@ -22,6 +22,7 @@ pub(crate) fn put<B: Drop>(
     live: Live<B>,
 ) -> Result<(), Live<B>>
     requires rising { Rise 1 entries.old.entries number }
+    requires few { length (live_of entries.old.entries) < MOST_CALLBACKS }
     requires indexed { Indexes index.old.entries (live_of entries.old.entries) }
     ensures ok { OnOk result (entries.new.entries
         ≡ entries.old.entries ++ (number, record { callback = live; is_live = true }) ∷ []) }

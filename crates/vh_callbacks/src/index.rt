@@ -1,9 +1,10 @@
 ghost use Rattle.std.specs.Prelude.{◌≡◌, ◌++◌, ◌∷◌, ◌==◌, [], if◌then◌else◌, true, not, length, is_some, Some, OnOk, OnErr};
-ghost use Rattle.std.specs.Option.{option_map};
+ghost use Rattle.std.specs.Option.{option_copied, option_map};
 ghost use Rattle.std.specs.BTreeMap.{is_at, get};
 ghost use Rattle.vh_callbacks.specs.Watching.{watch, watch_cmp, list_under, numbers_under, if_any, is_empty_list};
-ghost use Rattle.vh_callbacks.specs.Marks.{without_number};
+ghost use Rattle.vh_callbacks.specs.Marks.{without_number, IsSet};
 
+use crate::numbers::Numbers;
 use std::alloc::Global;
 use std::collections::BTreeMap;
 use vh_base::{CbNumber, NoMemory, Object, Reason};
@@ -17,8 +18,8 @@ pub(crate) struct Watch {
     pub(crate) word: Option<u32>,
 }
 
-/// The live callbacks by what they watch, each list by rising number and none without a number.
-pub(crate) type Index = BTreeMap<Watch, Vec<CbNumber>, Global>;
+/// The live callbacks by what they watch, and nothing without a callback.
+pub(crate) type Index = BTreeMap<Watch, Numbers, Global>;
 
 /// What a callback with this reason and this object watches.
 pub(crate) fn watch_of(reason: Reason, object: &Option<Object>) -> Watch
@@ -39,13 +40,14 @@ pub(crate) fn watch_of(reason: Reason, object: &Option<Object>) -> Watch
     }
 }
 
-/// Puts a number at the end of those that watch this.
+/// Puts a number that is above all others at the end of those that watch this.
 pub(crate) fn add(
     alloc: Global,
     index: &mut Index,
     w: Watch,
     number: CbNumber,
 ) -> Result<(), NoMemory>
+    requires { IsSet (numbers_under w index.old.entries ++ number ∷ []) }
     ensures ok { OnOk result ((q : Watch) → list_under q index.new.entries
         ≡ (if is_at (watch_cmp w) q then Some (numbers_under w index.old.entries ++ number ∷ [])
         else list_under q index.old.entries)) }
@@ -55,7 +57,7 @@ pub(crate) fn add(
     if index.contains_key(&w) {
         return push_at(index, w, number);
     }
-    let mut numbers = Vec::new(alloc);
+    let mut numbers = Numbers::new(alloc);
     numbers.push(number)?;
     index.insert(w, numbers)?;
     Ok(())
@@ -63,7 +65,8 @@ pub(crate) fn add(
 
 // Puts a number at the end of those that watch this, of which there are some.
 fn push_at(index: &mut Index, w: Watch, number: CbNumber) -> Result<(), NoMemory>
-    requires { is_some (get watch_cmp index.old w) ≡ true }
+    requires there { is_some (get watch_cmp index.old w) ≡ true }
+    requires set { IsSet (numbers_under w index.old.entries ++ number ∷ []) }
     ensures ok { OnOk result ((q : Watch) → list_under q index.new.entries
         ≡ (if is_at (watch_cmp w) q then Some (numbers_under w index.old.entries ++ number ∷ [])
         else list_under q index.old.entries)) }
@@ -77,7 +80,7 @@ fn push_at(index: &mut Index, w: Watch, number: CbNumber) -> Result<(), NoMemory
     Ok(())
 }
 
-/// Takes a number out of those that watch this, and their list where none are left. It walks these.
+/// Takes a number out of those that watch this, and their list where none are left.
 pub(crate) fn take(index: &mut Index, w: Watch, number: CbNumber)
     ensures { (q : Watch) → list_under q index.new.entries
         ≡ (if is_at (watch_cmp w) q
@@ -102,30 +105,23 @@ fn drop_at(index: &mut Index, w: Watch, number: CbNumber) -> bool
     let Some(numbers) = index.get_mut(&w) else {
         return false;
     };
-    drop_number(numbers, number);
+    numbers.drop_number(number);
     numbers.is_empty()
 }
 
-// Takes a number out.
-fn drop_number(numbers: &mut Vec<CbNumber>, number: CbNumber)
-    ensures { numbers.new.items ≡ without_number number numbers.old.items }
+/// The numbers of those that watch this; none where nobody does.
+pub(crate) fn numbers_for<'a>(index: &'a Index, w: Watch) -> Option<&'a Numbers>
+    ensures { option_copied result ≡ list_under w index.now.entries }
 {
-    numbers.retain(|n| n.number() != number.number());
-}
-
-/// The numbers of those that watch this, by rising number.
-pub(crate) fn numbers_for<'a>(index: &'a Index, w: Watch) -> &'a [CbNumber]
-    ensures { result.now ≡ numbers_under w index.now.entries }
-{
-    match index.get(&w) {
-        Some(numbers) => numbers.as_slice(),
-        None => &[],
-    }
+    index.get(&w)
 }
 
 /// Is there one that watches this?
 pub(crate) fn is_watched(index: &Index, w: Watch) -> bool
     ensures { result ≡ not (length (numbers_under w index.now.entries) == 0) }
 {
-    !numbers_for(index, w).is_empty()
+    match numbers_for(index, w) {
+        Some(numbers) => !numbers.is_empty(),
+        None => false,
+    }
 }

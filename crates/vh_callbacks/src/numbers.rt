@@ -1,4 +1,4 @@
-ghost use Rattle.std.specs.Prelude.{◌≡◌, ℕ, List, [], length, slice_get, IfSome, IfNone, OnOk, OnErr};
+ghost use Rattle.std.specs.Prelude.{◌≡◌, ◌==◌, ◌++◌, ◌∷◌, ℕ, List, [], length, slice_get, IfSome, IfNone, OnOk, OnErr};
 ghost use Rattle.vh_callbacks.specs.Marks.{IsSet, without_number};
 
 use std::alloc::Global;
@@ -38,14 +38,30 @@ impl Numbers {
         self.items.len()
     }
 
-    /// Puts these numbers, which rise, into the empty set. It keeps what room the set has.
-    pub(crate) fn fill(&mut self, numbers: &[CbNumber]) -> Result<(), NoMemory>
-        requires empty { self.old ≡ [] }
-        requires set { IsSet numbers.now }
+    /// Is there none?
+    pub(crate) fn is_empty(&self) -> bool
+        ensures { result ≡ (length self.now == 0) }
+    {
+        self.items.is_empty()
+    }
+
+    /// Puts a number that is above all others at the end.
+    pub(crate) fn push(&mut self, c: CbNumber) -> Result<(), NoMemory>
+        requires { IsSet (self.old ++ c ∷ []) }
+        ensures ok { OnOk result (self.new ≡ self.old ++ c ∷ []) }
+        ensures kept { OnErr result (self.new ≡ self.old) }
+    {
+        self.items.push_back(c)?;
+        Ok(())
+    }
+
+    /// Puts the numbers of another set into the empty set. It keeps what room the set has.
+    pub(crate) fn fill(&mut self, numbers: &Numbers) -> Result<(), NoMemory>
+        requires { self.old ≡ [] }
         ensures ok { OnOk result (self.new ≡ numbers.now) }
         ensures kept { OnErr result (self.new ≡ self.old) }
     {
-        put_all(&mut self.items, numbers)?;
+        put_all(&mut self.items, &numbers.items)?;
         Ok(())
     }
 
@@ -67,8 +83,9 @@ impl Numbers {
     pub(crate) fn drop_number(&mut self, c: CbNumber)
         ensures { self.new ≡ without_number c self.old }
     {
-        let number = c.number();
-        self.items.retain(|other| other.number() != number);
+        if let Ok(at) = self.items.binary_search(&c) {
+            let _ = self.items.remove(at);
+        }
     }
 
     /// Takes all out. The set keeps its room.
@@ -80,9 +97,9 @@ impl Numbers {
 }
 
 // Puts numbers at the end of none.
-fn put_all(items: &mut VecDeque<CbNumber>, numbers: &[CbNumber]) -> Result<(), NoMemory>
+fn put_all(items: &mut VecDeque<CbNumber>, numbers: &VecDeque<CbNumber>) -> Result<(), NoMemory>
     requires { items.old.items ≡ [] }
-    ensures ok { OnOk result (items.new.items ≡ numbers.now) }
+    ensures ok { OnOk result (items.new.items ≡ numbers.now.items) }
     ensures kept { OnErr result (items.new.items ≡ []) }
 {
     items.reserve(numbers.len())?;

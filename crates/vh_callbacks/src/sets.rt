@@ -1,4 +1,4 @@
-ghost use Rattle.std.specs.Prelude.{◌≡◌, ◌==◌, ◌<◌, ◌+◌, ℕ, [], if◌then◌else◌, length, slice_get, IfSome, IfNone, OnOk, OnErr};
+ghost use Rattle.std.specs.Prelude.{◌≡◌, ◌==◌, ◌<◌, ◌+◌, ℕ, [], ◌∷◌, if◌then◌else◌, length, slice_get, IfSome, IfNone, OnOk, OnErr};
 ghost use Rattle.vh_callbacks.specs.Marks.{set_at, without_number, IsSet};
 
 use crate::numbers::Numbers;
@@ -19,16 +19,15 @@ pub(crate) fn count_at(sets: &Sets, depth: usize) -> usize
     }
 }
 
-/// Puts these numbers, which rise, into the empty set of this depth.
+/// Puts these numbers into the empty set of this depth.
 pub(crate) fn fill_at(
     alloc: Global,
     sets: &mut Sets,
     depth: usize,
-    numbers: &[CbNumber],
+    numbers: &Numbers,
 ) -> Result<(), NoMemory>
     requires few { depth < MOST_FRAMES }
     requires empty { set_at depth sets.old.items ≡ [] }
-    requires set { IsSet numbers.now }
     ensures ok { OnOk result ((d : ℕ) → set_at d sets.new.items
         ≡ (if d == depth then numbers.now else set_at d sets.old.items)) }
     ensures kept { OnErr result ((d : ℕ) → set_at d sets.new.items ≡ set_at d sets.old.items) }
@@ -50,16 +49,45 @@ fn make_room(alloc: Global, sets: &mut Sets, depth: usize) -> Result<(), NoMemor
 }
 
 // Puts numbers into the empty set of this depth, which is there.
-fn fill_one(sets: &mut Sets, depth: usize, numbers: &[CbNumber]) -> Result<(), NoMemory>
+fn fill_one(sets: &mut Sets, depth: usize, numbers: &Numbers) -> Result<(), NoMemory>
     requires there { depth < length sets.old.items }
     requires empty { set_at depth sets.old.items ≡ [] }
-    requires set { IsSet numbers.now }
     ensures ok { OnOk result ((d : ℕ) → set_at d sets.new.items
         ≡ (if d == depth then numbers.now else set_at d sets.old.items)) }
     ensures kept { OnErr result ((d : ℕ) → set_at d sets.new.items ≡ set_at d sets.old.items) }
 {
     let set = &mut sets[depth];
     set.fill(numbers)?;
+    Ok(())
+}
+
+/// Puts one number into the empty set of this depth.
+pub(crate) fn put_one(
+    alloc: Global,
+    sets: &mut Sets,
+    depth: usize,
+    c: CbNumber,
+) -> Result<(), NoMemory>
+    requires few { depth < MOST_FRAMES }
+    requires empty { set_at depth sets.old.items ≡ [] }
+    ensures ok { OnOk result ((d : ℕ) → set_at d sets.new.items
+        ≡ (if d == depth then c ∷ [] else set_at d sets.old.items)) }
+    ensures kept { OnErr result ((d : ℕ) → set_at d sets.new.items ≡ set_at d sets.old.items) }
+{
+    make_room(alloc, sets, depth)?;
+    push_at(sets, depth, c)
+}
+
+// Puts one number into the empty set of this depth, which is there.
+fn push_at(sets: &mut Sets, depth: usize, c: CbNumber) -> Result<(), NoMemory>
+    requires there { depth < length sets.old.items }
+    requires empty { set_at depth sets.old.items ≡ [] }
+    ensures ok { OnOk result ((d : ℕ) → set_at d sets.new.items
+        ≡ (if d == depth then c ∷ [] else set_at d sets.old.items)) }
+    ensures kept { OnErr result ((d : ℕ) → set_at d sets.new.items ≡ set_at d sets.old.items) }
+{
+    let set = &mut sets[depth];
+    set.push(c)?;
     Ok(())
 }
 
@@ -90,7 +118,7 @@ pub(crate) fn clear_at(sets: &mut Sets, depth: usize)
     set.clear();
 }
 
-/// Takes this number out of each set. It walks the sets, and nothing else.
+/// Takes this number out of each set.
 pub(crate) fn drop_everywhere(sets: &mut Sets, c: CbNumber)
     ensures { (d : ℕ) → set_at d sets.new.items ≡ without_number c (set_at d sets.old.items) }
 {

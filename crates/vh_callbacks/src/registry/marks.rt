@@ -4,7 +4,7 @@ ghost use Rattle.vh_callbacks.specs.Marks.{marked, without_number};
 
 use crate::index::{numbers_for, watch_of};
 use crate::registry::Registry;
-use crate::sets::{clear_at, count_at, fill_at, take_at};
+use crate::sets::{clear_at, count_at, fill_at, put_one, take_at};
 use std::alloc::Global;
 use vh_base::{CbNumber, MOST_FRAMES, NoMemory, Object, Reason};
 
@@ -25,7 +25,9 @@ impl<B: Drop> Registry<B> {
             ≡ (if d == depth then matching reason o self.old.callbacks else marked d self.old)) }
         ensures kept { OnErr result ((d : ℕ) → marked d self.new ≡ marked d self.old) }
     {
-        let numbers = numbers_for(&self.index, watch_of(reason, &o));
+        let Some(numbers) = numbers_for(&self.index, watch_of(reason, &o)) else {
+            return Ok(());
+        };
         fill_at(alloc, &mut self.sets, depth as usize, numbers)
     }
 
@@ -39,7 +41,7 @@ impl<B: Drop> Registry<B> {
             ≡ (if d == depth then c ∷ [] else marked d self.old)) }
         ensures kept { OnErr result ((d : ℕ) → marked d self.new ≡ marked d self.old) }
     {
-        fill_at(alloc, &mut self.sets, depth as usize, &[c])
+        put_one(alloc, &mut self.sets, depth as usize, c)
     }
 
     /// How many are in the set of a depth.

@@ -1,10 +1,20 @@
-use Rattle.std.proofs.Common.{ℕ, ◌++◌, ◌∷◌, [], subst}
+use Rattle.std.proofs.Common.{ℕ, List, ◌++◌, ◌∷◌, [], sym, subst}
 use Rattle.vh_callbacks.specs.Callbacks.{Rise}
 use Rattle.vh_callbacks.specs.Keeping.{live_of, is_live_one}
+use Rattle.vh_callbacks.specs.Marks.{IsSet}
 use Rattle.vh_callbacks.specs.Watching.{Indexes}
 use Rattle.vh_callbacks.proofs.KeepingLemmas.{live_more, rise_passing}
-use Rattle.vh_callbacks.proofs.WatchingLemmas.{indexed_more, undone}
+use Rattle.vh_callbacks.proofs.WatchingLemmas.{numbers_are, set_end, indexed_more, undone}
 use Rattle.vh_callbacks.proofs.entries.put.Goals as goal
+
+pub add-requires : goal.add-requires
+add-requires g c =
+    let es = c.args.entries.now.entries in
+    let n = c.new-c.result in
+    let w = c.watch_of-w.result in
+    let rising : Rise 1 es n = rw c.new-c.ensures c.requires.rising in
+    subst (λ (ns : List ℕ). IsSet (ns ++ n ∷ [])) (sym (numbers_are (live_of es) c.args.index.now.entries c.requires.indexed w))
+    (set_end w n (live_of es) (rise_passing is_live_one 1 es n rising) c.requires.few)
 
 pub returns-in-Err-clause-indexed : goal.returns-in-Err-clause-indexed
 returns-in-Err-clause-indexed g c =

@@ -9,6 +9,13 @@ use Rattle.vh_callbacks.proofs.KeepingLemmas.{kept_registered}
 use Rattle.vh_callbacks.proofs.Views.{seen, seen_registered}
 use Rattle.vh_callbacks.proofs.registry.Registry.register.Goals as goal
 
+pub put-requires-clause-few : goal.put-requires-clause-few
+put-requires-clause-few g c =
+    let es = c.self.inside.entries.entries in
+    let full : is_full (seen es c.self.inside.next) ≡ false =
+    ap (λ (r : Registered g.row.B.Denot). is_full r.callbacks) c.self.view_is ∙ sym c.is_full.ensures ∙ c.if-is_full.false in
+    leb-false 65536 (length (live_of es)) (or_parts (nat_le 65536 (length (live_of es))) (nat_lt 9223372036854775808 c.self.inside.next) full).0
+
 pub invariant_of-self-2 : goal.invariant_of-self-2
 invariant_of-self-2 g c =
     let es = c.self.inside.entries.entries in
