@@ -6,3 +6,7 @@ pub mod Disabled
 pub mod Steps
 -- How contracts see what the code holds
 pub mod Views
+-- Which processes come from each of the design
+pub mod Families
+-- In which code the blocks of an object are
+pub mod Homes

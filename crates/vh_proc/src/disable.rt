@@ -1,16 +1,23 @@
-ghost use Rattle.std.specs.Prelude.{◌≡◌, Ok, IfOk, IfErr, OnOk};
+ghost use Rattle.std.specs.Prelude.{◌≡◌, Ok, IfSome, IfOk, IfErr, OnOk};
+ghost use Rattle.std.specs.BTreeMap.{is_at, IsOrdered};
+ghost use Rattle.std.specs.List.{AllByRecursion};
+ghost use Rattle.std.specs.Map.{lookup};
+ghost use Rattle.std.specs.Ordering.{nat_cmp};
 ghost use Rattle.vh_sense.specs.Sensitivity.{without_wait};
 ghost use Rattle.vh_thread.specs.Control.{Runs};
 ghost use Rattle.vh_proc.specs.Processes.{AllRun, process_at, queued, scheduled};
-ghost use Rattle.vh_proc.specs.Disabled.{begun_by, with_stopped, stopped, without_entry, ended_in, left_in, all_ended, all_left, resumed_but, all_resumed};
+ghost use Rattle.vh_proc.specs.Disabled.{begun_by, with_stopped, stopped, stopped_of, without_entry, ended_in, left_in, all_ended, all_left, resumed_but, all_resumed};
 ghost use Rattle.vh_design.specs.Shape.{Shape};
 ghost use Rattle.vh_proc.specs.Steps.{before_disable, disabled_by, after_disable};
-ghost use Rattle.vh_proc.specs.Views.{HoldsAll, found_seen};
+ghost use Rattle.vh_proc.specs.Views.{HoldsAll, found_seen, nobody, with_noted};
+ghost use Rattle.vh_proc.specs.Families.{HasAll};
 ghost use Rattle.vh_turn.specs.Own.{FailsBy};
 
+use crate::families::Family;
+use crate::layout::Layout;
 use crate::threads::Threads;
 use std::alloc::Global;
-use std::collections::BTreeSet;
+use std::collections::{BTreeMap, BTreeSet};
 use vh_base::{NoMemory, ObjId, ProcId};
 use vh_design::{Design, Goes};
 use vh_queue::Queue;
@@ -27,6 +34,18 @@ pub(crate) struct Stopped {
 }
 
 impl Stopped {
+    // None yet.
+    fn none(alloc: Global) -> Stopped
+        ensures none { found_seen result ≡ nobody }
+        ensures all { HoldsAll result }
+    {
+        Stopped {
+            ends: Vec::new(alloc),
+            leaves: Vec::new(alloc),
+            all: BTreeSet::new(alloc),
+        }
+    }
+
     // Has one of these begun it?
     fn has_begun(&self, process: &Process) -> bool
         requires { HoldsAll self.now }
@@ -57,6 +76,76 @@ impl Stopped {
     }
 }
 
+// Notes the process of a number, where it is there and stopped.
+fn note_one(
+    d: &Design,
+    target: ObjId,
+    all: &BTreeMap<u64, Process, Global>,
+    p: u64,
+    found: &mut Stopped,
+) -> Result<(), NoMemory>
+    requires runs { AllByRecursion (λ e. Runs d.now e.1.thread) all.now.entries }
+    requires all { HoldsAll found.old }
+    ensures noted { OnOk result (found_seen found.new
+        ≡ with_noted d.now target (found_seen found.old) p
+        (lookup (is_at (nat_cmp p)) all.now.entries)) }
+    ensures all { OnOk result (HoldsAll found.new) }
+{
+    match all.get(&p) {
+        Some(process) => found.note(d, target, p, process),
+        None => Ok(()),
+    }
+}
+
+// The processes stand by rising number; it is there for the prover.
+fn rise(all: &BTreeMap<u64, Process, Global>)
+    ensures { IsOrdered nat_cmp all.now }
+{
+    all.len();
+}
+
+// The processes that a disable stops, among all.
+#[tactic(auto, unfolding(crate::specs::Disabled::stopped_of))]
+fn stopped_of_all(
+    alloc: Global,
+    d: &Design,
+    target: ObjId,
+    all: &BTreeMap<u64, Process, Global>,
+) -> Result<Stopped, NoMemory>
+    requires { AllByRecursion (λ e. Runs d.now e.1.thread) all.now.entries }
+    ensures found { IfOk result (λ found. found_seen found
+        ≡ stopped_of d.now target nobody all.now.entries) }
+    ensures all { IfOk result HoldsAll }
+{
+    let mut found = Stopped::none(alloc);
+    for (p, process) in all.iter() {
+        found.note(d, target, *p, process)?;
+    }
+    Ok(found)
+}
+
+// Those, where all of them are in a family.
+fn stopped_of_family(
+    alloc: Global,
+    d: &Design,
+    target: ObjId,
+    all: &BTreeMap<u64, Process, Global>,
+    family: &Family,
+) -> Result<Stopped, NoMemory>
+    requires runs { AllByRecursion (λ e. Runs d.now e.1.thread) all.now.entries }
+    requires has_all { HasAll d.now target family.now all.now.entries }
+    ensures found { IfOk result (λ found. found_seen found
+        ≡ stopped_of d.now target nobody all.now.entries) }
+    ensures all { IfOk result HoldsAll }
+{
+    rise(all);
+    let mut found = Stopped::none(alloc);
+    for p in family.iter() {
+        note_one(d, target, all, *p, &mut found)?;
+    }
+    Ok(found)
+}
+
 // A process waits for nothing any more.
 fn halt(sense: &mut Sense, q: &mut Queue, p: ProcId, process: &Process)
     ensures wait { sense.new ≡ without_wait p sense.old }
@@ -71,22 +160,33 @@ fn halt(sense: &mut Sense, q: &mut Queue, p: ProcId, process: &Process)
 }
 
 impl Threads {
-    // The processes that a disable stops.
-    #[tactic(auto, unfolding(crate::specs::Disabled::stopped_of))]
-    fn stopped(&self, alloc: Global, d: &Design, target: ObjId) -> Result<Stopped, NoMemory>
+    // The family that has all whom a disable stops, where the block is in the code of one process
+    // of the design alone.
+    fn family_of(&self, d: &Layout, target: ObjId) -> Option<&Family>
+        requires { AllRun d.now self.now }
+        ensures { IfSome result (λ family. HasAll d.now target family.now (self.now).all) }
+    {
+        if !self.are_kept {
+            return None;
+        }
+        let root = d.home(target)?;
+        let Some(family) = self.families.sets.get(root as usize) else {
+            return None;
+        };
+        Some(family)
+    }
+
+    // The processes that a disable stops: where the block is in the code of one process alone, of
+    // those that come from it, else of all.
+    fn stopped(&self, alloc: Global, d: &Layout, target: ObjId) -> Result<Stopped, NoMemory>
         requires { AllRun d.now self.now }
         ensures found { IfOk result (λ found. found_seen found ≡ stopped d.now target self.now) }
         ensures all { IfOk result HoldsAll }
     {
-        let mut found = Stopped {
-            ends: Vec::new(alloc),
-            leaves: Vec::new(alloc),
-            all: BTreeSet::new(alloc),
+        let Some(family) = self.family_of(d, target) else {
+            return stopped_of_all(alloc, d.design(), target, &self.all);
         };
-        for (p, process) in self.all.iter() {
-            found.note(d, target, *p, process)?;
-        }
-        Ok(found)
+        stopped_of_family(alloc, d.design(), target, &self.all, family)
     }
 
     // A process ends.
@@ -97,7 +197,7 @@ impl Threads {
         ensures now { (q.new).time ≡ (q.old).time }
         ensures runs { (d : Shape) → AllRun d self.old → AllRun d self.new }
     {
-        if let Some(process) = self.all.remove(&p) {
+        if let Some(process) = self.take_out(p) {
             halt(sense, q, ProcId::new(p), &process);
         }
     }
@@ -214,7 +314,7 @@ impl Threads {
     pub(crate) fn disable(
         &mut self,
         alloc: Global,
-        d: &Design,
+        d: &Layout,
         sense: &mut Sense,
         q: &mut Queue,
         own: ProcId,
@@ -234,9 +334,10 @@ impl Threads {
     {
         let found = self.stopped(alloc, d, target)?;
         let next = self.next_after(&found, own);
-        self.pass(d, own, goes, target);
+        let design = d.design();
+        self.pass(design, own, goes, target);
         self.end_all(sense, q, &found.ends);
-        self.leave_all(d, target, sense, q, &found.leaves);
+        self.leave_all(design, target, sense, q, &found.leaves);
         self.resume_all(q, own, &found.leaves)?;
         Ok(next)
     }

@@ -43,8 +43,12 @@ impl Threads {
             entry: Some(serial),
             updates: Updates::new(alloc),
         };
+        let were_kept = self.are_kept;
+        self.are_kept = false;
+        let are_kept = self.families.join(p, self.next, were_kept)?;
         keep(&mut self.all, self.next, process)?;
         self.next += 1;
+        self.are_kept = are_kept;
         Ok(())
     }
 
@@ -136,7 +140,7 @@ impl Threads {
         ensures now { (q.new).time ≡ (q.old).time }
         ensures runs { OnOk result (AllRun d.now self.new) }
     {
-        let Some(process) = self.all.remove(&p.number()) else {
+        let Some(process) = self.take_out(p.number()) else {
             return Ok(());
         };
         self.join(d, q, process.parent)

@@ -12,10 +12,13 @@
 #![tactic(auto)]
 
 mod disable;
+mod families;
 mod fork;
+mod layout;
 mod stepped;
 mod threads;
 
+pub use layout::Layout;
 pub use stepped::{MadeList, Stepped};
 pub use threads::Threads;
 pub use vh_turn::{Next, StepFault};

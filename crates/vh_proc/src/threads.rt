@@ -4,11 +4,13 @@ ghost use Rattle.std.specs.Ordering.{nat_cmp};
 ghost use Rattle.vh_design.specs.Shape.{Shape};
 ghost use Rattle.vh_design.specs.Validity.{IsValid};
 ghost use Rattle.vh_thread.specs.Control.{next_of};
-ghost use Rattle.vh_proc.specs.Processes.{AllRun, process_at, changed, arrived_in, gone_on, with_left, one_less, opening, noted, resumed, queued, world_of, step_with};
+ghost use Rattle.vh_proc.specs.Processes.{AllRun, process_at, without_process, changed, arrived_in, gone_on, with_left, one_less, opening, noted, resumed, queued, world_of, step_with};
 ghost use Rattle.vh_proc.specs.Steps.{has_label, step_of, single_step, alone, after_fork};
 ghost use Rattle.vh_turn.specs.Turns.{is_own};
 ghost use Rattle.vh_turn.specs.Own.{FailsBy};
 
+use crate::families::Families;
+use crate::layout::Layout;
 use crate::stepped::{MadeList, Stepped};
 use std::alloc::Global;
 use std::collections::BTreeMap;
@@ -27,15 +29,22 @@ use vh_turn::{Next, Process, Room, StepFault, Updates, add_entry, turn};
 pub struct Threads {
     pub(crate) all: BTreeMap<u64, Process, Global>,
     pub(crate) next: u64,
+    pub(crate) families: Families,
+    // whether each process is in its family
+    pub(crate) are_kept: bool,
     room: Room,
 }
 
 impl Model for Threads {
+    ghost use Rattle.std.specs.Prelude.{◌≡◌, true};
+    ghost use Rattle.vh_proc.specs.Families.{AreKept};
     ghost use Rattle.vh_proc.specs.Processes.{Processes};
 
     ghost Value = { Processes };
 
     ghost view = { λ s. record { all = s.all.entries; next = s.next } };
+
+    ghost invariant = { λ s. s.are_kept ≡ true → AreKept s.families s.next s.all.entries };
 }
 
 // What a label came to that changed no value.
@@ -85,8 +94,10 @@ impl Threads {
         ensures runs { IfOk result (AllRun d.now) }
     {
         let mut all = BTreeMap::new(alloc);
+        let mut families = Families::none(alloc);
         let count = u64::from(d.counts().processes);
         for k in 0..count {
+            families.own(alloc, k)?;
             let process = Process {
                 thread: Thread::of_process(alloc, d, ProcId::new(k))?,
                 parent: None,
@@ -100,6 +111,8 @@ impl Threads {
         Ok(Threads {
             all,
             next: count,
+            families,
+            are_kept: true,
             room: Room {
                 pieces: Vec::new(alloc),
                 made: Vec::new(alloc),
@@ -136,6 +149,17 @@ impl Threads {
         if made.capacity() > self.room.made.capacity() {
             self.room.made = made;
         }
+    }
+
+    // A process is gone.
+    pub(crate) fn take_out(&mut self, p: u64) -> Option<Process>
+        ensures process { result ≡ process_at p self.old }
+        ensures gone { self.new ≡ without_process p self.old }
+        ensures runs { (d : Shape) → AllRun d self.old → AllRun d self.new }
+    {
+        let process = self.all.remove(&p)?;
+        self.families.leave(p);
+        Some(process)
     }
 
     // A process performs a label.
@@ -224,10 +248,13 @@ impl Threads {
         ensures runs { OnOk result (AllRun d.now self.new) }
     {
         self.room.made.clear();
+        let were_kept = self.are_kept;
+        self.are_kept = false;
         let Some(process) = self.all.get_mut(&p.number()) else {
             unreachable!();
         };
         let next = turn(d, process, s, sense, q, p, i, &mut self.room)?;
+        self.are_kept = were_kept;
         let made = mem::replace(&mut self.room.made, Vec::new(alloc));
         Ok(Stepped {
             made: Sequence::new(made),
@@ -239,7 +266,7 @@ impl Threads {
     fn single(
         &mut self,
         alloc: Global,
-        d: &Design,
+        d: &Layout,
         s: &mut Store,
         sense: &mut Sense,
         q: &mut Queue,
@@ -267,11 +294,11 @@ impl Threads {
     {
         match it {
             Single::Disable(target) => {
-                self.arrive(d, p);
+                self.arrive(d.design(), p);
                 let next = self.disable(alloc, d, sense, q, p, i.next, target)?;
                 Ok(quietly(alloc, next))
             }
-            _ => self.alone(alloc, d, s, sense, q, p, i),
+            _ => self.alone(alloc, d.design(), s, sense, q, p, i),
         }
     }
 
@@ -290,7 +317,7 @@ impl Threads {
     pub fn step(
         &mut self,
         alloc: Global,
-        d: &Design,
+        d: &Layout,
         s: &mut Store,
         sense: &mut Sense,
         q: &mut Queue,
@@ -309,30 +336,31 @@ impl Threads {
         ensures still { (q.new).time ≡ (q.old).time }
         ensures runs { OnOk result (AllRun d.now self.new) }
     {
-        keeps_rules(d);
+        let design = d.design();
+        keeps_rules(design);
         let Some(process) = self.all.get(&p.number()) else {
             unreachable!();
         };
-        let Some(i) = process.thread.next(d) else {
+        let Some(i) = process.thread.next(design) else {
             unreachable!();
         };
         match &i.operation {
             Operation::Fork(places) => {
-                self.arrive(d, p);
-                self.fork(alloc, d, q, p, i.next, places.as_slice())?;
+                self.arrive(design, p);
+                self.fork(alloc, design, q, p, i.next, places.as_slice())?;
                 Ok(quietly(alloc, after_fork(places.as_slice())))
             }
             Operation::End => {
-                self.end(d, q, p)?;
+                self.end(design, q, p)?;
                 Ok(quietly(alloc, Next::Ends))
             }
             Operation::Initial { .. } => {
-                let stepped = self.alone(alloc, d, s, sense, q, p, i)?;
-                self.all.remove(&p.number());
+                let stepped = self.alone(alloc, design, s, sense, q, p, i)?;
+                self.take_out(p.number());
                 Ok(stepped)
             }
             Operation::Single(it) => self.single(alloc, d, s, sense, q, p, i, *it),
-            _ => self.alone(alloc, d, s, sense, q, p, i),
+            _ => self.alone(alloc, design, s, sense, q, p, i),
         }
     }
 }

@@ -234,10 +234,10 @@ impl Simulation {
             return Err(StepFault::NoMemory);
         }
         self.is_broken = true;
-        let d = &self.design;
+        let d = self.design.design();
         let stepped = self.threads.step(
             alloc,
-            d,
+            &self.design,
             &mut self.store,
             &mut self.sense,
             &mut self.queue,
@@ -293,7 +293,7 @@ impl Simulation {
         let mut made = self.threads.take_list(alloc);
         take_pieces(&mut self.store, &[piece], &mut made)?;
         enter_all(
-            &self.design,
+            self.design.design(),
             &self.store,
             &mut self.threads,
             &mut self.sense,
@@ -323,7 +323,7 @@ impl Simulation {
         let mut made = self.threads.take_list(alloc);
         take_driver(&mut self.store, x, v, &mut made)?;
         enter_all(
-            &self.design,
+            self.design.design(),
             &self.store,
             &mut self.threads,
             &mut self.sense,
@@ -351,9 +351,9 @@ impl Simulation {
         }
         self.is_broken = true;
         let mut made = self.threads.take_list(alloc);
-        follow_object(&self.design, &mut self.store, force, o, &mut made)?;
+        follow_object(self.design.design(), &mut self.store, force, o, &mut made)?;
         enter_all(
-            &self.design,
+            self.design.design(),
             &self.store,
             &mut self.threads,
             &mut self.sense,
@@ -383,7 +383,7 @@ impl Simulation {
         let mut made = self.threads.take_list(alloc);
         take_put(&mut self.store, o, v, &mut made)?;
         enter_all(
-            &self.design,
+            self.design.design(),
             &self.store,
             &mut self.threads,
             &mut self.sense,
@@ -420,11 +420,16 @@ impl Simulation {
             ),
             Work::Drive(x, v) => self.drive(alloc, *x, v),
             Work::Strobe(n) => {
-                let shown = text_of(alloc, &self.design, &self.store, *n)?;
+                let shown = text_of(alloc, self.design.design(), &self.store, *n)?;
                 Ok(showing(alloc, Some(shown)))
             }
             Work::MonitorShow => {
-                let shown = show_monitor(alloc, &self.design, &self.store, &mut self.monitor)?;
+                let shown = show_monitor(
+                    alloc,
+                    self.design.design(),
+                    &self.store,
+                    &mut self.monitor,
+                )?;
                 Ok(showing(alloc, shown))
             }
             Work::Follow { object, force } => self.follow_up(alloc, *force, *object),

@@ -13,7 +13,7 @@ use std::alloc::Global;
 use std::marker::Model;
 use vh_base::{MOST_ENTRIES, NoMemory, ProcId, Sequence};
 use vh_design::Design;
-use vh_proc::Threads;
+use vh_proc::{Layout, Threads};
 use vh_queue::{AddFault, Entry, Queue, Region, Work};
 use vh_sense::Sense;
 use vh_store::Store;
@@ -22,7 +22,7 @@ use vh_store::Store;
 /// left of it but the design and the time, and each further label is answered by want of memory.
 #[derive(Drop)]
 pub struct Simulation {
-    pub(crate) design: Design,
+    pub(crate) design: Layout,
     pub(crate) threads: Threads,
     pub(crate) store: Store,
     pub(crate) sense: Sense,
@@ -71,16 +71,18 @@ impl Simulation {
     pub fn new(alloc: Global, design: Design) -> Result<Simulation, NoMemory>
         ensures { IfOk result (IsOpening design) }
     {
-        let mut threads = Threads::new(alloc, &design)?;
+        let layout = Layout::new(alloc, design)?;
+        let design = layout.design();
+        let mut threads = Threads::new(alloc, design)?;
         let mut queue = Queue::new(alloc)?;
         let count = design.counts().processes;
         if count as usize <= MOST_ENTRIES {
             enter_processes(&mut queue, &mut threads, u64::from(count))?;
         }
-        let store = Store::new(alloc, &design)?;
-        let sense = Sense::new(alloc, &design)?;
+        let store = Store::new(alloc, design)?;
+        let sense = Sense::new(alloc, design)?;
         Ok(Simulation {
-            design,
+            design: layout,
             threads,
             store,
             sense,
@@ -100,7 +102,7 @@ impl Simulation {
     pub fn design(&self) -> &Design
         ensures { result.now ≡ (self.now).design }
     {
-        &self.design
+        self.design.design()
     }
 
     /// The present time, in units of the simulation's precision.
@@ -181,6 +183,6 @@ impl Simulation {
     pub fn has_label(&self, p: ProcId) -> bool
         ensures { result ≡ has_label (self.now).design p (self.now).processes }
     {
-        !self.is_broken && self.threads.has_label(&self.design, p)
+        !self.is_broken && self.threads.has_label(self.design.design(), p)
     }
 }

@@ -1,8 +1,9 @@
-use Rattle.std.proofs.Common.{◌≡◌, sym, subst, rules}
+use Rattle.std.proofs.Common.{◌≡◌, sym, subst, rules, refl}
 use Rattle.vh_design.specs.Shape.{Shape}
 use Rattle.vh_proc.specs.contracts.threads.Threads.{the_view}
-use Rattle.vh_proc.specs.Processes.{AllRun, noted}
+use Rattle.vh_proc.specs.Processes.{AllRun, noted, with_serial}
 use Rattle.vh_proc.proofs.RunsLemmas.{runs-changed}
+use Rattle.vh_proc.proofs.FamiliesLemmas.{kept-through}
 use Rattle.vh_proc.proofs.threads.Threads.entered.Goals as goal
 
 pub returns-clause-runs : goal.returns-clause-runs
@@ -10,3 +11,8 @@ returns-clause-runs c =
     λ (d : Shape) runs.
     let is : the_view c.match-get_mut.self-inside ≡ noted c.args.p c.args.e c.args.self.now = search rules in
     subst (AllRun d) (sym is) (runs-changed d c.args.p _ c.args.self.now runs (λ t own. own))
+
+pub invariant_of-self : goal.invariant_of-self
+invariant_of-self c =
+    kept-through c.self.inside.families c.match-get_mut.self-inside.families c.self.inside.are_kept c.match-get_mut.self-inside.are_kept (the_view c.self.inside) c.args.self.now
+    (the_view c.match-get_mut.self-inside) c.args.p (with_serial c.args.e) (search rules) (search rules) c.self.view_is (search rules) (λ t. refl) c.self.invariant

@@ -1,16 +1,17 @@
 use Rattle.std.proofs.Common.{◌∙◌, sym, ap, subst}
 use Rattle.std.specs.Prelude.{option_copied}
+use Rattle.vh_design.specs.Shape.{Shape}
+use Rattle.vh_thread.specs.Control.{Runs}
 use Rattle.vh_proc.specs.Processes.{AllRun}
-use Rattle.vh_proc.proofs.RunsLemmas.{EachRuns, runs-found, runs-removed}
+use Rattle.vh_proc.proofs.RunsLemmas.{runs-found}
 use Rattle.vh_proc.proofs.threads.Threads.step.Goals as goal
 
 pub next-requires : goal.next-requires
 next-requires c =
-    runs-found c.args.d.now _ c.self.inside.all.entries c.in-Some.process.now (subst (AllRun c.args.d.now) (sym c.self.view_is) c.requires.runs)
-    (sym c.get.ensures.value ∙ ap option_copied c.in-Some.is)
+    subst (λ (d : Shape). Runs d c.in-Some.process.now.thread) (sym c.design-design.ensures)
+    (runs-found c.args.d.now _ c.self.inside.all.entries c.in-Some.process.now (subst (AllRun c.args.d.now) (sym c.self.view_is) c.requires.runs)
+    (sym c.get.ensures.value ∙ ap option_copied c.in-Some.is))
 
 pub returns-in_ok-stepped-in-Initial-clause-runs : goal.returns-in_ok-stepped-in-Initial-clause-runs
 returns-in_ok-stepped-in-Initial-clause-runs c =
-    subst (EachRuns c.args.d.now) (sym c.remove.ensures.entries)
-    (runs-removed c.args.d.now _ c.self-in-Initial.inside.all.entries
-    (subst (AllRun c.args.d.now) (sym c.self-in-Initial.view_is) c.in_ok-stepped-in-Initial.ensures.runs))
+    c.take_out.ensures.runs c.args.d.now (subst (λ (d : Shape). AllRun d c.alone.new.self) c.design-design.ensures c.in_ok-stepped-in-Initial.ensures.runs)

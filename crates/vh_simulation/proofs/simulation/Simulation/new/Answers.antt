@@ -1,4 +1,5 @@
 use Rattle.std.proofs.Common.{◌∙◌, sym, ap, subst}
+use Rattle.vh_design.specs.Shape.{Shape}
 use Rattle.vh_proc.specs.Processes.{AllRun, Queued}
 use Rattle.vh_queue.specs.Events.{Events}
 use Rattle.vh_simulation.proofs.LoopsLemmas.{evaluations-time}
@@ -7,13 +8,14 @@ use Rattle.vh_simulation.proofs.simulation.Simulation.new.Goals.{then-count-le-M
 
 pub invariant_of-result : goal.invariant_of-result
 invariant_of-result c = λ _.
-    let d = c.args.design in record {
+    let d = c.in_ok-layout.layout in
+    let opened = subst (λ (e : Shape). AllRun e c.in_ok-threads.threads) c.design-design.ensures c.in_ok-threads.ensures.runs in record {
       runs = elim c.if-count-le-MOST_ENTRIES.branch [
         | then-count-le-MOST_ENTRIES+in_ok-enter_processes w ↦
-            subst (AllRun d) (sym w.threads-is) (w.in_ok-enter_processes.ensures.runs d c.in_ok-threads.ensures.runs)
-        | else-count-le-MOST_ENTRIES w ↦ subst (AllRun d) (sym w.threads-is) c.in_ok-threads.ensures.runs
+            subst (AllRun d) (sym w.threads-is) (w.in_ok-enter_processes.ensures.runs d opened)
+        | else-count-le-MOST_ENTRIES w ↦ subst (AllRun d) (sym w.threads-is) opened
       ];
-      waits = c.in_ok-sense.ensures.made.waits;
+      waits = c.in_ok-sense.ensures.made.waits ∙ ap (λ (e : Shape). e.waits) c.design-design.ensures;
       now = c.in_ok-store.ensures.time ∙ sym (elim c.if-count-le-MOST_ENTRIES.branch [
         | then-count-le-MOST_ENTRIES+in_ok-enter_processes w ↦
             ap (λ (q : Events). q.time) w.queue-is
