@@ -1,5 +1,5 @@
 -- Which verdict a refusal of the texts says. (own)
-use Rattle.std.specs.Prelude.{◌≡◌, ℕ, Bool, true, false, List, Option, None, Result, Ok, Err}
+use Rattle.std.specs.Prelude.{◌≡◌, Bool, true, false, List, Result, Ok, Err}
 use Rattle.vh_base.specs.declared.place.Place.{Place}
 use Rattle.vh_ast.specs.declared.module.Source.{Source}
 use Rattle.vh_ast.specs.Views.{source_tree}

@@ -1,5 +1,5 @@
 ghost use Rattle.std.specs.Prelude.{◌≡◌, ◌≤◌, None, length, IfOk};
-ghost use Rattle.vh_lex.specs.Lexed.{files_after, nothing_read, end_of, IfReading};
+ghost use Rattle.vh_lex.specs.Lexed.{files_after, nothing_read, IfReading};
 ghost use Rattle.vh_ast.specs.Views.{source_tree};
 ghost use Rattle.vh_elab.specs.Elaborated.{elaborated};
 ghost use Rattle.vh_base.specs.declared.faults.DesignFault.TheVariants.{S3};
@@ -15,7 +15,7 @@ use vh_ast::Source;
 use vh_base::{DesignFault, Place};
 use vh_design::Design;
 use vh_elab::{Elaboration, elaborate};
-use vh_lex::{LexFault, Lexer, Token};
+use vh_lex::{Lexer, Token};
 use vh_parse_expr::ParseFault;
 use vh_parse_items::parse;
 use vh_words::is_design_word;
@@ -40,7 +40,7 @@ fn read_source(alloc: Global, files: &[TextFile<'_>]) -> Result<Source, Refusal>
 {
     let mut lexer = Lexer::new(alloc)?;
     let is_begun = lex_files(alloc, &mut lexer, files)?;
-    texts_end(&lexer)?;
+    lexer.end()?;
     let after = place_after(&lexer, is_begun);
     parsed(alloc, lexer.tokens().as_slice(), begin_of(files), after)
 }
@@ -64,13 +64,6 @@ fn lex_files(alloc: Global, lexer: &mut Lexer, files: &[TextFile<'_>]) -> Result
         is_begun = true;
     }
     Ok(is_begun)
-}
-
-// Whether the texts end where one may: the answer alone, of what the lexer says.
-fn texts_end(lexer: &Lexer) -> Result<(), LexFault>
-    ensures { result ≡ end_of lexer.now }
-{
-    lexer.end()
 }
 
 // The place behind the last byte that was read.
