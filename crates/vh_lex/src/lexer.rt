@@ -45,7 +45,8 @@ impl Lexer {
     pub fn file(&mut self, alloc: Global, file: u32, bytes: &[u8]) -> Result<(), LexFault>
         requires { length bytes.now < 2 ^ 31 }
         // Unless memory was refused, the files so far are those before and this one,
-        ensures read { result ≢ Err LexFault.NoMemory → self.new ≡ file_read (record { number = file; bytes = bytes.now }) self.old }
+        ensures read { result ≢ Err LexFault.NoMemory
+            → self.new ≡ file_read (record { number = file; bytes = bytes.now }) self.old }
         // the answer is what they come to,
         ensures answer { result ≡ answer_of self.new }
         // and where it is a fault, they have no text: it stops there.
@@ -56,7 +57,8 @@ impl Lexer {
 
     fn read(&mut self, alloc: Global, file: u32, bytes: &[u8]) -> Result<(), LexFault>
         requires { length bytes.now < 2 ^ 31 }
-        ensures read { result ≢ Err LexFault.NoMemory → self.new ≡ file_read (record { number = file; bytes = bytes.now }) self.old }
+        ensures read { result ≢ Err LexFault.NoMemory
+            → self.new ≡ file_read (record { number = file; bytes = bytes.now }) self.old }
         ensures answer { result ≡ answer_of self.new }
     {
         if let Some(fault) = self.stopped {

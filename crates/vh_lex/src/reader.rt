@@ -89,7 +89,8 @@ impl Reader {
 
     // The mark of one byte with which the bytes begin, as `lone_mark` sees it, in text that is read.
     fn next_mark(&self, bytes: &[u8]) -> Option<Mark>
-        ensures { IfSome result (λ mark. (skips self.now.conditionals ≡ false) × IsLone mark bytes.now) }
+        ensures { IfSome result (λ mark.
+            (skips self.now.conditionals ≡ false) × IsLone mark bytes.now) }
     {
         if self.conditionals.skips() {
             return None;
