@@ -8,6 +8,7 @@ ghost use Rattle.vh_lines.specs.OrderText.{relation_text, property_text, format_
 
 use crate::quoted::push_quoted;
 use crate::routine::Routine;
+use itoa::Buffer;
 use std::alloc::AllocError;
 use vh_base::{
     Answer, BodyName, Format, HandleNo, Mode, Order, ProcName, Property, Reason, Relation, Short,
@@ -98,11 +99,12 @@ pub(crate) fn push_handle(line: &mut String, handle: Option<HandleNo>) -> Result
     push_number(line, handle.number())
 }
 
-// Adds a number in decimal.
-fn push_number(line: &mut String, n: u64) -> Result<(), AllocError>
+/// Adds a number in decimal.
+pub fn push_number(line: &mut String, n: u64) -> Result<(), AllocError>
     ensures { OnOk result (string_bytes line.new ≡ string_bytes line.old ++ decimal n) }
 {
-    write!(line, "{n}")
+    let mut buffer = Buffer::new();
+    line.push_str(buffer.format(n))
 }
 
 // Adds `by_name` and its arguments.

@@ -1,4 +1,4 @@
-ghost use Rattle.std.specs.Prelude.{◌≡◌, ◌<◌, ◌++◌, ◌∷◌, ◌/◌, ◌%◌, List, [], string_bytes, OnOk, codes};
+ghost use Rattle.std.specs.Prelude.{◌≡◌, ◌<◌, ◌++◌, ◌∷◌, ◌/◌, ◌%◌, [], true, string_bytes, OnOk, codes};
 ghost use Rattle.std.specs.List.{flat_map};
 ghost use Rattle.vh_lines.specs.Quoted.{hex_digit as hex_code, escaped, quoted, plain, plain_text};
 
@@ -15,6 +15,30 @@ pub fn push_quoted(line: &mut String, text: &[u8]) -> Result<(), AllocError>
 
 /// Adds a name as it stands.
 pub fn push_plain(line: &mut String, name: &[u8]) -> Result<(), AllocError>
+    ensures { OnOk result (string_bytes line.new ≡ string_bytes line.old ++ plain_text name.now) }
+{
+    if is_plain(name)
+        && let Ok(name) = std::str::from_utf8(name)
+    {
+        return line.push_str(name);
+    }
+    push_each_plain(line, name)
+}
+
+// Does each byte of a name stand as it is?
+fn is_plain(name: &[u8]) -> bool
+    ensures { result ≡ true → plain_text name.now ≡ name.now }
+{
+    for byte in name {
+        if *byte >= 128 {
+            return false;
+        }
+    }
+    true
+}
+
+// Adds each byte of a name.
+fn push_each_plain(line: &mut String, name: &[u8]) -> Result<(), AllocError>
     ensures { OnOk result (string_bytes line.new ≡ string_bytes line.old ++ plain_text name.now) }
 {
     for byte in name {
@@ -34,8 +58,32 @@ fn push_plain_byte(line: &mut String, byte: u8) -> Result<(), AllocError>
     }
 }
 
-// Adds each byte of a text as it stands in quotes.
+// Adds a text as it stands in quotes: at once where no byte is written otherwise.
 fn push_all_escaped(line: &mut String, text: &[u8]) -> Result<(), AllocError>
+    ensures { OnOk result (string_bytes line.new ≡ string_bytes line.old ++ flat_map escaped text.now) }
+{
+    if stands(text)
+        && let Ok(text) = std::str::from_utf8(text)
+    {
+        return line.push_str(text);
+    }
+    push_each_escaped(line, text)
+}
+
+// Does each byte of a text stand in quotes as it is?
+fn stands(text: &[u8]) -> bool
+    ensures { result ≡ true → flat_map escaped text.now ≡ text.now }
+{
+    for byte in text {
+        if !matches!(*byte, b' ' | b'!' | b'#'..=b'[' | b']'..=b'~') {
+            return false;
+        }
+    }
+    true
+}
+
+// Adds each byte of a text as it stands in quotes.
+fn push_each_escaped(line: &mut String, text: &[u8]) -> Result<(), AllocError>
     ensures { OnOk result (string_bytes line.new ≡ string_bytes line.old ++ flat_map escaped text.now) }
 {
     for byte in text {
