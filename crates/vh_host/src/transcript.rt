@@ -13,7 +13,7 @@ use crate::write::write_whole;
 use std::alloc::Global;
 use vh_base::{Sink, SinkFault};
 use vh_choice::Chooser;
-use vh_kernel::{Ending, Kernel, Label, line_of};
+use vh_kernel::{Ending, Kernel, Label, push_line};
 
 /// Runs a kernel under an order of choice, and writes the line of each label as it is made, until
 /// the run ends, as many labels as the budget were made, or a fault of the sink or of memory cuts
@@ -36,9 +36,10 @@ pub fn transcribe<K: Sink>(
     ensures worded { result ≢ Status.Usage }
 {
     let mut next = order;
+    let mut line = String::new(alloc);
     for made in 0..budget {
         let k = choose(kernel, &mut next);
-        if let Some(status) = turn(alloc, kernel, k, out) {
+        if let Some(status) = turn(alloc, kernel, k, &mut line, out) {
             return status;
         }
     }
@@ -61,8 +62,14 @@ pub(crate) fn choose(kernel: &Kernel, order: &mut Chooser) -> u32
     choice
 }
 
-// One step by the k-th choice, with its line.
-fn turn<K: Sink>(alloc: Global, kernel: &mut Kernel, k: u32, out: &mut K) -> Option<Status>
+// One step by the k-th choice, with its line, in the room that lines are kept in.
+fn turn<K: Sink>(
+    alloc: Global,
+    kernel: &mut Kernel,
+    k: u32,
+    line: &mut String,
+    out: &mut K,
+) -> Option<Status>
     requires { k < choices_of (state_of kernel.old) }
     ensures turned { Turned k result (state_of kernel.old) (state_of kernel.new)
         (K.written out.old) (K.written out.new) }
@@ -73,7 +80,7 @@ fn turn<K: Sink>(alloc: Global, kernel: &mut Kernel, k: u32, out: &mut K) -> Opt
         Ok(label) => label,
         Err(_) => return Some(Status::NoMemory),
     };
-    match tell(alloc, kernel, &label, out) {
+    match tell(kernel, &label, line, out) {
         Ok(()) => status_after(&label),
         Err(SinkFault::Failed) => Some(Status::WriteFault),
         Err(SinkFault::NoMemory) => Some(Status::NoMemory),
@@ -82,9 +89,9 @@ fn turn<K: Sink>(alloc: Global, kernel: &mut Kernel, k: u32, out: &mut K) -> Opt
 
 // Writes the line of a label, at the time that the kernel shows.
 fn tell<K: Sink>(
-    alloc: Global,
     kernel: &Kernel,
     label: &Label,
+    line: &mut String,
     out: &mut K,
 ) -> Result<(), SinkFault>
     ensures ok { OnOk result (K.written out.new
@@ -94,9 +101,9 @@ fn tell<K: Sink>(
     ensures failed { result ≡ Err SinkFault.Failed → Rose (K.faults out.old) (K.faults out.new) }
     ensures calm { result ≢ Err SinkFault.Failed → K.faults out.new ≡ K.faults out.old }
 {
-    match line_of(alloc, kernel, label) {
-        Ok(Some(line)) => write_whole(out, line.as_bytes()),
-        Ok(None) => Ok(()),
+    line.clear();
+    match push_line(line, kernel, label) {
+        Ok(()) => write_whole(out, line.as_bytes()),
         Err(_) => Err(SinkFault::NoMemory),
     }
 }

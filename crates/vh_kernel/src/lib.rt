@@ -3,7 +3,7 @@
 //!
 //! The one contract used above: [`Kernel::step`] makes one step of the machine from the
 //! state that the kernel shows to the next, by the k-th of [`Kernel::choices`], and
-//! [`line_of`] is the label's line in the transcript. It stands on `vh_app`, whose scripts say what
+//! [`push_line`] adds the label's line in the transcript. It stands on `vh_app`, whose scripts say what
 //! they order next, on `vh_orders`, which performs it on the world, on `vh_queue`, which has the
 //! entries, on `vh_dispatch` and `vh_callbacks`, which have the frames' sets and what was
 //! registered,
@@ -22,6 +22,6 @@ mod phase;
 pub use kernel::Kernel;
 pub use label::{Ending, Label};
 pub use laws::step_laws;
-pub use line::line_of;
+pub use line::push_line;
 pub use vh_base::Boxed;
 pub use vh_orders::Who;

@@ -1,7 +1,8 @@
-ghost use Rattle.std.specs.Prelude.{◌≡◌, ◌<◌, ◌++◌, ◌∷◌, List, [], Some, string_bytes, OnOk, IfOk, codes};
+ghost use Rattle.std.specs.Prelude.{◌≡◌, ◌++◌, ◌∷◌, List, [], string_bytes, OnOk, codes, unwrap_or};
 ghost use Rattle.std.specs.Option.{option_map};
 ghost use Rattle.std.specs.Fmt.{decimal};
-ghost use Rattle.vh_kernel.specs.Line.{ending_name, stamped, who_text, object_text, script_name, line_at, shown_text};
+ghost use Rattle.vh_kernel.specs.Line.{ending_name, stamped, who_text, object_text, script_name, shown_text};
+ghost use Rattle.vh_kernel.specs.Run.{line_of_move};
 ghost use Rattle.vh_base.specs.Words.{reason_text};
 ghost use Rattle.vh_lines.specs.OrderText.{order_text, answer_text};
 ghost use Rattle.vh_lines.specs.Quoted.{plain_text};
@@ -9,15 +10,16 @@ ghost use Rattle.vh_kernel.specs.Views.{state_of};
 
 use crate::kernel::Kernel;
 use crate::label::{Ending, Label};
-use std::alloc::{AllocError, Global};
-use vh_base::{Answer, Bytes, NoMemory, Object, Order, Reason};
-use vh_lines::{push_answer, push_order, push_plain, push_quoted};
+use std::alloc::AllocError;
+use vh_base::{Answer, Bytes, Object, Order, Reason};
+use vh_lines::{push_answer, push_number, push_order, push_plain, push_quoted};
 use vh_orders::Who;
 
-/// The line of a label at the time that the kernel shows, with its newline; none for a
+/// Adds the line of a label at the time that the kernel shows, with its newline; nothing for a
 /// label that is silent.
-pub fn line_of(alloc: Global, k: &Kernel, l: &Label) -> Result<Option<String>, NoMemory>
-    ensures { IfOk result (λ line. option_map string_bytes line ≡ line_at (state_of k.now) l.now) }
+pub fn push_line(line: &mut String, k: &Kernel, l: &Label) -> Result<(), AllocError>
+    ensures { OnOk result (string_bytes line.new
+        ≡ string_bytes line.old ++ line_of_move (l.now, state_of k.now)) }
 {
     let time = k.time();
     match l {
@@ -25,89 +27,94 @@ pub fn line_of(alloc: Global, k: &Kernel, l: &Label) -> Result<Option<String>, N
         | Label::Ret(_)
         | Label::Activate(_)
         | Label::Advance(_)
-        | Label::Finish(_) => Ok(None),
-        Label::Startup(number) => Ok(Some(line_of_startup(alloc, k, *number)?)),
-        Label::Do(who, order, answer) => Ok(Some(line_of_order(
-            alloc,
-            time,
-            *who,
-            order.get(),
-            answer.get(),
-        )?)),
-        Label::Occ(n, reason, object) => Ok(Some(line_of_occurrence(
-            alloc, k, *n, *reason, *object,
-        )?)),
-        Label::Fire(n, c) => Ok(Some(line_of_fire(alloc, time, *n, c.number())?)),
-        Label::Done(n) => Ok(Some(line_of_done(alloc, time, *n)?)),
-        Label::Pick(_, shown) | Label::Stmt(_, shown) => line_of_shown(alloc, time, shown),
-        Label::End(ending) => Ok(Some(line_of_end(alloc, time, ending)?)),
+        | Label::Finish(_) => Ok(()),
+        Label::Startup(number) => push_startup(line, k, *number),
+        Label::Do(who, order, answer) => push_do(line, time, *who, order.get(), answer.get()),
+        Label::Occ(n, reason, object) => push_occurrence(line, k, *n, *reason, *object),
+        Label::Fire(n, c) => push_fire(line, time, *n, c.number()),
+        Label::Done(n) => push_done(line, time, *n),
+        Label::Pick(_, shown) | Label::Stmt(_, shown) => push_shown(line, time, shown),
+        Label::End(ending) => push_end(line, time, ending),
     }
 }
 
+// Adds the time, and the word of a label with a space on each side.
+fn push_front(line: &mut String, time: u64, word: &str) -> Result<(), AllocError>
+    ensures { OnOk result (string_bytes line.new
+        ≡ string_bytes line.old ++ decimal time ++ 32 ∷ word.now ++ 32 ∷ []) }
+{
+    push_number(line, time)?;
+    line.push(' ')?;
+    line.push_str(word)?;
+    line.push(' ')
+}
+
 // The line of a startup that begins.
-fn line_of_startup(alloc: Global, k: &Kernel, number: u32) -> Result<String, AllocError>
-    ensures { IfOk result (λ line. string_bytes line
-        ≡ stamped (codes "startup " ++ plain_text (script_name number (state_of k.now)))
+fn push_startup(line: &mut String, k: &Kernel, number: u32) -> Result<(), AllocError>
+    ensures { OnOk result (string_bytes line.new ≡ string_bytes line.old
+        ++ stamped (codes "startup " ++ plain_text (script_name number (state_of k.now)))
         (state_of k.now)) }
 {
-    let time = k.time();
-    let mut line = format!(in alloc; "{time} startup ")?;
-    push_plain(&mut line, k.script_name(number))?;
-    line.push('\n')?;
-    Ok(line)
+    push_front(line, k.time(), "startup")?;
+    push_plain(line, k.script_name(number))?;
+    line.push('\n')
 }
 
 // The line of an order with its answer.
-fn line_of_order(
-    alloc: Global,
+fn push_do(
+    line: &mut String,
     time: u64,
     who: Who,
     order: &Order,
     answer: &Answer,
-) -> Result<String, AllocError>
-    ensures { IfOk result (λ line. string_bytes line
-        ≡ decimal time ++ 32 ∷
+) -> Result<(), AllocError>
+    ensures { OnOk result (string_bytes line.new ≡ string_bytes line.old
+        ++ decimal time ++ 32 ∷
         (codes "do " ++ who_text who ++ 32 ∷ order_text order.now ++ codes " => " ++ answer_text answer.now) ++ 10 ∷ []) }
 {
-    let mut line = line_of_who(alloc, time, who)?;
-    push_order(&mut line, order)?;
+    push_front(line, time, "do")?;
+    push_who(line, who)?;
+    line.push(' ')?;
+    push_order(line, order)?;
     line.push_str(" => ")?;
-    push_answer(&mut line, answer)?;
-    line.push('\n')?;
-    Ok(line)
+    push_answer(line, answer)?;
+    line.push('\n')
 }
 
-// The front of an order's line.
-fn line_of_who(alloc: Global, time: u64, who: Who) -> Result<String, AllocError>
-    ensures { IfOk result (λ line. string_bytes line
-        ≡ decimal time ++ codes " do " ++ who_text who ++ 32 ∷ []) }
+// Who gives an order.
+fn push_who(line: &mut String, who: Who) -> Result<(), AllocError>
+    ensures { OnOk result (string_bytes line.new ≡ string_bytes line.old ++ who_text who) }
 {
     match who {
         Who::Callback(c) => {
-            let number = c.number();
-            format!(in alloc; "{time} do c{number} ")
+            line.push('c')?;
+            push_number(line, c.number())
         }
-        Who::Startup(number) => format!(in alloc; "{time} do s{number} "),
+        Who::Startup(number) => {
+            line.push('s')?;
+            push_number(line, u64::from(number))
+        }
     }
 }
 
 // The line of an occurrence.
-fn line_of_occurrence(
-    alloc: Global,
+fn push_occurrence(
+    line: &mut String,
     k: &Kernel,
     n: u64,
     reason: Reason,
     object: Option<Object>,
-) -> Result<String, AllocError>
-    ensures { IfOk result (λ line. string_bytes line
-        ≡ stamped (codes "occ " ++ decimal n ++ 32 ∷ reason_text reason ++ 32 ∷ object_text object (state_of k.now)) (state_of k.now)) }
+) -> Result<(), AllocError>
+    ensures { OnOk result (string_bytes line.new ≡ string_bytes line.old
+        ++ stamped (codes "occ " ++ decimal n ++ 32 ∷ reason_text reason ++ 32 ∷ object_text object (state_of k.now)) (state_of k.now)) }
 {
-    let time = k.time();
-    let name = reason.name();
-    let mut line = format!(in alloc; "{time} occ {n} {name} ")?;
-    push_object(&mut line, k, object)?;
-    line.push('\n')?;
-    Ok(line)
+    push_front(line, k.time(), "occ")?;
+    push_number(line, n)?;
+    line.push(' ')?;
+    line.push_str(reason.name())?;
+    line.push(' ')?;
+    push_object(line, k, object)?;
+    line.push('\n')
 }
 
 // Adds the full name of an object or a word, or a dash for none.
@@ -120,34 +127,51 @@ fn push_object(line: &mut String, k: &Kernel, object: Option<Object>) -> Result<
     };
     push_plain(line, k.object_name(object.id))?;
     match object.word {
-        Some(address) => write!(line, "[{address}]"),
+        Some(address) => push_address(line, address),
         None => Ok(()),
     }
 }
 
-// The line of a callback that fires.
-fn line_of_fire(alloc: Global, time: u64, n: u64, c: u64) -> Result<String, AllocError>
-    ensures { IfOk result (λ line. string_bytes line
-        ≡ decimal time ++ 32 ∷ (codes "fire " ++ decimal n ++ codes " c" ++ decimal c) ++ 10 ∷ []) }
+// Adds the address of a word in brackets.
+fn push_address(line: &mut String, address: u32) -> Result<(), AllocError>
+    ensures { OnOk result (string_bytes line.new
+        ≡ string_bytes line.old ++ 91 ∷ (decimal address ++ 93 ∷ [])) }
 {
-    format!(in alloc; "{time} fire {n} c{c}\n")
+    line.push('[')?;
+    push_number(line, u64::from(address))?;
+    line.push(']')
+}
+
+// The line of a callback that fires.
+fn push_fire(line: &mut String, time: u64, n: u64, c: u64) -> Result<(), AllocError>
+    ensures { OnOk result (string_bytes line.new ≡ string_bytes line.old
+        ++ decimal time ++ 32 ∷ (codes "fire " ++ decimal n ++ codes " c" ++ decimal c) ++ 10 ∷ []) }
+{
+    push_front(line, time, "fire")?;
+    push_number(line, n)?;
+    line.push_str(" c")?;
+    push_number(line, c)?;
+    line.push('\n')
 }
 
 // The line of an occurrence that is done.
-fn line_of_done(alloc: Global, time: u64, n: u64) -> Result<String, AllocError>
-    ensures { IfOk result (λ line. string_bytes line
-        ≡ decimal time ++ 32 ∷ (codes "done " ++ decimal n) ++ 10 ∷ []) }
+fn push_done(line: &mut String, time: u64, n: u64) -> Result<(), AllocError>
+    ensures { OnOk result (string_bytes line.new ≡ string_bytes line.old
+        ++ decimal time ++ 32 ∷ (codes "done " ++ decimal n) ++ 10 ∷ []) }
 {
-    format!(in alloc; "{time} done {n}\n")
+    push_front(line, time, "done")?;
+    push_number(line, n)?;
+    line.push('\n')
 }
 
 // The line of an end.
-fn line_of_end(alloc: Global, time: u64, ending: &Ending) -> Result<String, AllocError>
-    ensures { IfOk result (λ line. string_bytes line
-        ≡ decimal time ++ 32 ∷ (codes "end " ++ ending_name ending.now) ++ 10 ∷ []) }
+fn push_end(line: &mut String, time: u64, ending: &Ending) -> Result<(), AllocError>
+    ensures { OnOk result (string_bytes line.new ≡ string_bytes line.old
+        ++ decimal time ++ 32 ∷ (codes "end " ++ ending_name ending.now) ++ 10 ∷ []) }
 {
-    let name = name_of(ending);
-    format!(in alloc; "{time} end {name}\n")
+    push_front(line, time, "end")?;
+    line.push_str(name_of(ending))?;
+    line.push('\n')
 }
 
 // The name of an end.
@@ -161,19 +185,15 @@ fn name_of(ending: &Ending) -> &'static str
 }
 
 // The line of a text that was shown, if one was.
-fn line_of_shown(
-    alloc: Global,
-    time: u64,
-    shown: &Option<Bytes>,
-) -> Result<Option<String>, NoMemory>
-    ensures { IfOk result (λ line. option_map string_bytes line
-        ≡ option_map (λ text. decimal time ++ 32 ∷ text ++ 10 ∷ []) (shown_text shown.now)) }
+fn push_shown(line: &mut String, time: u64, shown: &Option<Bytes>) -> Result<(), AllocError>
+    ensures { OnOk result (string_bytes line.new ≡ string_bytes line.old
+        ++ unwrap_or (option_map (λ text. decimal time ++ 32 ∷ text ++ 10 ∷ [])
+        (shown_text shown.now)) []) }
 {
     let Some(text) = shown else {
-        return Ok(None);
+        return Ok(());
     };
-    let mut line = format!(in alloc; "{time} out ")?;
-    push_quoted(&mut line, text.as_slice())?;
-    line.push('\n')?;
-    Ok(Some(line))
+    push_front(line, time, "out")?;
+    push_quoted(line, text.as_slice())?;
+    line.push('\n')
 }

@@ -1,5 +1,5 @@
 -- What the least place, and the least serial, tell of those of a range.
-use Rattle.std.proofs.Common.{◌≡◌, ◌∙◌, ℕ, suc, ◌<◌, ◌≤◌, List, [], ◌∷◌, map, filter, slice_get, Bool, true, false, not, ◌&&◌, Some, refl, ap, arith}
+use Rattle.std.proofs.Common.{◌≡◌, ◌∙◌, ℕ, suc, ◌<◌, ◌≤◌, List, [], ◌∷◌, map, filter, slice_get, Bool, true, false, not, ◌&&◌, nat_lt, Some, refl, ap, arith}
 use Rattle.std.proofs.lemmas.Bool.Decides.{nat_tests}
 use Rattle.std.proofs.lemmas.Cmp.{nat_cmp_total, then_total}
 use Rattle.std.specs.BTreeMap.Range.{range_contains, IsLeBy}
@@ -56,6 +56,18 @@ ends-before time r from below least places past all =
 
     outside : All (λ p. between p ≡ false) places.keys
     outside k d within = not-past _ _ (le-not-gt _ ∙ ap not (upto place_total (place time r below) least _ past (all k d within)))
+
+-- Where the least one stands at a later time, none stands at this one.
+less-first : (o p : Ordering) → o ≡ Less → is_gt (ordering_then o p) ≡ false
+less-first o p is = rw is refl
+
+less-time : (a b : ℕ) → nat_lt a b ≡ true → nat_cmp a b ≡ Less
+less-time a b less = grind (arith, nat_tests)
+
+pub later-none : (time r from below : ℕ) (least : Place) (places : BTreeSet Place)
+    → nat_lt time least.time ≡ true → All (IsLeBy place_cmp least) places.keys → serials_of time r from below places ≡ []
+later-none time r from below least places less all =
+    ends-before time r from below least places (less-first (nat_cmp time least.time) _ (less-time time least.time less)) all
 
 pub begins-before : (time r from below : ℕ) (least : Place) (places : BTreeSet Place)
     → slice_get places.keys 0 ≡ Some least → is_gt (place_cmp (place time r from) least) ≡ false → is_gt (place_cmp (place time r below) least) ≡ true

@@ -1,5 +1,5 @@
 -- The places where entries wait: by time, region and serial, and which of them an index has. (own)
-use Rattle.std.specs.Prelude.{◌≡◌, ◌≤◌, ℕ, List, map, Bool, true, false, not, ◌&&◌, ◌||◌, ◌==◌, nat_le, nat_lt, Option, Some, None}
+use Rattle.std.specs.Prelude.{◌≡◌, ◌≤◌, ℕ, List, [], map, Bool, true, false, not, ◌&&◌, ◌||◌, ◌==◌, nat_le, nat_lt, Option, Some, None}
 use Rattle.std.specs.BTreeSet.{BTreeSet, contains, keys_between}
 use Rattle.std.specs.List.{list_any}
 use Rattle.std.specs.List.Sorted.{IsStrictlySortedBy}
@@ -46,6 +46,10 @@ place_of e = place_at e.time (rank_of e.region) e.serial
 abbrev pub serials_of : ℕ → ℕ → ℕ → ℕ → BTreeSet Place → List ℕ
 serials_of time r from below places =
     map (λ p. p.serial) (keys_between (cmp-value).it (Included (place time r from)) (Excluded (place time r below)) places)
+
+-- No place stands at the time, nor before it.
+abbrev pub AreLater : ℕ → BTreeSet Place → Type 0
+AreLater time places = (r from below : ℕ) → serials_of time r from below places ≡ []
 
 -- The serials below one of the entries that have no time.
 abbrev pub dated_in : ℕ → BTreeSet ℕ → List ℕ

@@ -1,5 +1,5 @@
-ghost use Rattle.std.specs.Prelude.{◌≡◌, ◌≤◌, ◌<◌, ◌^◌, length, slice_get, is_some, IfSome, IfNone, []};
-ghost use Rattle.vh_queue.specs.Places.{serials_of, IsLeastTime};
+ghost use Rattle.std.specs.Prelude.{◌≡◌, ◌≤◌, ◌<◌, ◌^◌, true, length, slice_get, is_some, IfSome, IfNone, []};
+ghost use Rattle.vh_queue.specs.Places.{serials_of, AreLater, IsLeastTime};
 ghost use Rattle.vh_queue.specs.Lanes.{first_four, last_four, count_four};
 ghost use Rattle.vh_queue.specs.Events.{earlier_of};
 ghost use Rattle.vh_queue.specs.Serials.{later_of, last_of};
@@ -20,6 +20,16 @@ pub(crate) struct Place {
 
 // The places of some entries.
 pub(crate) type Places = BTreeSet<Place, Global>;
+
+// Does each place stand at a later time? Then no more is to be asked.
+fn are_later(places: &Places, time: u64) -> bool
+    ensures { result ≡ true → AreLater time places.now }
+{
+    match places.first() {
+        None => true,
+        Some(least) => time < least.time,
+    }
+}
 
 // The first serial of a time and region from one on and below another.
 pub(crate) fn first_of(places: &Places, time: u64, rank: u8, from: u64, below: u64) -> Option<u64>
@@ -132,6 +142,9 @@ pub(crate) fn later(a: Option<u64>, b: Option<u64>) -> Option<u64>
 pub(crate) fn first_four(places: &Places, time: u64, own: u64, marks: &Marks) -> Option<u64>
     ensures { result ≡ first_four time own marks.now places.now }
 {
+    if are_later(places, time) {
+        return None;
+    }
     let active = first_of(places, time, Region::Active as u8, 0, own);
     let inactive = first_of(places, time, Region::Inactive as u8, 0, marks.inactive);
     let nonblocking = first_of(
@@ -149,6 +162,9 @@ pub(crate) fn first_four(places: &Places, time: u64, own: u64, marks: &Marks) ->
 pub(crate) fn any_four(places: &Places, time: u64, own: u64, marks: &Marks) -> bool
     ensures { result ≡ is_some (first_four time own marks.now places.now) }
 {
+    if are_later(places, time) {
+        return false;
+    }
     first_of(places, time, Region::Active as u8, 0, own).is_some()
         || first_of(places, time, Region::Inactive as u8, 0, marks.inactive).is_some()
         || first_of(
@@ -166,6 +182,9 @@ pub(crate) fn any_four(places: &Places, time: u64, own: u64, marks: &Marks) -> b
 pub(crate) fn last_four(places: &Places, time: u64, own: u64, marks: &Marks) -> Option<u64>
     ensures { result ≡ last_four time own marks.now places.now }
 {
+    if are_later(places, time) {
+        return None;
+    }
     let active = last_of(places, time, Region::Active as u8, 0, own);
     let inactive = last_of(places, time, Region::Inactive as u8, 0, marks.inactive);
     let nonblocking = last_of(
@@ -184,6 +203,9 @@ pub(crate) fn count_four(places: &Places, time: u64, own: u64, marks: &Marks) ->
     requires { count_four time own marks.now places.now < 2 ^ 32 }
     ensures { result ≡ count_four time own marks.now places.now }
 {
+    if are_later(places, time) {
+        return 0;
+    }
     let active = count_of(places, time, Region::Active as u8, 0, own);
     let inactive = count_of(places, time, Region::Inactive as u8, 0, marks.inactive);
     let nonblocking = count_of(
