@@ -1,5 +1,5 @@
 -- What a script orders next.
-use Rattle.std.specs.Prelude.{ℕ, zero, suc, ◌+◌, if◌then◌else◌, List, length, replicate, Option, Some, None, option_map, slice_get, set, bytes_eq, position}
+use Rattle.std.specs.Prelude.{◌≡◌, ℕ, zero, suc, ◌+◌, if◌then◌else◌, List, length, replicate, Option, Some, None, option_map, slice_get, set, bytes_eq, position}
 use Rattle.vh_base.specs.declared.orders.Answer.{Answer}
 use Rattle.vh_base.specs.declared.orders.Answer.TheVariants as answer
 use Rattle.vh_base.specs.declared.orders.Order.{Order}
@@ -151,3 +151,7 @@ next_in (suc n) s seen vars p =
 -- after all callbacks that the order caused (own). No way to an order has more steps than the script.
 abbrev pub next_of : ScriptData → Point → List Answer → Seen → Order × Point × List Answer
 next_of s p vars seen = next_in (length s.nodes) s seen (stored p.waiting seen.last vars) (beginning p.at)
+
+-- From this point on nothing is ordered but a return, whatever the variables are and is seen.
+abbrev pub ReturnsAt : ScriptData → Point → Type 0
+ReturnsAt s p = (vars : List Answer) (seen : Seen) → next_of s p vars seen ≡ (order.Return, p, vars)

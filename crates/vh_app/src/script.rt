@@ -1,6 +1,6 @@
-ghost use Rattle.std.specs.Prelude.{◌≡◌, bytes_eq, position, slice_get};
+ghost use Rattle.std.specs.Prelude.{◌≡◌, true, bytes_eq, position, slice_get};
 ghost use Rattle.vh_app.specs.Next as spec;
-ghost use Rattle.vh_app.specs.Next.{came, next_of, number_of, procedure_in, procedure_named};
+ghost use Rattle.vh_app.specs.Next.{ReturnsAt, came, next_of, number_of, procedure_in, procedure_named};
 ghost use Rattle.vh_app.specs.Script.{ScriptData};
 
 use crate::form::{Node, Procedure};
@@ -101,6 +101,17 @@ impl Script {
             Some(procedure) => Some(Point::new(procedure.start)),
             None => None,
         }
+    }
+
+    /// Does an activation return at a point at once, with no variable that waits for an answer? Then nothing
+    /// else happens there. Where it doesn't say so, [`Script::next`] does.
+    pub fn returns_at(&self, at: &Point) -> bool
+        ensures { result ≡ true → ReturnsAt self.now at.now }
+    {
+        if at.waiting.is_some() {
+            return false;
+        }
+        matches!(self.nodes.as_slice().get(at.at), Some(Node::Return) | None)
     }
 
     /// The next order from a point that this script gave, and the point behind it. The variable that waits

@@ -15,7 +15,7 @@ use crate::transcript::choose;
 use std::alloc::Global;
 use vh_base::{Bytes, NoMemory};
 use vh_choice::Chooser;
-use vh_kernel::{Kernel, Label, line_of};
+use vh_kernel::{Kernel, Label};
 use vh_words::read_words;
 
 /// The plain program beside the definitions: the text of the run that these words and these
@@ -150,8 +150,8 @@ fn push_line(
     ensures { OnOk result (text.new.items
         ≡ text.old.items ++ line_of_move (label.now, state_of kernel.now)) }
 {
-    if let Some(line) = line_of(alloc, kernel, label)? {
-        text.extend_from_slice(line.as_bytes())?;
-    }
+    let mut line = String::new(alloc);
+    vh_kernel::push_line(&mut line, kernel, label)?;
+    text.extend_from_slice(line.as_bytes())?;
     Ok(())
 }

@@ -1,6 +1,6 @@
 -- What a step leaves: which outcomes keep the queue and the phase, and that the machine goes on after a
 -- label that is no end.
-use Rattle.std.proofs.Common.{◌≡◌, ◌<◌, ◌-◌, nat_le, ℕ, List, length, max, Bool, true, false, cond, Option, Some, None, Result, Ok, Err, nat_lt, slice_get, slice_set, refl, sym, ap, subst, ◌∙◌, arith}
+use Rattle.std.proofs.Common.{◌≡◌, ◌<◌, ◌-◌, nat_le, ℕ, zero, suc, List, [], ◌∷◌, length, max, Bool, true, false, cond, Option, Some, None, Result, Ok, Err, nat_lt, slice_get, slice_set, refl, sym, ap, subst, ◌∙◌, arith}
 use Rattle.vh_base.specs.declared.limits.TheConstants.{MOST_FRAMES, MOST_NUMBERS}
 use Rattle.vh_base.specs.declared.faults.Fault.{Fault}
 use Rattle.vh_base.specs.declared.faults.Fault.TheVariants as fault
@@ -8,6 +8,7 @@ use Rattle.vh_design.specs.Shape.{Shape}
 use Rattle.vh_simulation.specs.Labels.{Came, Performed, performed as label_performed, worked}
 use Rattle.vh_base.specs.declared.orders.Answer.{Answer}
 use Rattle.vh_base.specs.declared.orders.Order.{Order}
+use Rattle.vh_base.specs.declared.orders.Order.TheVariants as order
 use Rattle.vh_base.proofs.ChecksLemmas.{unless-holds}
 use Rattle.vh_app.specs.declared.point.Point.{Point}
 use Rattle.vh_app.specs.Next.{next_of as next_order}
@@ -80,6 +81,20 @@ acts-next s a script vars after o p g there held next =
     ap (λ (x : Option ScriptData). activation_move x (slice_get s.world.variables a.script) a s g) there
     ∙ ap (λ (x : Option (List Answer)). activation_move (Some script) x a s g) held
     ∙ ap (λ (n : Order × Point × List Answer). next_move_of n a (with_top (top.Activation a) s) s g) (sym next)
+
+-- An activation that returns at once leaves all as it is.
+set-same : {X : Type 0} (xs : List X) (i : ℕ) (x : X) → slice_get xs i ≡ Some x → slice_set xs i x ≡ xs
+set-same [] i x is = refl
+set-same {X} (y ∷ xs) zero x is = let same : y ≡ x = cc in ap (λ (z : X). z ∷ xs) (sym same)
+set-same {X} (y ∷ xs) (suc i) x is = ap (λ (zs : List X). y ∷ zs) (set-same xs i x is)
+
+pub returns-now : (s : State) (a : Activation) (script : ScriptData) (vars : List Answer) (g : Given)
+    → slice_get s.world.scripts a.script ≡ Some script → slice_get s.world.variables a.script ≡ Some vars
+    → next_order script a.at vars a.seen ≡ (order.Return, a.at, vars)
+    → activation_move (slice_get s.world.scripts a.script) (slice_get s.world.variables a.script) a s g ≡ (label.Ret a.who, s)
+returns-now s a script vars g there held next =
+    acts-next s a script vars vars order.Return a.at g there held (sym next)
+    ∙ ap (λ (vs : List (List Answer)). (label.Ret a.who, with_variables vs s)) (set-same s.world.variables a.script vars held)
 
 pub acts : (script : Option ScriptData) (vars : Option (List Answer)) (a : Activation) (s : State) (g : Given)
     → IsActing a s g (activation_move script vars a s g)

@@ -29,9 +29,11 @@ impl Model for Activation {
 }
 
 impl Activation {
-    /// One that begins at this point of the script of this number, from 0.
+    /// One that begins at this point of the script of this number, from 0, in memory that another had if
+    /// there is some.
     pub fn new(
         alloc: Global,
+        memory: Option<Box<Seen>>,
         who: Who,
         script: usize,
         at: Point,
@@ -40,12 +42,31 @@ impl Activation {
         ensures { IfOk result (λ a. a
             ≡ record { who = who; script = script; at = at; seen = seen }) }
     {
+        let seen = match memory {
+            Some(mut memory) => {
+                *memory = seen;
+                memory
+            }
+            None => Box::new(alloc, seen)?,
+        };
         Ok(Activation {
             who,
             script,
             at,
-            seen: Box::new(alloc, seen)?,
+            seen,
         })
+    }
+
+    /// It is over; the memory of what it saw is left.
+    pub fn into_memory(self) -> Box<Seen> {
+        self.seen
+    }
+
+    /// How far it is.
+    pub fn point(&self) -> &Point
+        ensures { result.now ≡ self.now.at }
+    {
+        &self.at
     }
 
     /// Who gives its orders.

@@ -1,4 +1,4 @@
-ghost use Rattle.std.specs.Prelude.{◌≡◌, List, [], ◌∷◌, drop, slice_get, reverse, option_copied, OnOk, IfNone};
+ghost use Rattle.std.specs.Prelude.{◌≡◌, List, [], ◌∷◌, drop, slice_get, option_copied, OnOk, IfSome, IfNone};
 ghost use Rattle.vh_kernel.specs.declared.control.Control.{Control};
 
 use crate::activation::Activation;
@@ -22,16 +22,22 @@ pub enum Control {
     Leave(Cause),
 }
 
-/// A stack, which contracts see as the list of what is on it, the top first.
+/// A stack, which contracts see as the list of what is on it, the top first. A process that is put on an
+/// empty one has room of its own, so that it costs little to take it off and put it on again.
 #[derive(Drop)]
 pub struct Stack {
+    // what is below all
+    bottom: Option<Control>,
     items: Vec<Control>,
 }
 
 impl Model for Stack {
+    ghost use Rattle.std.specs.Prelude.{◌++◌, List, reverse, option_to_list};
+    ghost use Rattle.vh_kernel.specs.declared.control.Control.{Control};
+
     ghost Value = { List Control };
 
-    ghost view = { λ s. reverse s.items.items };
+    ghost view = { λ s. reverse s.items.items ++ option_to_list s.bottom };
 }
 
 impl Stack {
@@ -39,6 +45,7 @@ impl Stack {
         ensures { result ≡ [] }
     {
         Stack {
+            bottom: None,
             items: Vec::new(alloc),
         }
     }
@@ -47,7 +54,10 @@ impl Stack {
     pub fn top(&self) -> Option<&Control>
         ensures { option_copied result ≡ slice_get self.now 0 }
     {
-        self.items.last()
+        match self.items.last() {
+            Some(item) => Some(item),
+            None => self.bottom.as_ref(),
+        }
     }
 
     /// Puts something on top.
@@ -58,13 +68,44 @@ impl Stack {
         Ok(())
     }
 
+    /// Puts a process on top.
+    pub fn push_process(&mut self, p: u64) -> Result<(), NoMemory>
+        ensures { OnOk result (self.new ≡ Control.Process p ∷ self.old) }
+    {
+        if self.items.is_empty() && self.bottom.is_none() {
+            self.bottom = Some(Control::Process(p));
+            return Ok(());
+        }
+        self.items.push(Control::Process(p))?;
+        Ok(())
+    }
+
+    /// Takes a process off that is on top and below all, where one is.
+    pub fn take_process(&mut self) -> Option<u64>
+        ensures some { IfSome result (λ p. self.old ≡ Control.Process p ∷ self.new) }
+        ensures kept { IfNone result (self.new ≡ self.old) }
+    {
+        if !self.items.is_empty() {
+            return None;
+        }
+        let Some(Control::Process(p)) = &self.bottom else {
+            return None;
+        };
+        let p = *p;
+        self.bottom = None;
+        Some(p)
+    }
+
     /// Takes the top off, where there is one.
     pub fn pop(&mut self) -> Option<Control>
         ensures top { result ≡ slice_get self.old 0 }
         ensures rest { self.new ≡ drop 1 self.old }
         ensures kept { IfNone result (self.new ≡ self.old) }
     {
-        self.items.pop()
+        match self.items.pop() {
+            Some(item) => Some(item),
+            None => self.bottom.take(),
+        }
     }
 
     /// Takes all off.
@@ -72,5 +113,6 @@ impl Stack {
         ensures { self.new ≡ [] }
     {
         self.items.clear();
+        self.bottom = None;
     }
 }

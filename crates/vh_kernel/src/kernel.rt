@@ -16,7 +16,7 @@ use crate::phase::Phase;
 use std::alloc::Global;
 use std::collections::VecDeque;
 use vh_app::Script;
-use vh_base::{Cause, Fault, MOST_ENTRIES, NoMemory, ObjId, Reason};
+use vh_base::{Cause, Fault, MOST_ENTRIES, NoMemory, ObjId, Reason, Seen};
 use vh_design::Design;
 use vh_orders::{Who, World};
 use vh_simulation::Simulation;
@@ -35,13 +35,15 @@ pub struct Kernel {
     agenda: VecDeque<Agendum>,
     occurrence: u64,
     phase: Phase,
+    // memory of what an activation saw, which the next one takes
+    spare: Option<Box<Seen>>,
 }
 
 impl Kernel {
     ghost use Rattle.vh_kernel.specs.Line.{script_name};
     ghost use Rattle.vh_kernel.specs.Outcome.{end_move, fault_move};
     ghost use Rattle.vh_kernel.specs.Settle.{Opens};
-    ghost use Rattle.vh_kernel.specs.Step.{finish_move, time_move, region_move, pick_move, agenda_move, idle_move, crowded_move, top_move, is_crowded, is_end, step_of, next_given, IsStep, choices_of, top_choices, item_choices, idle_choices, agenda_choices};
+    ghost use Rattle.vh_kernel.specs.Step.{finish_move, time_move, region_move, pick_move, agenda_move, idle_move, crowded_move, top_move, item_move, is_crowded, is_end, step_of, next_given, IsStep, choices_of, top_choices, item_choices, idle_choices, agenda_choices};
     ghost use Rattle.vh_kernel.specs.Views.{state_of, given_by, Moves};
 
     /// The machine at the opening of a design with its scripts.
@@ -169,13 +171,25 @@ impl Kernel {
             (given_by self.old))
             result self.new }
     {
+        if let Some(p) = self.control.take_process() {
+            return self.perform_next(alloc, p);
+        }
         match self.control.pop() {
             None => self.go_idle(alloc, k),
-            Some(Control::Process(p)) => self.perform_next(alloc, p),
-            Some(Control::Pending(what)) => self.occur(alloc, what),
-            Some(Control::Frame(told)) => self.fire(alloc, told, k),
-            Some(Control::Activation(activation)) => self.act(alloc, activation),
-            Some(Control::Leave(cause)) => self.finish(cause),
+            Some(item) => self.go_on_by(alloc, item, k),
+        }
+    }
+
+    // What was on top of control goes on.
+    fn go_on_by(&mut self, alloc: Global, item: Control, k: u32) -> Result<Label, NoMemory>
+        ensures { Moves (item_move item (state_of self.old) k (given_by self.old)) result self.new }
+    {
+        match item {
+            Control::Process(p) => self.perform_next(alloc, p),
+            Control::Pending(what) => self.occur(alloc, what),
+            Control::Frame(told) => self.fire(alloc, told, k),
+            Control::Activation(activation) => self.act(alloc, activation),
+            Control::Leave(cause) => self.finish(cause),
         }
     }
 
@@ -250,7 +264,14 @@ impl Kernel {
             return Ok(Label::Startup(number));
         };
         let seen = startup_seen(self.simulation.time());
-        let activation = Activation::new(alloc, Who::Startup(number), i, script.startup(), seen)?;
+        let activation = Activation::new(
+            alloc,
+            None,
+            Who::Startup(number),
+            i,
+            script.startup(),
+            seen,
+        )?;
         self.control.push(Control::Activation(activation))?;
         Ok(Label::Startup(number))
     }

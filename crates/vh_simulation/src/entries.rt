@@ -76,7 +76,8 @@ fn note(d: &Design, q: &mut Queue, monitor: &mut Monitor, c: &Change) -> Result<
     enter_monitor(q, monitor)
 }
 
-// The entries that a change adds.
+// The entries that a change adds. It stands apart, so that a label that changes nothing makes no room for it.
+#[inline(never)]
 fn enter(
     d: &Design,
     s: &Store,

@@ -94,12 +94,55 @@ impl Kernel {
         let time = self.simulation.time();
         let seen = first_seen(alloc, &live.registration, what, time)?;
         let body = live.body;
-        let activation = Activation::new(alloc, Who::Callback(c), body.script, body.start, seen)?;
+        let memory = self.spare.take();
+        let who = Who::Callback(c);
+        let activation = Activation::new(alloc, memory, who, body.script, body.start, seen)?;
         self.control.push(Control::Activation(activation))
     }
 
     // An activation that was on top of control gives its next order, or returns.
     pub(crate) fn act(&mut self, alloc: Global, activation: Activation) -> Result<Label, NoMemory>
+        ensures { Moves (activation_move (slice_get
+            (state_of self.old).world.scripts activation.script)
+            (slice_get (state_of self.old).world.variables activation.script) activation
+            (state_of self.old) (given_by self.old)) result self.new }
+    {
+        if self.returns(&activation) {
+            return Ok(self.ret(activation));
+        }
+        self.give_order(alloc, activation)
+    }
+
+    // Does an activation return, with nothing else that it does?
+    fn returns(&self, activation: &Activation) -> bool
+        ensures { result ≡ true → activation_move (slice_get
+            (state_of self.now).world.scripts activation.now.script)
+            (slice_get (state_of self.now).world.variables activation.now.script) activation.now
+            (state_of self.now) (given_by self.now)
+            ≡ (Label.Ret activation.now.who, state_of self.now) }
+    {
+        let i = activation.script();
+        let Some(script) = self.world.scripts.get(i) else {
+            return false;
+        };
+        let Some(_vars) = self.world.vars.get(i) else {
+            return false;
+        };
+        script.returns_at(activation.point())
+    }
+
+    // It returns, and leaves the memory of what it saw.
+    fn ret(&mut self, activation: Activation) -> Label
+        ensures label { result ≡ Label.Ret activation.who }
+        ensures same { state_of self.new ≡ state_of self.old }
+    {
+        let who = activation.who();
+        self.spare = Some(activation.into_memory());
+        Label::Ret(who)
+    }
+
+    // It gives its next order, or returns.
+    fn give_order(&mut self, alloc: Global, activation: Activation) -> Result<Label, NoMemory>
         ensures { Moves (activation_move (slice_get
             (state_of self.old).world.scripts activation.script)
             (slice_get (state_of self.old).world.variables activation.script) activation
@@ -112,7 +155,7 @@ impl Kernel {
         let mut activation = activation;
         let order = activation.next_order(&self.world.scripts[i], &mut self.world.vars[i]);
         if is_return(&order) {
-            return Ok(Label::Ret(activation.who()));
+            return Ok(self.ret(activation));
         }
         self.obey(alloc, activation, order)
     }

@@ -113,6 +113,7 @@ impl Kernel {
             agenda,
             occurrence: 1,
             phase: Phase::Running,
+            spare: None,
         })
     }
 }

@@ -34,7 +34,8 @@ fn pend_change(
     Ok(())
 }
 
-// Those of what was made of an object.
+// Those of what was made of an object. It stands apart, so that a label that changes nothing makes no room for it.
+#[inline(never)]
 fn pend_made(control: &mut Stack, d: &Design, made: &Made) -> Result<(), NoMemory>
     ensures { OnOk result (control.new
         ≡ map Control.Pending (by_made (d.now).objects (made.now).change) ++ control.old) }
@@ -72,14 +73,14 @@ fn go_on(control: &mut Stack, next: Next, p: u64) -> Result<(), NoMemory>
     ensures { OnOk result (control.new ≡ next_on next p control.old) }
 {
     match next {
-        Next::On | Next::Shows(_) | Next::Calls(_) => control.push(Control::Process(p)),
+        Next::On | Next::Shows(_) | Next::Calls(_) => control.push_process(p),
         Next::Waits | Next::Ends => Ok(()),
         Next::Finishes => {
-            control.push(Control::Process(p))?;
+            control.push_process(p)?;
             control.push(Control::Leave(Cause::Finish))
         }
         Next::Stops => {
-            control.push(Control::Process(p))?;
+            control.push_process(p)?;
             control.push(Control::Leave(Cause::Stop))
         }
     }
@@ -110,7 +111,7 @@ impl Kernel {
                 Ok(Label::Stmt(process, performed.came.shown))
             }
             Err(StepFault::Run(fault)) => {
-                self.control.push(Control::Process(p))?;
+                self.control.push_process(p)?;
                 Ok(self.fail(fault))
             }
             Err(StepFault::NoMemory) => Err(NoMemory),
@@ -124,7 +125,7 @@ impl Kernel {
     {
         match &entry.work {
             Work::Evaluate(p) => {
-                self.control.push(Control::Process(p.number()))?;
+                self.control.push_process(p.number())?;
                 Ok(Label::Pick(entry.serial, None))
             }
             Work::Assign { .. }

@@ -9,7 +9,7 @@ use Rattle.vh_kernel.specs.Step.{order_move}
 use Rattle.vh_kernel.specs.Views.{state_of, given_by, Moves}
 use Rattle.vh_orders.specs.Orders.{Given, is_return}
 use Rattle.vh_kernel.proofs.StepLemmas.{acts-next}
-use Rattle.vh_kernel.proofs.kernel.Kernel.act.Goals as goal
+use Rattle.vh_kernel.proofs.kernel.Kernel.give_order.Goals as goal
 
 pub returns : goal.returns
 returns c =
