@@ -2,11 +2,58 @@ ghost use Rattle.std.specs.Prelude.{◌≡◌, option_map};
 ghost use Rattle.vh_app.specs.Next as spec;
 ghost use Rattle.vh_app.specs.Next.{order_from};
 
-use crate::form::{Body, Form};
+use crate::form::{Atom, Body, Form};
 use crate::script::Script;
 use crate::value::{handle_at, number_at, text_at};
 use crate::vars::Vars;
-use vh_base::{BodyName, Boxed, Order, ProcName, Seen, Short};
+use vh_base::{BodyName, Boxed, Format, Mode, Order, ProcName, Reason, Seen, Short, SystfKind};
+
+// `by_name`.
+#[inline(never)]
+fn by_name(vars: &Vars, seen: &Seen, text: &Atom, scope: &Atom) -> Order
+    ensures { result ≡ Order.ByName (spec.text_at vars.now seen.now text.now)
+        (spec.handle_at vars.now seen.now scope.now) }
+{
+    Order::ByName {
+        text: text_at(vars, seen, text),
+        scope: handle_at(vars, seen, scope),
+    }
+}
+
+// `put_value`.
+#[inline(never)]
+fn put_value(
+    vars: &Vars,
+    seen: &Seen,
+    object: &Atom,
+    format: Format,
+    text: &Atom,
+    mode: Mode,
+    time: &Atom,
+    event: bool,
+) -> Order
+    ensures { result ≡ Order.PutValue (spec.handle_at vars.now seen.now object.now) format
+        (spec.text_at vars.now seen.now text.now) mode (spec.number_at vars.now seen.now time.now) event }
+{
+    Order::PutValue {
+        h: handle_at(vars, seen, object),
+        format,
+        text: text_at(vars, seen, text),
+        mode,
+        time: number_at(vars, seen, time),
+        event,
+    }
+}
+
+// `print`.
+#[inline(never)]
+fn print(vars: &Vars, seen: &Seen, text: &Atom) -> Order
+    ensures { result ≡ Order.Print (spec.text_at vars.now seen.now text.now) }
+{
+    Order::Print {
+        text: text_at(vars, seen, text),
+    }
+}
 
 impl Script {
     // A procedure of the script itself.
@@ -16,6 +63,54 @@ impl Script {
         ProcName {
             app: self.name().copy(),
             name: name.copy(),
+        }
+    }
+
+    // `register`.
+    #[inline(never)]
+    fn register(
+        &self,
+        vars: &Vars,
+        seen: &Seen,
+        reason: Reason,
+        object: &Atom,
+        time: &Atom,
+        body: &Body,
+        user: &Atom,
+    ) -> Order
+        ensures { result ≡ order_from self.now vars.now seen.now
+            (Form.Register reason object.now time.now body.now user.now) }
+    {
+        Order::Register {
+            reason,
+            h: handle_at(vars, seen, object),
+            time: number_at(vars, seen, time),
+            body: self.body(body),
+            n: number_at(vars, seen, user),
+        }
+    }
+
+    // `register_systf`.
+    #[inline(never)]
+    fn register_systf(
+        &self,
+        vars: &Vars,
+        seen: &Seen,
+        kind: SystfKind,
+        name: &Atom,
+        size: &Atom,
+        calltf: &Short,
+        compiletf: &Option<Boxed<Short>>,
+    ) -> Order
+        ensures { result ≡ order_from self.now vars.now seen.now
+            (Form.RegisterSystf kind name.now size.now calltf.now compiletf.now) }
+    {
+        Order::RegisterSystf {
+            kind,
+            text: text_at(vars, seen, name),
+            n: number_at(vars, seen, size),
+            calltf: self.own(calltf),
+            compiletf: self.own_if(compiletf),
         }
     }
 
@@ -37,15 +132,14 @@ impl Script {
         }
     }
 
-    /// The order of a form.
+    /// The order of a form. Orders with texts are made apart, so that those without any make no room for
+    /// them.
+    #[inline(never)]
     pub(crate) fn order(&self, vars: &Vars, seen: &Seen, form: &Form) -> Order
         ensures { result ≡ order_from self.now vars.now seen.now form.now }
     {
         match form {
-            Form::ByName { text, scope } => Order::ByName {
-                text: text_at(vars, seen, text),
-                scope: handle_at(vars, seen, scope),
-            },
+            Form::ByName { text, scope } => by_name(vars, seen, text, scope),
             Form::ByIndex { memory, index } => Order::ByIndex {
                 h: handle_at(vars, seen, memory),
                 n: number_at(vars, seen, index),
@@ -87,14 +181,7 @@ impl Script {
                 mode,
                 time,
                 event,
-            } => Order::PutValue {
-                h: handle_at(vars, seen, object),
-                format: *format,
-                text: text_at(vars, seen, text),
-                mode: *mode,
-                time: number_at(vars, seen, time),
-                event: *event,
-            },
+            } => put_value(vars, seen, object, *format, text, *mode, time, *event),
             Form::Cancel(atom) => Order::Cancel {
                 h: handle_at(vars, seen, atom),
             },
@@ -105,13 +192,7 @@ impl Script {
                 time,
                 body,
                 data,
-            } => Order::Register {
-                reason: *reason,
-                h: handle_at(vars, seen, object),
-                time: number_at(vars, seen, time),
-                body: self.body(body),
-                n: number_at(vars, seen, data),
-            },
+            } => self.register(vars, seen, *reason, object, time, body, data),
             Form::Remove(atom) => Order::Remove {
                 h: handle_at(vars, seen, atom),
             },
@@ -124,18 +205,10 @@ impl Script {
                 size,
                 calltf,
                 compiletf,
-            } => Order::RegisterSystf {
-                kind: *kind,
-                text: text_at(vars, seen, name),
-                n: number_at(vars, seen, size),
-                calltf: self.own(calltf.get()),
-                compiletf: self.own_if(compiletf),
-            },
+            } => self.register_systf(vars, seen, *kind, name, size, calltf.get(), compiletf),
             Form::ChkError => Order::ChkError,
             Form::Control { stop } => Order::Control { stop: *stop },
-            Form::Print(atom) => Order::Print {
-                text: text_at(vars, seen, atom),
-            },
+            Form::Print(atom) => print(vars, seen, atom),
             Form::SetData(atom) => Order::SetData {
                 n: number_at(vars, seen, atom),
             },
