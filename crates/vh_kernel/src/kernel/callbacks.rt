@@ -175,7 +175,7 @@ impl Kernel {
         if is_pass(&order) {
             return self.pass(activation);
         }
-        self.ask(alloc, activation, order)
+        self.ask(alloc, activation, Boxed::new(alloc, order)?)
     }
 
     // It goes on by a step that asks for nothing.
@@ -196,7 +196,7 @@ impl Kernel {
         &mut self,
         alloc: Global,
         activation: Activation,
-        order: Order,
+        order: Boxed<Order>,
     ) -> Result<Label, NoMemory>
         requires goes_on { is_return order ≡ false }
         requires asks { is_pass order ≡ false }
@@ -205,10 +205,10 @@ impl Kernel {
             (given_by self.old)) result self.new }
     {
         let who = activation.who();
-        let answer = perform(alloc, &mut self.world, who, &order)?;
+        let answer = perform(alloc, &mut self.world, who, order.get())?;
         let mut activation = activation;
         activation.note(&answer);
         self.control.push(Control::Activation(activation))?;
-        Ok(Label::Do(who, Boxed::new(alloc, order)?, Boxed::new(alloc, answer)?))
+        Ok(Label::Do(who, order, Boxed::new(alloc, answer)?))
     }
 }
