@@ -23,10 +23,8 @@ use vh_simulation::Simulation;
 
 /// The machine of one design with its scripts. What it shows is a state; each call of
 /// [`Kernel::step`] takes the logarithm of the entries that stand in the queue, goes over those
-/// that
-/// become active, and over the design's names where an order looks for one, and takes no other
-/// time that
-/// grows with the design.
+/// that become active, and once, where the first order looks for a name, over the design's names,
+/// and takes no other time that grows with the design.
 #[derive(Drop)]
 pub struct Kernel {
     world: World,

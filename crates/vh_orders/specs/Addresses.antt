@@ -1,5 +1,5 @@
 -- How the address in a word's name is read.
-use Rattle.std.specs.Prelude.{◌≢◌, ◌<◌, ◌^◌, ℕ, List, [], ◌∷◌, length, Bool, false, not, ◌&&◌, ◌||◌, ◌==◌}
+use Rattle.std.specs.Prelude.{◌≢◌, ◌<◌, ◌^◌, ℕ, List, [], ◌∷◌, length, Bool, false, not, ◌&&◌, ◌||◌, ◌==◌, ◌≡◌, Option, Some}
 use Rattle.std.specs.Fmt.{decimal}
 use Rattle.vh_orders.specs.Names.{at_address}
 
@@ -14,3 +14,7 @@ IsNoNumber digits = (a : ℕ) → a < 2 ^ 64 → digits ≢ decimal a
 
 abbrev pub IsNoWord : List ℕ → List ℕ → Type 0
 IsNoWord name text = (a : ℕ) → a < 2 ^ 64 → text ≢ at_address name a
+
+-- The name of the memory whose word a text would be: no other memory has a word of that name.
+abbrev pub IsMemoryOf : List ℕ → Option (List ℕ) → Type 0
+IsMemoryOf text memory = (name : List ℕ) (a : ℕ) → text ≡ at_address name a → memory ≡ Some name

@@ -2,6 +2,8 @@
 pub mod Names
 -- How the address in a word's name is read.
 pub mod Addresses
+-- How an object is found by an index of names.
+pub mod LookUp
 -- What orders read and change.
 pub mod World
 -- What each order is answered and what it changes, a row for each.

@@ -11,7 +11,7 @@ use Rattle.vh_orders.specs.World.{World}
 
 abbrev pub world_of : TheWorld → World
 world_of w = record {
-  names = w.names.items;
+  names = w.names;
   scripts = w.scripts.items;
   variables = w.vars.items;
   callbacks = w.registry.callbacks;

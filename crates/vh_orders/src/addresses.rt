@@ -1,6 +1,7 @@
 ghost use Rattle.std.specs.Prelude.{◌≡◌, ◌<◌, ◌^◌, MatchOption};
 ghost use Rattle.std.specs.Fmt.{decimal};
-ghost use Rattle.vh_orders.specs.Addresses.{is_canonical, IsNoNumber, IsNoWord};
+ghost use Rattle.std.specs.Option.{option_copied};
+ghost use Rattle.vh_orders.specs.Addresses.{is_canonical, IsNoNumber, IsNoWord, IsMemoryOf};
 ghost use Rattle.vh_orders.specs.Names.{at_address, word_named};
 
 // Do digits begin with neither a sign nor a zero in front of others?
@@ -44,6 +45,19 @@ fn address_behind(name: &[u8], text: &[u8]) -> Option<u64>
         return None;
     };
     number_of(digits)
+}
+
+// The name of the memory whose word a text would be: what stands before its last bracket.
+pub(crate) fn memory_of(text: &[u8]) -> Option<&[u8]>
+    ensures { IsMemoryOf text.now (option_copied result) }
+{
+    let Some(inner) = text.strip_suffix(b"]") else {
+        return None;
+    };
+    let Some(open) = inner.iter().rposition(|byte| *byte == b'[') else {
+        return None;
+    };
+    Some(&inner[..open])
 }
 
 // The address of the word of that full name, if the memory has one.

@@ -1,15 +1,15 @@
 ghost use Rattle.std.specs.Prelude.{◌≡◌, IfOk};
-ghost use Rattle.vh_orders.specs.Names.{object_named, name_of, below};
+ghost use Rattle.vh_orders.specs.Names.{name_of, below};
 ghost use Rattle.vh_orders.specs.Orders.{effect_of, object_in, new_handle};
 ghost use Rattle.vh_orders.specs.Views.{world_of, HasEffect};
 
 use crate::halt::Halt;
-use crate::names::{joined, object_named};
+use crate::names::joined;
 use crate::tables::is_startup;
 use crate::who::Who;
 use crate::world::World;
 use std::alloc::Global;
-use vh_base::{Answer, Code, HandleNo, NoMemory, Object, Order};
+use vh_base::{Answer, Bytes, Code, HandleNo, NoMemory, Object, Order};
 use vh_handles::Thing;
 
 // The object that a handle names.
@@ -39,7 +39,7 @@ impl World {
             return Err(Halt::Refused(Code::E9));
         }
         let Some(handle) = scope else {
-            let found = object_named(&self.names, text)?;
+            let found = self.names.object_named(alloc, text)?;
             return self.open(alloc, found);
         };
         let object = match object_in(self.handles.thing(handle)) {
@@ -49,23 +49,17 @@ impl World {
         if !self.is_scope(object.id) {
             return Err(Halt::Refused(Code::E2));
         }
-        let found = self.path_named(alloc, &object, text)?;
+        let name = self.name_below(alloc, &object, text)?;
+        let found = self.names.object_named(alloc, name.as_slice())?;
         self.open(alloc, found)
     }
 
-    // The object of a path below a scope.
-    fn path_named(
-        &self,
-        alloc: Global,
-        scope: &Object,
-        path: &[u8],
-    ) -> Result<Option<Object>, NoMemory>
-        ensures { IfOk result (λ o. o ≡ object_named
-            (below (name_of scope.now.id (world_of self.now).names) path.now)
-            (world_of self.now).names) }
+    // The full name of a path below a scope.
+    fn name_below(&self, alloc: Global, scope: &Object, path: &[u8]) -> Result<Bytes, NoMemory>
+        ensures { IfOk result (λ name. name ≡
+            below (name_of scope.now.id (world_of self.now).names) path.now) }
     {
-        let name = joined(alloc, self.object_name(scope.id), path)?;
-        object_named(&self.names, name.as_slice())
+        joined(alloc, self.object_name(scope.id), path)
     }
 
     // A new handle of an object, if there is one.

@@ -12,6 +12,7 @@
 mod addresses;
 mod by_name;
 mod halt;
+mod look_up;
 mod names;
 mod performing;
 mod reads;
@@ -21,6 +22,7 @@ mod tables;
 mod who;
 mod world;
 
+pub use look_up::Names;
 pub use names::{Named, joined};
 pub use performing::perform;
 pub use tables::{is_pass, is_return};

@@ -1,9 +1,9 @@
 ghost use Rattle.std.specs.Prelude.{◌≡◌, position, IfOk};
-ghost use Rattle.vh_orders.specs.Names.{has_path, has_name, word_of, is_meant, object_named, below, may_watch};
+ghost use Rattle.vh_orders.specs.Names.{has_path, has_name, word_of, is_meant, below, may_watch};
 
 use crate::addresses::word_named;
 use std::alloc::Global;
-use vh_base::{Bytes, NoMemory, ObjId, Object, Reason, Sequence};
+use vh_base::{Bytes, NoMemory, Reason, Sequence};
 use vh_design::Kind;
 
 /// An object of the design as applications know it.
@@ -27,14 +27,14 @@ impl Named {
     }
 
     // The address of its word of that full name.
-    fn word_of(&self, text: &[u8]) -> Option<u64>
+    pub(crate) fn word_of(&self, text: &[u8]) -> Option<u64>
         ensures { result ≡ word_of text.now self.now }
     {
         word_named(text, self.name.as_slice(), self.lowest, self.words)
     }
 
     // Does that full name mean it, or a word of it?
-    fn is_meant(&self, text: &[u8]) -> bool
+    pub(crate) fn is_meant(&self, text: &[u8]) -> bool
         ensures { result ≡ is_meant text.now self.now }
     {
         self.has_name(text) || self.word_of(text).is_some()
@@ -42,49 +42,34 @@ impl Named {
 }
 
 // Does a full name mean an object of this kind?
-fn has_path(kind: Kind) -> bool
+pub(crate) fn has_path(kind: Kind) -> bool
     ensures { result ≡ has_path kind }
 {
     kind.is_scope() || kind.is_vector() || kind.is_memory() || kind.is_event()
 }
 
 // The place of the object that a full name means, or a word of which it means.
-fn place_named(names: &[Named], text: &[u8]) -> Option<usize>
+pub(crate) fn place_named(names: &[Named], text: &[u8]) -> Option<usize>
     ensures { result ≡ position (is_meant text.now) names.now }
 {
     names.iter().position(|n| n.is_meant(text))
 }
 
 // A number of an object, or an address: no design has one of 2^32.
-fn narrow(number: u64) -> Result<u32, NoMemory>
+pub(crate) fn narrow(number: u64) -> Result<u32, NoMemory>
     ensures { IfOk result (λ n. n ≡ number) }
 {
     u32::try_from(number).map_err(|_| NoMemory)
 }
 
 // The address of a word, if it is one.
-fn narrow_address(address: Option<u64>) -> Result<Option<u32>, NoMemory>
+pub(crate) fn narrow_address(address: Option<u64>) -> Result<Option<u32>, NoMemory>
     ensures { IfOk result (λ a. a ≡ address) }
 {
     match address {
         None => Ok(None),
         Some(address) => Ok(Some(narrow(address)?)),
     }
-}
-
-// The object of a full name, or the word.
-pub(crate) fn object_named(names: &[Named], text: &[u8]) -> Result<Option<Object>, NoMemory>
-    ensures { IfOk result (λ o. o ≡ object_named text.now names.now) }
-{
-    let Some(at) = place_named(names, text) else {
-        return Ok(None);
-    };
-    let Some(named) = names.get(at) else {
-        return Ok(None);
-    };
-    let word = narrow_address(named.word_of(text))?;
-    let id = ObjId::new(narrow(at as u64)?);
-    Ok(Some(Object { id, word }))
 }
 
 // May a reason watch an object of this kind?

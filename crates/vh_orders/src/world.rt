@@ -3,7 +3,8 @@ ghost use Rattle.vh_nodes.specs.Kinds.{is_scope};
 ghost use Rattle.vh_orders.specs.Names.{name_of, is_kind, may_watch};
 ghost use Rattle.vh_orders.specs.Views.{world_of};
 
-use crate::names::{Named, may_watch};
+use crate::look_up::Names;
+use crate::names::may_watch;
 use crate::who::Body;
 use vh_app::{Script, Vars};
 use vh_base::{Code, ObjId, Reason};
@@ -15,7 +16,7 @@ use vh_handles::Handles;
 #[derive(Drop)]
 pub struct World {
     /// The design's objects, by number.
-    pub names: Vec<Named>,
+    pub names: Names,
     pub scripts: Vec<Script>,
     /// The variables of each script.
     pub vars: Vec<Vars>,
@@ -32,7 +33,7 @@ impl World {
     pub fn object_name(&self, id: ObjId) -> &[u8]
         ensures { result.now ≡ name_of id (world_of self.now).names }
     {
-        match self.names.get(id.number() as usize) {
+        match self.names.get(id) {
             Some(named) => named.name.as_slice(),
             None => &[],
         }
@@ -42,7 +43,7 @@ impl World {
     pub(crate) fn is_scope(&self, id: ObjId) -> bool
         ensures { result ≡ is_kind is_scope id (world_of self.now).names }
     {
-        match self.names.get(id.number() as usize) {
+        match self.names.get(id) {
             Some(named) => named.kind.is_scope(),
             None => false,
         }
@@ -52,7 +53,7 @@ impl World {
     pub(crate) fn may_watch(&self, reason: Reason, id: ObjId) -> bool
         ensures { result ≡ is_kind (may_watch reason) id (world_of self.now).names }
     {
-        match self.names.get(id.number() as usize) {
+        match self.names.get(id) {
             Some(named) => may_watch(reason, named.kind),
             None => false,
         }

@@ -17,7 +17,7 @@ use vh_design::{Design, lowest_of};
 use vh_dispatch::Dispatch;
 use vh_handles::Handles;
 use vh_names::full_name;
-use vh_orders::{Named, World};
+use vh_orders::{Named, Names, World};
 use vh_simulation::Simulation;
 
 // Every variable of every script is null.
@@ -77,7 +77,7 @@ fn world_before(alloc: Global, d: &Design, scripts: Vec<Script>) -> Result<World
     ensures world { IfOk result (λ w. world_of w ≡ world_before d.now scripts.items) }
     ensures few { IfOk result (λ w. w.scripts.items ≡ scripts.items) }
 {
-    let names = all_names(alloc, d)?;
+    let names = Names::new(all_names(alloc, d)?);
     let vars = all_vars(alloc, scripts.as_slice())?;
     let dispatch = Dispatch::new(alloc)?;
     Ok(World {
