@@ -1,5 +1,5 @@
 -- Lemmas on `specs/LookUp.antt`: the object of a name is the lesser of two that an index has.
-use Rattle.std.proofs.Common.{◌≡◌, ◌≢◌, ◌∙◌, ◌<◌, ◌≤◌, ◌+◌, ◌-◌, ◌++◌, ◌%◌, ◌/◌, ◌||◌, ◌&&◌, ◌==◌, ◌⊎◌, inl, inr, not, ℕ, zero, suc, Bool, true, false, cond, List, [], ◌∷◌, length, take, get_or, All, Vec, Option, Some, None, ⊎_elim, length-append, refl, sym, ap, subst, arith}
+use Rattle.std.proofs.Common.{◌≡◌, ◌≢◌, ◌∙◌, ◌<◌, ◌≤◌, ◌+◌, ◌-◌, ◌++◌, ◌%◌, ◌/◌, ◌||◌, ◌==◌, ◌⊎◌, inl, inr, not, ℕ, zero, suc, Bool, true, false, cond, List, [], ◌∷◌, length, take, get_or, All, Vec, Option, Some, None, ⊎_elim, length-append, refl, sym, ap, subst, arith}
 use Rattle.std.specs.Prelude.{bytes_eq, position, slice_get, is_some, min, nat_lt}
 use Rattle.std.specs.Fmt.{decimal, digits, digits_onto, digit_glyph}
 use Rattle.std.specs.List.{find, position_or_len, range_with_len}
@@ -8,7 +8,7 @@ use Rattle.std.specs.Borrow.{Bor}
 use Rattle.std.specs.Option.{option_and_then, option_copied}
 use Rattle.std.proofs.lemmas.Bool.{cases_lt, and_parts, or_cases, or_right}
 use Rattle.std.proofs.lemmas.Bool.Decides.{nat_tests}
-use Rattle.std.proofs.lemmas.List.{append_cancel_right, append_assoc, get_or_at, get_or-append_right, take_at, take_more, take_all, length-take-le}
+use Rattle.std.proofs.lemmas.List.{append_cancel_right, append_assoc, get_or_at, get_or-append_right, take_at}
 use Rattle.std.proofs.lemmas.List.Elements.{All-get_or}
 use Rattle.std.proofs.lemmas.List.Sums.{position_or_len_is}
 use Rattle.std.proofs.lemmas.Option.{slice_get-get_or, slice_get_within, get_or_from_slice_get, same_Some, none-some, cond_some, option_and_then_some}
@@ -275,16 +275,3 @@ adds-new at n old new k key none rows was names count index whole j m there find
     ((bytes_eq-Decides m.name k.items).1 (same ∙ sym key))
     ∙ ap (λ (v : ℕ). Some v) (sym place))
     (more-at names n m j there)
-
--- The index after some objects, and after one more.
-pub index-first : (names : List Named) (i : Index) → IsIndexOf (take 0 names) i
-index-first names i whole j n there findable = absurd (none-some n there)
-
-pub index-next : (names : List Named) (at : ℕ) (d : Named) (old new : Index) → at < length names
-    → Adds at (get_or names at d) old new → IsIndexOf (take at names) old → IsIndexOf (take (at + 1) names) new
-index-next names at d old new inside adds index =
-    subst (λ (ns : List Named). IsIndexOf ns new) (sym (take_more names at d inside))
-    (adds (take at names) (length-take-le at names (omega (arith, inside))) index)
-
-pub index-last : (names : List Named) (at : ℕ) (i : Index) → length names ≤ at → IsIndexOf (take at names) i → IsIndexOf names i
-index-last names at i past index = subst (λ (ns : List Named). IsIndexOf ns i) (take_all at names past) index

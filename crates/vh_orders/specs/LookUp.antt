@@ -1,5 +1,5 @@
 -- How an object is found by an index of names. (own)
-use Rattle.std.specs.Prelude.{◌≡◌, ◌<◌, ⊤, ℕ, List, [], ◌∷◌, ◌++◌, length, min, Bool, true, not, ◌||◌, ◌==◌, if◌then◌else◌, Option, Some, None, bytes_eq, slice_get}
+use Rattle.std.specs.Prelude.{◌≡◌, ⊤, ℕ, List, [], ◌∷◌, ◌++◌, length, min, Bool, true, not, ◌||◌, ◌==◌, if◌then◌else◌, Option, Some, None, bytes_eq, slice_get}
 use Rattle.std.specs.Map.{lookup}
 use Rattle.std.specs.Option.{option_and_then}
 use Rattle.vh_orders.specs.declared.names.Named.{Named}

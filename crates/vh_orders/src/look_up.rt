@@ -1,4 +1,4 @@
-ghost use Rattle.std.specs.Prelude.{◌≡◌, ℕ, List, true, position, slice_get, min, IfOk, OnOk};
+ghost use Rattle.std.specs.Prelude.{◌≡◌, true, position, slice_get, IfOk, OnOk};
 ghost use Rattle.std.specs.Option.{option_copied};
 ghost use Rattle.vh_orders.specs.Names.{is_meant, object_named};
 ghost use Rattle.vh_orders.specs.LookUp.{is_findable, candidate, lesser, IsMemoryCandidate, IsIndexOf, Adds};
@@ -112,7 +112,8 @@ impl Index {
 
 /// The objects of a design by number, which contracts see as a list. The first order that looks
 /// for a name goes over them once, and takes memory for each name; a later one takes the time of
-/// the text alone. In a design where two objects have one name, each goes over all.
+/// its text alone. In a design where two objects that a name may mean have one name, each goes
+/// over all.
 #[derive(Drop)]
 pub struct Names {
     all: Vec<Named>,

@@ -13,6 +13,8 @@ use vh_callbacks::Registration;
 /// Performs an order: answers it, and changes the world as its row says. The error of the
 /// answer is the world's last error. An order that ends an activation, or asks for nothing, is
 /// not performed.
+/// The first `by_name` goes over the design's names once, and takes memory for each; a later one
+/// takes the time of its text alone, if no two objects have one name.
 pub fn perform(alloc: Global, w: &mut World, who: Who, order: &Order) -> Result<Answer, NoMemory>
     requires goes_on { is_return order.now ≡ false }
     requires asks { is_pass order.now ≡ false }

@@ -1,4 +1,4 @@
-use Rattle.std.proofs.Common.{◌∙◌, false, not, ap, sym, rules}
+use Rattle.std.proofs.Common.{◌∙◌, ap, sym, rules}
 use Rattle.indexmap.specs.IndexMap.{insert_entry}
 use Rattle.indexmap.proofs.CallerLemmas.{insert_entry-new}
 use Rattle.vh_orders.specs.declared.look_up.Index.{Index}
