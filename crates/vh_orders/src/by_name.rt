@@ -24,7 +24,9 @@ pub(crate) fn object_in(thing: Option<Thing>) -> Result<Object, Code>
 }
 
 impl World {
-    // by_name: the object of a full name, or of a path below a scope.
+    // by_name: the object of a full name, or of a path below a scope. Like `register` it stands apart, so that other orders make
+    // no room for it.
+    #[inline(never)]
     pub(crate) fn by_name(
         &mut self,
         alloc: Global,

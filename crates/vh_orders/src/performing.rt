@@ -88,6 +88,7 @@ impl World {
     }
 
     // An order that no script gives yet.
+    #[inline(never)]
     fn not_yet(&self, who: &Who, order: &Order) -> Result<Answer, Halt>
         ensures { HasEffect (not_yet order.now who.now
             (world_of self.now)) self.now result self.now }

@@ -49,6 +49,7 @@ fn procedure_named(scripts: &[Script], procedure: &ProcName) -> Result<Body, Cod
 
 impl World {
     // register: a callback for a reason and an object.
+    #[inline(never)]
     pub(crate) fn register(
         &mut self,
         alloc: Global,
