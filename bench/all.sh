@@ -25,6 +25,8 @@ if command -v valgrind >/dev/null; then
     printf '| 1000 | %s |\n\n' "$(figure 'instructions a label')"
     python3 "$folder/designs.py" || exit 1
     echo
+    python3 "$folder/orders.py" || exit 1
+    echo
 fi
 echo '| Callbacks | Changes | Elsewhere | Fires | Fires a second | Instructions a fire | `vhost run` | `vvp` |'
 echo '|---|---|---|---|---|---|---|---|'

@@ -79,29 +79,32 @@ def by_name(folder, names, few=100, many=400):
     return (asked[1] - asked[0] - read[1] + read[0]) / (many - few)
 
 
+def rows(folder):
+    """What is counted, and its instructions."""
+    fire = in_a_fire(folder, "")
+    yield "a fire of a callback that returns at once, with its line", fire
+    for order in ('print "";', "remove null;"):
+        yield f"`{order}`, with its line", in_a_fire(folder, order) - fire
+    short, long = (in_a_fire(folder, f'print "{"a" * n}";') for n in (10, 210))
+    yield "a byte of the text of a `print`", (long - short) / 200
+    yield "a callback that removes itself and registers its successor, with the fire and the lines", in_a_fire(folder, "remove me; " + WATCH)
+    yield "`by_name` of the last of 50,000 names, with its line", by_name(folder, 50000)
+
+
 def main():
     if not shutil.which("valgrind"):
         sys.exit("orders.py: valgrind isn't there")
     with tempfile.TemporaryDirectory() as folder:
-        print("| What | Instructions |\n|---|---|")
-        fire = in_a_fire(folder, "")
-        rows = [("a fire of a callback that returns at once, with its line", fire)]
-        for name, body in (("`print \"\";`", 'print "";'), ("`remove null;`", "remove null;")):
-            rows.append((f"{name}, with its line", in_a_fire(folder, body) - fire))
-        short, long = (in_a_fire(folder, f'print "{"a" * n}";') for n in (10, 210))
-        rows.append(("a byte of the text of a `print`", (long - short) / 200))
-        renewal = "remove me; " + WATCH
-        rows.append(("a callback that removes itself and registers its successor, with the fire and the lines", in_a_fire(folder, renewal)))
-        rows.append(("`by_name` of the last of 50,000 names, with its line", by_name(folder, 50000)))
-        for name, count in rows:
+        print("| What | Instructions |\n|---|---|", flush=True)
+        for name, count in rows(folder):
             print(f"| {name} | {count:,.0f} |", flush=True)
-        print("\n| What | Seconds of the processor |\n|---|---|")
+        print("\n| What | Seconds of the processor |\n|---|---|", flush=True)
         count = 20000
         for name, body in (("return at once", ""), ("remove themselves", "remove me;")):
             taken = min(seconds(folder, toggles(1), watching(count, body)) for _ in range(3))
             print(f"| {count:,} callbacks that {name} at one change, with the reading of the script | {taken:.2f} |", flush=True)
-        body = "remove me; " + WATCH * 2
-        print(f"| 17 changes, a callback that removes itself and registers two | {seconds(folder, toggles(17), watching(1, body)):.2f} |")
+        taken = seconds(folder, toggles(17), watching(1, "remove me; " + WATCH * 2))
+        print(f"| 17 changes, a callback that removes itself and registers two | {taken:.2f} |")
 
 
 main()
