@@ -108,13 +108,21 @@ fn push_occurrence(
     ensures { OnOk result (string_bytes line.new ≡ string_bytes line.old
         ++ stamped (codes "occ " ++ decimal n ++ 32 ∷ reason_text reason ++ 32 ∷ object_text object (state_of k.now)) (state_of k.now)) }
 {
-    push_front(line, k.time(), "occ")?;
+    push_told(line, k.time(), n, reason)?;
+    push_object(line, k, object)?;
+    line.push('\n')
+}
+
+// The time, the number of an occurrence and its reason.
+fn push_told(line: &mut String, time: u64, n: u64, reason: Reason) -> Result<(), AllocError>
+    ensures { OnOk result (string_bytes line.new ≡ string_bytes line.old
+        ++ decimal time ++ 32 ∷ codes "occ " ++ decimal n ++ 32 ∷ reason_text reason ++ 32 ∷ []) }
+{
+    push_front(line, time, "occ")?;
     push_number(line, n)?;
     line.push(' ')?;
     line.push_str(reason.name())?;
-    line.push(' ')?;
-    push_object(line, k, object)?;
-    line.push('\n')
+    line.push(' ')
 }
 
 // Adds the full name of an object or a word, or a dash for none.
