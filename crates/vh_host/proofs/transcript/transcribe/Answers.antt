@@ -11,6 +11,9 @@ returns-in-Some-clause-wrote g c =
     so_far_ends _ _ _ _ _ _ _ _ _ _ _ c.requires.lawful c.loop-made.invariant.0 c.loop-made-test.true
     (subst P c.choose-k.ensures.choice c.in-Some.ensures.turned)
 
+pub returns-in-Some-clause-calm : goal.returns-in-Some-clause-calm
+returns-in-Some-clause-calm g c other = c.in-Some.ensures.calm (λ e. other (cc)) ∙ c.loop-made.invariant.2
+
 pub loop-made-preserved : goal.loop-made-preserved
 loop-made-preserved g c =
     let P : ℕ → Type 0 = λ k. Turned k None (state_of c.loop-made.kernel) (state_of c.turn.new.kernel)
