@@ -109,7 +109,8 @@ fn text_of_texts(
     match judge(alloc, files) {
         Ok((design, scripts)) => {
             let mut kernel = Kernel::new(alloc, design, scripts)?;
-            text_from(alloc, &mut kernel, order, budget)
+            let text = text_from(alloc, &mut kernel, order, budget)?;
+            Ok(text)
         }
         Err(Refusal::NoMemory) => Err(NoMemory),
         Err(Refusal::Design(_, _) | Refusal::Script(_, _, _)) => Ok(Vec::new(alloc)),
