@@ -33,7 +33,8 @@ fn put_value(
     event: bool,
 ) -> Order
     ensures { result ≡ Order.PutValue (spec.handle_at vars.now seen.now object.now) format
-        (spec.text_at vars.now seen.now text.now) mode (spec.number_at vars.now seen.now time.now) event }
+        (spec.text_at vars.now seen.now text.now) mode
+        (spec.number_at vars.now seen.now time.now) event }
 {
     Order::PutValue {
         h: handle_at(vars, seen, object),
