@@ -1,5 +1,6 @@
-ghost use Rattle.std.specs.Prelude.{◌≡◌};
+ghost use Rattle.std.specs.Prelude.{◌≡◌, IfOk};
 
+use crate::faults::NoMemory;
 use crate::format::Format;
 use crate::numbers::{HandleNo, ObjId};
 use crate::short::Short;
@@ -139,18 +140,18 @@ pub enum Answer {
 }
 
 impl Answer {
-    /// The same answer once more.
-    pub fn copy(&self) -> Answer
-        ensures { result ≡ self.now }
+    /// The same answer once more, which shares its text; takes no memory.
+    pub fn copy(&self) -> Result<Answer, NoMemory>
+        ensures { IfOk result (λ answer. answer ≡ self.now) }
     {
-        match self {
+        Ok(match self {
             Answer::Done => Answer::Done,
             Answer::Null => Answer::Null,
             Answer::Handle(handle) => Answer::Handle(*handle),
             Answer::Number(number) => Answer::Number(*number),
-            Answer::Text(text) => Answer::Text(text.copy()),
+            Answer::Text(text) => Answer::Text(text.copy()?),
             Answer::Refused(code) => Answer::Refused(*code),
-        }
+        })
     }
 }
 

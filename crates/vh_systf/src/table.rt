@@ -27,20 +27,20 @@ impl Model for SystfTable {
 }
 
 // The same registration once more.
-fn copied(entry: &SystfEntry) -> SystfEntry
-    ensures { result ≡ entry.now }
+fn copied(entry: &SystfEntry) -> Result<SystfEntry, NoMemory>
+    ensures { IfOk result (λ copied. copied ≡ entry.now) }
 {
     let compiletf = match &entry.compiletf {
         None => None,
-        Some(name) => Some(name.copy()),
+        Some(name) => Some(name.copy()?),
     };
-    SystfEntry {
+    Ok(SystfEntry {
         kind: entry.kind,
-        name: entry.name.copy(),
+        name: entry.name.copy()?,
         size: entry.size,
-        calltf: entry.calltf.copy(),
+        calltf: entry.calltf.copy()?,
         compiletf,
-    }
+    })
 }
 
 impl SystfTable {
@@ -70,7 +70,8 @@ impl SystfTable {
             return Ok(());
         }
         let name = Vec::from_slice(alloc, name)?;
-        self.rows.insert(name, copied(entry))?;
+        let copied = copied(entry)?;
+        self.rows.insert(name, copied)?;
         Ok(())
     }
 
