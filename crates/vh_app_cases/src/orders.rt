@@ -262,13 +262,19 @@ static ROWS: [Row; 27] = [
     ),
 ];
 
-fn answer_of(rt: &impl Abort, last: Last) -> Answer {
+fn short(rt: &impl Abort, alloc: Global, bytes: &[u8]) -> Short {
+    Short::new(alloc, bytes)
+        .expect(rt, "memory")
+        .expect(rt, "a short text")
+}
+
+fn answer_of(rt: &impl Abort, alloc: Global, last: Last) -> Answer {
     match last {
         Last::Null => Answer::Null,
         Last::Done => Answer::Done,
         Last::Handle(number) => Answer::Handle(HandleNo::new(number)),
         Last::Number(number) => Answer::Number(number),
-        Last::Text(bytes) => Answer::Text(Short::new(bytes).expect(rt, "a short text")),
+        Last::Text(bytes) => Answer::Text(short(rt, alloc, bytes)),
         Last::Refused(code) => Answer::Refused(code),
     }
 }
@@ -287,13 +293,13 @@ fn next_text(
         time: 40,
         object: Some(HandleNo::new(8)),
         me: Some(HandleNo::new(3)),
-        value: Short::new(b"1x"),
+        value: Some(short(rt, alloc, b"1x")),
         index: Some(6),
         user_data: 9,
         step: 0,
-        last: answer_of(rt, last),
+        last: answer_of(rt, alloc, last),
     };
-    let order = script.next(at, vars, &seen);
+    let order = script.next(alloc, at, vars, &seen).expect(rt, "memory");
     let mut text = String::new(alloc);
     push_order(&mut text, &order).expect(rt, "memory");
     text
@@ -431,7 +437,7 @@ static FAULTS: [(&[u8], AppFault, u32, u32); 4] = [
 fn a_refused_text_has_its_fault(rt: HostRuntime) -> Result<(), Fail> {
     let mut earlier = Vec::new(rt.alloc());
     earlier
-        .push(Short::new(b"b").expect(&rt, "a short text"))
+        .push(short(&rt, rt.alloc(), b"b"))
         .expect(&rt, "memory");
     for (text, fault, line, column) in &FAULTS {
         let place = Place {

@@ -55,11 +55,17 @@ fn a_sink_takes_parts_and_fails_by_number(rt: HostRuntime) -> Result<(), Fail> {
 #[test]
 fn a_short_text_has_255_bytes_at_most(rt: HostRuntime) -> Result<(), Fail> {
     let bytes = [b'a'; 256];
-    assert!(rt; Short::new(&bytes).is_none());
-    let most = Short::new(&bytes[..255]).expect(&rt, "255 bytes");
+    let none = Short::new(rt.alloc(), &bytes).expect(&rt, "memory");
+    assert!(rt; none.is_none());
+    let most = Short::new(rt.alloc(), &bytes[..255])
+        .expect(&rt, "memory")
+        .expect(&rt, "255 bytes");
     assert_eq!(rt; most.bytes().len(), 255);
-    assert_eq!(rt; most.copy().bytes().len(), 255);
-    let empty = Short::new(b"").expect(&rt, "no bytes");
+    let again = most.copy().expect(&rt, "no memory is taken");
+    assert_eq!(rt; again.bytes().len(), 255);
+    let empty = Short::new(rt.alloc(), b"")
+        .expect(&rt, "memory")
+        .expect(&rt, "no bytes");
     assert_eq!(rt; empty.bytes(), b"".as_slice());
     Ok(())
 }
@@ -103,7 +109,9 @@ fn stop(seen: &Seen) -> Order
 
 #[test]
 fn a_native_answers_what_its_promise_allows(rt: HostRuntime) -> Result<(), Fail> {
-    let name = Short::new(b"stop").expect(&rt, "a short name");
+    let name = Short::new(rt.alloc(), b"stop")
+        .expect(&rt, "memory")
+        .expect(&rt, "a short name");
     let native = Native {
         name,
         promise: Promise::Stop,

@@ -58,21 +58,23 @@ fn handle(number: Option<u64>) -> Option<HandleNo> {
     }
 }
 
-fn short(rt: &impl Abort, text: &str) -> Short {
-    Short::new(text.as_bytes()).expect(rt, "a row's text is short")
+fn short(rt: &impl Abort, alloc: Global, text: &str) -> Short {
+    Short::new(alloc, text.as_bytes())
+        .expect(rt, "memory")
+        .expect(rt, "a row's text is short")
 }
 
-fn made_procedure(rt: &impl Abort, written: Procedure) -> ProcName {
+fn made_procedure(rt: &impl Abort, alloc: Global, written: Procedure) -> ProcName {
     ProcName {
-        app: short(rt, written.0),
-        name: short(rt, written.1),
+        app: short(rt, alloc, written.0),
+        name: short(rt, alloc, written.1),
     }
 }
 
-fn body(rt: &impl Abort, written: Called) -> BodyName {
+fn body(rt: &impl Abort, alloc: Global, written: Called) -> BodyName {
     match written {
-        Called::Proc(written) => BodyName::Proc(made_procedure(rt, written)),
-        Called::Native(name) => BodyName::Native(short(rt, name)),
+        Called::Proc(written) => BodyName::Proc(made_procedure(rt, alloc, written)),
+        Called::Native(name) => BodyName::Native(short(rt, alloc, name)),
     }
 }
 
@@ -117,16 +119,16 @@ fn plain_order(written: Plain) -> Order {
     }
 }
 
-fn text_order(rt: &impl Abort, written: Texts) -> Order {
+fn text_order(rt: &impl Abort, alloc: Global, written: Texts) -> Order {
     match written {
         Texts::ByName(text, scope) => Order::ByName {
-            text: short(rt, text),
+            text: short(rt, alloc, text),
             scope: handle(scope),
         },
         Texts::PutValue(h, format, text, mode, time, event) => Order::PutValue {
             h: handle(h),
             format,
-            text: short(rt, text),
+            text: short(rt, alloc, text),
             mode,
             time,
             event,
@@ -135,25 +137,25 @@ fn text_order(rt: &impl Abort, written: Texts) -> Order {
             reason,
             h: handle(h),
             time,
-            body: body(rt, called),
+            body: body(rt, alloc, called),
             n,
         },
         Texts::RegisterSystf(kind, text, n, calltf, compiletf) => Order::RegisterSystf {
             kind,
-            text: short(rt, text),
+            text: short(rt, alloc, text),
             n,
-            calltf: made_procedure(rt, calltf),
-            compiletf: optional(rt, compiletf),
+            calltf: made_procedure(rt, alloc, calltf),
+            compiletf: optional(rt, alloc, compiletf),
         },
         Texts::Print(text) => Order::Print {
-            text: short(rt, text),
+            text: short(rt, alloc, text),
         },
     }
 }
 
-fn optional(rt: &impl Abort, written: Option<Procedure>) -> Option<ProcName> {
+fn optional(rt: &impl Abort, alloc: Global, written: Option<Procedure>) -> Option<ProcName> {
     match written {
-        Some(written) => Some(made_procedure(rt, written)),
+        Some(written) => Some(made_procedure(rt, alloc, written)),
         None => None,
     }
 }
@@ -368,7 +370,7 @@ static TEXTS: [(Texts, &'static str); 20] = [
 #[test]
 fn orders_with_texts(rt: HostRuntime) -> Result<(), Fail> {
     for &(written, expected) in &TEXTS {
-        let line = printed(rt.alloc(), &text_order(&rt, written))?;
+        let line = printed(rt.alloc(), &text_order(&rt, rt.alloc(), written))?;
         assert_eq!(rt; line.as_bytes(), expected.as_bytes(), "{expected}");
     }
     Ok(())
@@ -385,13 +387,13 @@ enum Given {
     Refused(Code),
 }
 
-fn answer(rt: &impl Abort, written: Given) -> Answer {
+fn answer(rt: &impl Abort, alloc: Global, written: Given) -> Answer {
     match written {
         Given::Done => Answer::Done,
         Given::Null => Answer::Null,
         Given::Handle(number) => Answer::Handle(HandleNo::new(number)),
         Given::Number(n) => Answer::Number(n),
-        Given::Text(text) => Answer::Text(short(rt, text)),
+        Given::Text(text) => Answer::Text(short(rt, alloc, text)),
         Given::Refused(code) => Answer::Refused(code),
     }
 }
@@ -416,7 +418,7 @@ static ANSWERS: [(Given, &'static str); 12] = [
 fn answers_of_each_kind(rt: HostRuntime) -> Result<(), Fail> {
     for &(written, expected) in &ANSWERS {
         let mut line = String::new(rt.alloc());
-        push_answer(&mut line, &answer(&rt, written))?;
+        push_answer(&mut line, &answer(&rt, rt.alloc(), written))?;
         assert_eq!(rt; line.as_bytes(), expected.as_bytes(), "{expected}");
     }
     Ok(())

@@ -3,30 +3,34 @@ use std::test::Fail;
 use vh_base::{NoMemory, Short, SystfEntry, SystfKind};
 use vh_systf::SystfTable;
 
-fn entry(name: &[u8], size: u32) -> Option<SystfEntry> {
-    let name = Short::new(name)?;
-    let calltf = Short::new(b"app.call")?;
-    Some(SystfEntry {
+fn entry(alloc: Global, name: &[u8], size: u32) -> Result<Option<SystfEntry>, NoMemory> {
+    let Some(name) = Short::new(alloc, name)? else {
+        return Ok(None);
+    };
+    let Some(calltf) = Short::new(alloc, b"app.call")? else {
+        return Ok(None);
+    };
+    Ok(Some(SystfEntry {
         kind: SystfKind::Func,
         name,
         size,
         calltf,
         compiletf: None,
-    })
+    }))
 }
 
 fn registrations(alloc: Global) -> Result<Vec<SystfEntry>, NoMemory> {
     let mut all = Vec::new(alloc);
-    if let Some(it) = entry(b"$random", 8) {
+    if let Some(it) = entry(alloc, b"$random", 8)? {
         all.push(it)?;
     }
-    if let Some(it) = entry(b"$time", 8) {
+    if let Some(it) = entry(alloc, b"$time", 8)? {
         all.push(it)?;
     }
-    if let Some(it) = entry(b"$random", 16) {
+    if let Some(it) = entry(alloc, b"$random", 16)? {
         all.push(it)?;
     }
-    if let Some(it) = entry(b"$seed", 1) {
+    if let Some(it) = entry(alloc, b"$seed", 1)? {
         all.push(it)?;
     }
     Ok(all)

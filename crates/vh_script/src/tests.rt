@@ -21,7 +21,7 @@ fn fault_of(
 ) -> Result<Option<(AppFault, u32, u32)>, Fail> {
     assert!(rt; text.len() < 2_147_483_648);
     let mut earlier = Vec::new(alloc);
-    if let Some(name) = Short::new(b"old") {
+    if let Some(name) = Short::new(alloc, b"old").expect(rt, "memory") {
         earlier.push(name)?;
     }
     match read_script(alloc, text, &earlier) {
