@@ -1,10 +1,10 @@
-use vh_base::{Boxed, Format, Mode, Property, Reason, Relation, Short, SystfKind};
+use vh_base::{Format, Mode, Property, Reason, Relation, Short, SystfKind};
 
 /// What stands where an order wants a value.
 #[derive(Drop)]
 pub enum Atom {
     Number(u64),
-    Text(Boxed<Short>),
+    Text(Short),
     Null,
     /// A variable, by its number.
     Variable(usize),
@@ -26,8 +26,8 @@ pub enum Atom {
 /// What a callback is to call.
 #[derive(Drop)]
 pub enum Body {
-    Proc(Boxed<Short>),
-    Native(Boxed<Short>),
+    Proc(Short),
+    Native(Short),
 }
 
 /// An order whose values are taken when it is given.
@@ -87,8 +87,8 @@ pub enum Form {
         kind: SystfKind,
         name: Atom,
         size: Atom,
-        calltf: Boxed<Short>,
-        compiletf: Option<Boxed<Short>>,
+        calltf: Short,
+        compiletf: Option<Short>,
     },
     ChkError,
     Control {

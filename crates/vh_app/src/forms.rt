@@ -6,30 +6,24 @@ ghost use Rattle.vh_script.specs.Views.{atom_seen, body_seen, name_seen, order_s
 
 use crate::form::{Atom, Body, Form, Test};
 use std::alloc::Global;
-use vh_base::{Boxed, NoMemory, Short};
+use vh_base::{NoMemory, Short};
 use vh_script as tree;
 
 // How long a text is at most.
 const TEXT_LIMIT: usize = 255;
 
 // A name of few bytes; no script that was read has another.
-pub(crate) fn name(bytes: &[u8]) -> Result<Short, NoMemory>
+pub(crate) fn name(alloc: Global, bytes: &[u8]) -> Result<Short, NoMemory>
     ensures { IfOk result (λ n. n ≡ bytes.now) }
 {
-    match Short::new(bytes) {
+    match Short::new(alloc, bytes)? {
         Some(name) => Ok(name),
         None => Err(NoMemory),
     }
 }
 
-fn boxed_name(alloc: Global, bytes: &[u8]) -> Result<Boxed<Short>, NoMemory>
-    ensures { IfOk result (λ n. n ≡ bytes.now) }
-{
-    Boxed::new(alloc, name(bytes)?)
-}
-
 // A text without the backslashes of its escapes.
-fn text(bytes: &[u8]) -> Result<Short, NoMemory>
+fn text(alloc: Global, bytes: &[u8]) -> Result<Short, NoMemory>
     ensures { IfOk result (λ t. t ≡ unescaped false bytes.now) }
 {
     let mut buffer = [0; TEXT_LIMIT];
@@ -47,7 +41,7 @@ fn text(bytes: &[u8]) -> Result<Short, NoMemory>
         length += 1;
         escaped = false;
     }
-    name(&buffer[..length])
+    name(alloc, &buffer[..length])
 }
 
 // The byte is the backslash of an escape.
@@ -63,7 +57,7 @@ pub(crate) fn atom(alloc: Global, atom: tree::Atom<'_>) -> Result<Atom, NoMemory
 {
     match atom {
         tree::Atom::Number(number) => Ok(Atom::Number(number)),
-        tree::Atom::Text(bytes) => Ok(Atom::Text(Boxed::new(alloc, text(bytes)?)?)),
+        tree::Atom::Text(bytes) => Ok(Atom::Text(text(alloc, bytes)?)),
         tree::Atom::Null => Ok(Atom::Null),
         tree::Atom::Variable(number) => Ok(Atom::Variable(number)),
         tree::Atom::Obj => Ok(Atom::Obj),
@@ -94,16 +88,16 @@ fn body(alloc: Global, body: tree::Body<'_>) -> Result<Body, NoMemory>
     ensures { IfOk result (λ b. b ≡ body_laid (body_seen body.entry)) }
 {
     match body {
-        tree::Body::Proc(name) => Ok(Body::Proc(boxed_name(alloc, name)?)),
-        tree::Body::Native(name) => Ok(Body::Native(boxed_name(alloc, name)?)),
+        tree::Body::Proc(bytes) => Ok(Body::Proc(name(alloc, bytes)?)),
+        tree::Body::Native(bytes) => Ok(Body::Native(name(alloc, bytes)?)),
     }
 }
 
-fn name_if(alloc: Global, name: Option<&[u8]>) -> Result<Option<Boxed<Short>>, NoMemory>
-    ensures { IfOk result (λ n. n ≡ name_seen name.entry) }
+fn name_if(alloc: Global, bytes: Option<&[u8]>) -> Result<Option<Short>, NoMemory>
+    ensures { IfOk result (λ n. n ≡ name_seen bytes.entry) }
 {
-    match name {
-        Some(name) => Ok(Some(boxed_name(alloc, name)?)),
+    match bytes {
+        Some(bytes) => Ok(Some(name(alloc, bytes)?)),
         None => Ok(None),
     }
 }
@@ -189,15 +183,15 @@ pub(crate) fn form(alloc: Global, order: &tree::Order<'_>) -> Result<Form, NoMem
         tree::Order::CbInfo(a) => Ok(Form::CbInfo(atom(alloc, a)?)),
         tree::Order::RegisterSystf {
             kind,
-            name,
+            name: registered,
             size,
             calltf,
             compiletf,
         } => Ok(Form::RegisterSystf {
             kind,
-            name: atom(alloc, name)?,
+            name: atom(alloc, registered)?,
             size: atom(alloc, size)?,
-            calltf: boxed_name(alloc, calltf)?,
+            calltf: name(alloc, calltf)?,
             compiletf: name_if(alloc, compiletf)?,
         }),
         tree::Order::ChkError => Ok(Form::ChkError),

@@ -158,7 +158,7 @@ fn add_procedure(
 {
     let start = so.nodes.len();
     so.procedures.push(Procedure {
-        name: name(procedure.name)?,
+        name: name(alloc, procedure.name)?,
         start,
     })?;
     lay_all(alloc, &mut so.nodes, procedure.commands.as_slice())?;
@@ -187,7 +187,7 @@ pub(crate) fn script_of(alloc: Global, app: &App<'_>) -> Result<Script, NoMemory
 {
     let mut so = lay_startup(alloc, app.startup.as_slice())?;
     add_procedures(alloc, &mut so, app.procedures.as_slice())?;
-    let name = name(app.name)?;
+    let name = name(alloc, app.name)?;
     let variables = app.variables.as_slice().len();
     let Laying { procedures, nodes } = so;
     Ok(Script::new(name, variables, procedures, nodes))

@@ -1,146 +1,59 @@
-ghost use Rattle.std.specs.Prelude.{◌≡◌, option_map};
+ghost use Rattle.std.specs.Prelude.{◌≡◌, IfOk, option_map};
 ghost use Rattle.vh_app.specs.Next as spec;
 ghost use Rattle.vh_app.specs.Next.{order_from};
 
-use crate::form::{Atom, Body, Form};
+use crate::form::{Body, Form};
 use crate::script::Script;
 use crate::value::{handle_at, number_at, text_at};
 use crate::vars::Vars;
-use vh_base::{BodyName, Boxed, Format, Mode, Order, ProcName, Reason, Seen, Short, SystfKind};
-
-// `by_name`.
-#[inline(never)]
-fn by_name(vars: &Vars, seen: &Seen, text: &Atom, scope: &Atom) -> Order
-    ensures { result ≡ Order.ByName (spec.text_at vars.now seen.now text.now)
-        (spec.handle_at vars.now seen.now scope.now) }
-{
-    Order::ByName {
-        text: text_at(vars, seen, text),
-        scope: handle_at(vars, seen, scope),
-    }
-}
-
-// `put_value`.
-#[inline(never)]
-fn put_value(
-    vars: &Vars,
-    seen: &Seen,
-    object: &Atom,
-    format: Format,
-    text: &Atom,
-    mode: Mode,
-    time: &Atom,
-    event: bool,
-) -> Order
-    ensures { result ≡ Order.PutValue (spec.handle_at vars.now seen.now object.now) format
-        (spec.text_at vars.now seen.now text.now) mode
-        (spec.number_at vars.now seen.now time.now) event }
-{
-    Order::PutValue {
-        h: handle_at(vars, seen, object),
-        format,
-        text: text_at(vars, seen, text),
-        mode,
-        time: number_at(vars, seen, time),
-        event,
-    }
-}
-
-// `print`.
-#[inline(never)]
-fn print(vars: &Vars, seen: &Seen, text: &Atom) -> Order
-    ensures { result ≡ Order.Print (spec.text_at vars.now seen.now text.now) }
-{
-    Order::Print {
-        text: text_at(vars, seen, text),
-    }
-}
+use std::alloc::Global;
+use vh_base::{BodyName, NoMemory, Order, ProcName, Seen, Short};
 
 impl Script {
     // A procedure of the script itself.
-    fn own(&self, name: &Short) -> ProcName
-        ensures { result ≡ spec.own self.now name.now }
+    fn own(&self, name: &Short) -> Result<ProcName, NoMemory>
+        ensures { IfOk result (λ procedure. procedure ≡ spec.own self.now name.now) }
     {
-        ProcName {
-            app: self.name().copy(),
-            name: name.copy(),
-        }
+        Ok(ProcName {
+            app: self.name().copy()?,
+            name: name.copy()?,
+        })
     }
 
-    // `register`.
-    #[inline(never)]
-    fn register(
-        &self,
-        vars: &Vars,
-        seen: &Seen,
-        reason: Reason,
-        object: &Atom,
-        time: &Atom,
-        body: &Body,
-        user: &Atom,
-    ) -> Order
-        ensures { result ≡ order_from self.now vars.now seen.now
-            (Form.Register reason object.now time.now body.now user.now) }
-    {
-        Order::Register {
-            reason,
-            h: handle_at(vars, seen, object),
-            time: number_at(vars, seen, time),
-            body: self.body(body),
-            n: number_at(vars, seen, user),
-        }
-    }
-
-    // `register_systf`.
-    #[inline(never)]
-    fn register_systf(
-        &self,
-        vars: &Vars,
-        seen: &Seen,
-        kind: SystfKind,
-        name: &Atom,
-        size: &Atom,
-        calltf: &Short,
-        compiletf: &Option<Boxed<Short>>,
-    ) -> Order
-        ensures { result ≡ order_from self.now vars.now seen.now
-            (Form.RegisterSystf kind name.now size.now calltf.now compiletf.now) }
-    {
-        Order::RegisterSystf {
-            kind,
-            text: text_at(vars, seen, name),
-            n: number_at(vars, seen, size),
-            calltf: self.own(calltf),
-            compiletf: self.own_if(compiletf),
-        }
-    }
-
-    fn own_if(&self, name: &Option<Boxed<Short>>) -> Option<ProcName>
-        ensures { result ≡ option_map (spec.own self.now) name.now }
+    fn own_if(&self, name: &Option<Short>) -> Result<Option<ProcName>, NoMemory>
+        ensures { IfOk result (λ procedure. procedure ≡ option_map (spec.own self.now) name.now) }
     {
         match name {
-            Some(name) => Some(self.own(name.get())),
-            None => None,
+            Some(name) => Ok(Some(self.own(name)?)),
+            None => Ok(None),
         }
     }
 
-    fn body(&self, body: &Body) -> BodyName
-        ensures { result ≡ spec.body_from self.now body.now }
+    fn body(&self, body: &Body) -> Result<BodyName, NoMemory>
+        ensures { IfOk result (λ called. called ≡ spec.body_from self.now body.now) }
     {
         match body {
-            Body::Proc(name) => BodyName::Proc(self.own(name.get())),
-            Body::Native(name) => BodyName::Native(name.get().copy()),
+            Body::Proc(name) => Ok(BodyName::Proc(self.own(name)?)),
+            Body::Native(name) => Ok(BodyName::Native(name.copy()?)),
         }
     }
 
-    /// The order of a form. Orders with texts are made apart, so that those without any make no room for
-    /// them.
-    #[inline(never)]
-    pub(crate) fn order(&self, vars: &Vars, seen: &Seen, form: &Form) -> Order
-        ensures { result ≡ order_from self.now vars.now seen.now form.now }
+    /// The order of a form, which shares its texts. It takes memory where a text is made of a number, a
+    /// handle or an error.
+    pub(crate) fn order(
+        &self,
+        alloc: Global,
+        vars: &Vars,
+        seen: &Seen,
+        form: &Form,
+    ) -> Result<Order, NoMemory>
+        ensures { IfOk result (λ order. order ≡ order_from self.now vars.now seen.now form.now) }
     {
-        match form {
-            Form::ByName { text, scope } => by_name(vars, seen, text, scope),
+        Ok(match form {
+            Form::ByName { text, scope } => Order::ByName {
+                text: text_at(alloc, vars, seen, text)?,
+                scope: handle_at(vars, seen, scope),
+            },
             Form::ByIndex { memory, index } => Order::ByIndex {
                 h: handle_at(vars, seen, memory),
                 n: number_at(vars, seen, index),
@@ -182,7 +95,14 @@ impl Script {
                 mode,
                 time,
                 event,
-            } => put_value(vars, seen, object, *format, text, *mode, time, *event),
+            } => Order::PutValue {
+                h: handle_at(vars, seen, object),
+                format: *format,
+                text: text_at(alloc, vars, seen, text)?,
+                mode: *mode,
+                time: number_at(vars, seen, time),
+                event: *event,
+            },
             Form::Cancel(atom) => Order::Cancel {
                 h: handle_at(vars, seen, atom),
             },
@@ -193,7 +113,13 @@ impl Script {
                 time,
                 body,
                 data,
-            } => self.register(vars, seen, *reason, object, time, body, data),
+            } => Order::Register {
+                reason: *reason,
+                h: handle_at(vars, seen, object),
+                time: number_at(vars, seen, time),
+                body: self.body(body)?,
+                n: number_at(vars, seen, data),
+            },
             Form::Remove(atom) => Order::Remove {
                 h: handle_at(vars, seen, atom),
             },
@@ -206,13 +132,21 @@ impl Script {
                 size,
                 calltf,
                 compiletf,
-            } => self.register_systf(vars, seen, *kind, name, size, calltf.get(), compiletf),
+            } => Order::RegisterSystf {
+                kind: *kind,
+                text: text_at(alloc, vars, seen, name)?,
+                n: number_at(vars, seen, size),
+                calltf: self.own(calltf)?,
+                compiletf: self.own_if(compiletf)?,
+            },
             Form::ChkError => Order::ChkError,
             Form::Control { stop } => Order::Control { stop: *stop },
-            Form::Print(atom) => print(vars, seen, atom),
+            Form::Print(atom) => Order::Print {
+                text: text_at(alloc, vars, seen, atom)?,
+            },
             Form::SetData(atom) => Order::SetData {
                 n: number_at(vars, seen, atom),
             },
-        }
+        })
     }
 }

@@ -1,4 +1,4 @@
-ghost use Rattle.std.specs.Prelude.{◌≡◌, true, bytes_eq, position, slice_get};
+ghost use Rattle.std.specs.Prelude.{◌≡◌, true, bytes_eq, position, slice_get, IfOk};
 ghost use Rattle.vh_app.specs.Next as spec;
 ghost use Rattle.vh_app.specs.Next.{ReturnsAt, came, next_of, number_of, procedure_in, procedure_named};
 ghost use Rattle.vh_app.specs.Script.{ScriptData};
@@ -7,8 +7,9 @@ use crate::form::{Node, Procedure};
 use crate::point::Point;
 use crate::value::{holds, set_to};
 use crate::vars::Vars;
+use std::alloc::Global;
 use std::marker::Model;
-use vh_base::{Order, Seen, Sequence, Short};
+use vh_base::{NoMemory, Order, Seen, Sequence, Short};
 
 /// A script that was read.
 #[derive(Drop)]
@@ -115,34 +116,47 @@ impl Script {
     }
 
     /// The next order from a point that this script gave, and the point behind it. The variable that waits
-    /// for the last order's answer gets it first. Takes no memory; its time grows with the steps
-    /// on the way to the order.
-    pub fn next(&self, at: &mut Point, vars: &mut Vars, seen: &Seen) -> Order
-        ensures { (result, at.new, vars.new) ≡ next_of self.now at.old vars.old seen.now }
+    /// for the last order's answer gets it first. Takes memory for a text alone that it makes of a number,
+    /// a handle or an error; its time grows with the steps on the way to the order.
+    pub fn next(
+        &self,
+        alloc: Global,
+        at: &mut Point,
+        vars: &mut Vars,
+        seen: &Seen,
+    ) -> Result<Order, NoMemory>
+        ensures { IfOk result (λ order. (order, at.new, vars.new)
+            ≡ next_of self.now at.old vars.old seen.now) }
     {
-        vars.store(at.waiting, &seen.last);
+        vars.store(at.waiting, &seen.last)?;
         *at = Point::new(at.at);
         for _ in 0..self.nodes.as_slice().len() {
-            if let Some(order) = self.step(at, vars, seen) {
-                return order;
+            if let Some(order) = self.step(alloc, at, vars, seen)? {
+                return Ok(order);
             }
         }
-        Order::Return
+        Ok(Order::Return)
     }
 
     // One step, which may be an order.
-    fn step(&self, at: &mut Point, vars: &mut Vars, seen: &Seen) -> Option<Order>
-        ensures { record { order = result; at = at.new; vars = vars.new }
-            ≡ came self.now seen.now vars.old (at.old).at }
+    fn step(
+        &self,
+        alloc: Global,
+        at: &mut Point,
+        vars: &mut Vars,
+        seen: &Seen,
+    ) -> Result<Option<Order>, NoMemory>
+        ensures { IfOk result (λ order. record { order = order; at = at.new; vars = vars.new }
+            ≡ came self.now seen.now vars.old (at.old).at) }
     {
         match self.nodes.as_slice().get(at.at) {
             Some(Node::Ask { target, form }) => {
-                let order = self.order(vars, seen, form);
+                let order = self.order(alloc, vars, seen, form)?;
                 *at = Point {
                     at: at.at + 1,
                     waiting: *target,
                 };
-                Some(order)
+                Ok(Some(order))
             }
             Some(
                 Node::Set {
@@ -151,19 +165,19 @@ impl Script {
                     added,
                 },
             ) => {
-                let value = set_to(vars, seen, value, added);
+                let value = set_to(vars, seen, value, added)?;
                 vars.set(*target, value);
                 *at = Point::new(at.at + 1);
-                None
+                Ok(None)
             }
             Some(Node::Choose { test, fails }) => {
-                let next = if holds(vars, seen, test) {
+                let next = if holds(vars, seen, test)? {
                     at.at + 1
                 } else {
                     *fails
                 };
                 *at = Point::new(next);
-                None
+                Ok(None)
             }
             Some(
                 Node::Turn {
@@ -172,21 +186,21 @@ impl Script {
                     fails,
                 },
             ) => {
-                let next = if holds(vars, seen, test) {
+                let next = if holds(vars, seen, test)? {
                     *first
                 } else {
                     *fails
                 };
                 *at = Point::new(next);
-                Some(Order::Pass)
+                Ok(Some(Order::Pass))
             }
             Some(Node::Go(to)) => {
                 *at = Point::new(*to);
-                None
+                Ok(None)
             }
             Some(Node::Return) | None => {
                 *at = Point::new(at.at);
-                Some(Order::Return)
+                Ok(Some(Order::Return))
             }
         }
     }

@@ -1,10 +1,11 @@
-ghost use Rattle.std.specs.Prelude.{◌≡◌, ◌≤◌, ◌∷◌, [], length};
+ghost use Rattle.std.specs.Prelude.{◌≡◌, ◌≤◌, ◌∷◌, [], length, IfOk};
 ghost use Rattle.std.specs.Fmt.{decimal};
 ghost use Rattle.vh_app.specs.Values as spec;
 ghost use Rattle.vh_base.specs.Words.{code_name};
 
 use itoa::Buffer;
-use vh_base::{Answer, Code, HandleNo, Short};
+use std::alloc::Global;
+use vh_base::{Answer, Code, HandleNo, NoMemory, Short};
 
 /// The handle that an answer is where a handle is needed.
 pub(crate) fn handle_in(answer: &Answer) -> Option<HandleNo>
@@ -28,59 +29,59 @@ pub(crate) fn number_in(answer: &Answer) -> u64
 }
 
 /// The text that it is where a text is needed.
-pub(crate) fn text_in(answer: &Answer) -> Short
-    ensures { result ≡ spec.text_in answer.now }
+pub(crate) fn text_in(alloc: Global, answer: &Answer) -> Result<Short, NoMemory>
+    ensures { IfOk result (λ text. text ≡ spec.text_in answer.now) }
 {
     match answer {
-        Answer::Done | Answer::Null => empty(),
-        Answer::Handle(handle) => handle_text(*handle),
-        Answer::Number(number) => number_text(*number),
+        Answer::Done | Answer::Null => empty(alloc),
+        Answer::Handle(handle) => handle_text(alloc, *handle),
+        Answer::Number(number) => number_text(alloc, *number),
         Answer::Text(text) => text.copy(),
-        Answer::Refused(code) => code_text(*code),
+        Answer::Refused(code) => code_text(alloc, *code),
     }
 }
 
 /// The empty text.
-pub(crate) fn empty() -> Short
-    ensures { result ≡ [] }
+pub(crate) fn empty(alloc: Global) -> Result<Short, NoMemory>
+    ensures { IfOk result (λ text. text ≡ []) }
 {
-    short(b"")
+    short(alloc, b"")
 }
 
 /// The digits of a number.
-pub(crate) fn number_text(number: u64) -> Short
-    ensures { result ≡ decimal number }
+pub(crate) fn number_text(alloc: Global, number: u64) -> Result<Short, NoMemory>
+    ensures { IfOk result (λ text. text ≡ decimal number) }
 {
     let mut buffer = Buffer::new();
-    short(buffer.format(number).as_bytes())
+    short(alloc, buffer.format(number).as_bytes())
 }
 
 /// `hN`.
-pub(crate) fn handle_text(handle: HandleNo) -> Short
-    ensures { result ≡ 104 ∷ decimal handle }
+pub(crate) fn handle_text(alloc: Global, handle: HandleNo) -> Result<Short, NoMemory>
+    ensures { IfOk result (λ text. text ≡ 104 ∷ decimal handle) }
 {
     let mut buffer = Buffer::new();
     let digits = buffer.format(handle.number()).as_bytes();
     let end = 1 + digits.len();
     let mut bytes = [b'h'; 41];
     bytes[1..end].copy_from_slice(digits);
-    short(&bytes[..end])
+    short(alloc, &bytes[..end])
 }
 
 // The name of an error.
-fn code_text(code: Code) -> Short
-    ensures { result ≡ code_name code }
+fn code_text(alloc: Global, code: Code) -> Result<Short, NoMemory>
+    ensures { IfOk result (λ text. text ≡ code_name code) }
 {
-    short(code.name().as_bytes())
+    short(alloc, code.name().as_bytes())
 }
 
 // A short text of few bytes.
-fn short(bytes: &[u8]) -> Short
+fn short(alloc: Global, bytes: &[u8]) -> Result<Short, NoMemory>
     requires { length bytes.now ≤ 255 }
-    ensures { result ≡ bytes.now }
+    ensures { IfOk result (λ text. text ≡ bytes.now) }
 {
-    match Short::new(bytes) {
-        Some(text) => text,
+    match Short::new(alloc, bytes)? {
+        Some(text) => Ok(text),
         None => unreachable!(),
     }
 }

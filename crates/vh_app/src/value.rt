@@ -1,4 +1,4 @@
-ghost use Rattle.std.specs.Prelude.{◌≡◌};
+ghost use Rattle.std.specs.Prelude.{◌≡◌, IfOk};
 ghost use Rattle.vh_app.specs.Next.{handle_at, number_at, text_at};
 ghost use Rattle.vh_app.specs.Values as spec;
 ghost use Rattle.vh_app.specs.Values.{handle_or_null, number_or_null, text_or_null, value_of};
@@ -6,7 +6,8 @@ ghost use Rattle.vh_app.specs.Values.{handle_or_null, number_or_null, text_or_nu
 use crate::form::{Atom, Test};
 use crate::turned::{empty, handle_in, handle_text, number_in, number_text, text_in};
 use crate::vars::Vars;
-use vh_base::{Answer, HandleNo, Seen, Short};
+use std::alloc::Global;
+use vh_base::{Answer, HandleNo, NoMemory, Seen, Short};
 
 // A handle, a text or a number that may be missing.
 fn handle_or_null(handle: Option<HandleNo>) -> Answer
@@ -18,12 +19,12 @@ fn handle_or_null(handle: Option<HandleNo>) -> Answer
     }
 }
 
-fn text_or_null(text: &Option<Short>) -> Answer
-    ensures { result ≡ text_or_null text.now }
+fn text_or_null(text: &Option<Short>) -> Result<Answer, NoMemory>
+    ensures { IfOk result (λ answer. answer ≡ text_or_null text.now) }
 {
     match text {
-        Some(text) => Answer::Text(text.copy()),
-        None => Answer::Null,
+        Some(text) => Ok(Answer::Text(text.copy()?)),
+        None => Ok(Answer::Null),
     }
 }
 
@@ -37,22 +38,22 @@ fn number_or_null(number: Option<u64>) -> Answer
 }
 
 // What an atom stands for.
-fn value_of(vars: &Vars, seen: &Seen, atom: &Atom) -> Answer
-    ensures { result ≡ value_of vars.now seen.now atom.now }
+fn value_of(vars: &Vars, seen: &Seen, atom: &Atom) -> Result<Answer, NoMemory>
+    ensures { IfOk result (λ answer. answer ≡ value_of vars.now seen.now atom.now) }
 {
-    match atom {
+    Ok(match atom {
         Atom::Number(number) => Answer::Number(*number),
-        Atom::Text(text) => Answer::Text(text.get().copy()),
+        Atom::Text(text) => Answer::Text(text.copy()?),
         Atom::Null => Answer::Null,
-        Atom::Variable(number) => vars.value(*number),
+        Atom::Variable(number) => vars.value(*number)?,
         Atom::Obj => handle_or_null(seen.object),
         Atom::Me => handle_or_null(seen.me),
-        Atom::Value => text_or_null(&seen.value),
+        Atom::Value => text_or_null(&seen.value)?,
         Atom::Index => number_or_null(seen.index),
         Atom::Data => Answer::Number(seen.user_data),
         Atom::Time => Answer::Number(seen.time),
-        Atom::Last => seen.last.copy(),
-    }
+        Atom::Last => seen.last.copy()?,
+    })
 }
 
 /// The handle that it is where a handle is needed.
@@ -90,49 +91,54 @@ pub(crate) fn number_at(vars: &Vars, seen: &Seen, atom: &Atom) -> u64
 }
 
 /// The text that it is where a text is needed.
-pub(crate) fn text_at(vars: &Vars, seen: &Seen, atom: &Atom) -> Short
-    ensures { result ≡ text_at vars.now seen.now atom.now }
+pub(crate) fn text_at(
+    alloc: Global,
+    vars: &Vars,
+    seen: &Seen,
+    atom: &Atom,
+) -> Result<Short, NoMemory>
+    ensures { IfOk result (λ text. text ≡ text_at vars.now seen.now atom.now) }
 {
     match atom {
-        Atom::Number(number) => number_text(*number),
-        Atom::Text(text) => text.get().copy(),
-        Atom::Null => empty(),
-        Atom::Variable(number) => vars.text(*number),
-        Atom::Obj => text_of_handle(seen.object),
-        Atom::Me => text_of_handle(seen.me),
-        Atom::Value => text_or_empty(&seen.value),
-        Atom::Index => text_of_number(seen.index),
-        Atom::Data => number_text(seen.user_data),
-        Atom::Time => number_text(seen.time),
-        Atom::Last => text_in(&seen.last),
+        Atom::Number(number) => number_text(alloc, *number),
+        Atom::Text(text) => text.copy(),
+        Atom::Null => empty(alloc),
+        Atom::Variable(number) => vars.text(alloc, *number),
+        Atom::Obj => text_of_handle(alloc, seen.object),
+        Atom::Me => text_of_handle(alloc, seen.me),
+        Atom::Value => text_or_empty(alloc, &seen.value),
+        Atom::Index => text_of_number(alloc, seen.index),
+        Atom::Data => number_text(alloc, seen.user_data),
+        Atom::Time => number_text(alloc, seen.time),
+        Atom::Last => text_in(alloc, &seen.last),
     }
 }
 
 // The texts of a handle, a text and a number that may be missing.
-fn text_of_handle(handle: Option<HandleNo>) -> Short
-    ensures { result ≡ spec.text_in (handle_or_null handle) }
+fn text_of_handle(alloc: Global, handle: Option<HandleNo>) -> Result<Short, NoMemory>
+    ensures { IfOk result (λ text. text ≡ spec.text_in (handle_or_null handle)) }
 {
     match handle {
-        Some(handle) => handle_text(handle),
-        None => empty(),
+        Some(handle) => handle_text(alloc, handle),
+        None => empty(alloc),
     }
 }
 
-fn text_or_empty(text: &Option<Short>) -> Short
-    ensures { result ≡ spec.text_in (text_or_null text.now) }
+fn text_or_empty(alloc: Global, text: &Option<Short>) -> Result<Short, NoMemory>
+    ensures { IfOk result (λ t. t ≡ spec.text_in (text_or_null text.now)) }
 {
     match text {
         Some(text) => text.copy(),
-        None => empty(),
+        None => empty(alloc),
     }
 }
 
-fn text_of_number(number: Option<u64>) -> Short
-    ensures { result ≡ spec.text_in (number_or_null number) }
+fn text_of_number(alloc: Global, number: Option<u64>) -> Result<Short, NoMemory>
+    ensures { IfOk result (λ text. text ≡ spec.text_in (number_or_null number)) }
 {
     match number {
-        Some(number) => number_text(number),
-        None => empty(),
+        Some(number) => number_text(alloc, number),
+        None => empty(alloc),
     }
 }
 
@@ -163,28 +169,33 @@ fn is_same(a: &Answer, b: &Answer) -> bool
 }
 
 /// Whether a test holds.
-pub(crate) fn holds(vars: &Vars, seen: &Seen, test: &Test) -> bool
-    ensures { result ≡ spec.holds vars.now seen.now test.now }
+pub(crate) fn holds(vars: &Vars, seen: &Seen, test: &Test) -> Result<bool, NoMemory>
+    ensures { IfOk result (λ so. so ≡ spec.holds vars.now seen.now test.now) }
 {
-    let left = value_of(vars, seen, &test.left);
-    let right = value_of(vars, seen, &test.right);
-    if is_same(&left, &right) {
+    let left = value_of(vars, seen, &test.left)?;
+    let right = value_of(vars, seen, &test.right)?;
+    Ok(if is_same(&left, &right) {
         test.same
     } else {
         !test.same
-    }
+    })
 }
 
 /// What a variable is set to.
-pub(crate) fn set_to(vars: &Vars, seen: &Seen, value: &Atom, added: &Option<Atom>) -> Answer
-    ensures { result ≡ spec.set_to vars.now seen.now value.now added.now }
+pub(crate) fn set_to(
+    vars: &Vars,
+    seen: &Seen,
+    value: &Atom,
+    added: &Option<Atom>,
+) -> Result<Answer, NoMemory>
+    ensures { IfOk result (λ answer. answer ≡ spec.set_to vars.now seen.now value.now added.now) }
 {
     match added {
         None => value_of(vars, seen, value),
         Some(added) => {
             let first = number_at(vars, seen, value);
             let second = number_at(vars, seen, added);
-            Answer::Number(first.wrapping_add(second))
+            Ok(Answer::Number(first.wrapping_add(second)))
         }
     }
 }

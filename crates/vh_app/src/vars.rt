@@ -1,4 +1,4 @@
-ghost use Rattle.std.specs.Prelude.{◌≡◌, List, IfOk, slice_get, set};
+ghost use Rattle.std.specs.Prelude.{◌≡◌, List, IfOk, OnOk, slice_get, set};
 ghost use Rattle.vh_base.specs.declared.orders.Answer.{Answer};
 ghost use Rattle.vh_app.specs.Next;
 ghost use Rattle.vh_app.specs.Values as spec;
@@ -36,12 +36,13 @@ impl Vars {
     }
 
     /// The variable that waits, if one does, gets the answer.
-    pub(crate) fn store(&mut self, waiting: Option<usize>, last: &Answer)
-        ensures { self.new ≡ Next.stored waiting last.now self.old }
+    pub(crate) fn store(&mut self, waiting: Option<usize>, last: &Answer) -> Result<(), NoMemory>
+        ensures { OnOk result (self.new ≡ Next.stored waiting last.now self.old) }
     {
         if let Some(number) = waiting {
-            self.set(number, last.copy());
+            self.set(number, last.copy()?);
         }
+        Ok(())
     }
 
     /// A variable gets a value, if it is there.
@@ -54,12 +55,12 @@ impl Vars {
     }
 
     /// What a variable holds; one that isn't there is null.
-    pub(crate) fn value(&self, number: usize) -> Answer
-        ensures { result ≡ held (slice_get self.now number) }
+    pub(crate) fn value(&self, number: usize) -> Result<Answer, NoMemory>
+        ensures { IfOk result (λ answer. answer ≡ held (slice_get self.now number)) }
     {
         match self.values.get(number) {
             Some(answer) => answer.copy(),
-            None => Answer::Null,
+            None => Ok(Answer::Null),
         }
     }
 
@@ -84,12 +85,12 @@ impl Vars {
     }
 
     /// The text that it is where a text is needed.
-    pub(crate) fn text(&self, number: usize) -> Short
-        ensures { result ≡ spec.text_in (held (slice_get self.now number)) }
+    pub(crate) fn text(&self, alloc: Global, number: usize) -> Result<Short, NoMemory>
+        ensures { IfOk result (λ text. text ≡ spec.text_in (held (slice_get self.now number))) }
     {
         match self.values.get(number) {
-            Some(answer) => text_in(answer),
-            None => empty(),
+            Some(answer) => text_in(alloc, answer),
+            None => empty(alloc),
         }
     }
 }
