@@ -120,7 +120,7 @@ fn scripts_of(alloc: Global, files: &[TextFile<'_>]) -> Result<Vec<Script>, Refu
             continue;
         }
         let script = script_of(alloc, number, &names, file)?;
-        names.push(script.name().copy())?;
+        names.push(script.name().copy()?)?;
         scripts.push(script)?;
     }
     Ok(scripts)

@@ -1,6 +1,6 @@
 -- Occurrences: what callbacks may watch. (IEEE 1364-2005, 27.33)
 use Rattle.std.specs.List.{flat_map}
-use Rattle.std.specs.Prelude.{ℕ, List, [], ◌∷◌, Bool, true, false, if◌then◌else◌, Option, Some, None}
+use Rattle.std.specs.Prelude.{ℕ, List, [], ◌∷◌, Bool, true, false, if◌then◌else◌, Option, Some, None, option_map}
 use Rattle.vh_base.specs.declared.orders.Object.{Object}
 use Rattle.vh_base.specs.declared.words.Reason.{Reason}
 use Rattle.vh_base.specs.declared.words.Reason.TheVariants as reason
@@ -36,6 +36,11 @@ set_by (Some c) o callbacks = if is_live c callbacks then c ∷ [] else []
 
 abbrev pub set_of : {B : Type 0} → Occurrence → Callbacks B → List ℕ
 set_of o callbacks = set_by o.only o callbacks
+
+-- A value as text, which may stand already.
+abbrev pub shown_value : Option (List ℕ) → Option Vector → Option (List ℕ)
+shown_value (Some t) v = Some t
+shown_value None v = option_map (text Binary) v
 
 -- An object shows another value: its digits as text, the highest first; of a memory with the address of the word. (27.33.1)
 abbrev pub value_change : Object → Option ℕ → Vector → Occurrence

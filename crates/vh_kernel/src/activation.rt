@@ -1,4 +1,4 @@
-ghost use Rattle.std.specs.Prelude.{◌≡◌, IfOk};
+ghost use Rattle.std.specs.Prelude.{◌≡◌, IfOk, OnOk};
 ghost use Rattle.vh_app.specs.Next.{next_of};
 ghost use Rattle.vh_kernel.specs.Activations.{after_answer, after_pass, first_seen, startup_seen};
 
@@ -83,13 +83,18 @@ impl Activation {
         self.script
     }
 
-    /// What its script orders next; takes no memory.
-    pub fn next_order(&mut self, script: &Script, vars: &mut Vars) -> Order
-        ensures next { (result, (self.new).at, vars.new)
-            ≡ next_of script.now (self.old).at vars.old (self.old).seen }
+    /// What its script orders next.
+    pub fn next_order(
+        &mut self,
+        alloc: Global,
+        script: &Script,
+        vars: &mut Vars,
+    ) -> Result<Order, NoMemory>
+        ensures next { IfOk result (λ order. (order, (self.new).at, vars.new)
+            ≡ next_of script.now (self.old).at vars.old (self.old).seen) }
         ensures kept { self.new ≡ record self.old { at = (self.new).at } }
     {
-        script.next(&mut self.at, vars, &self.seen)
+        script.next(alloc, &mut self.at, vars, &self.seen)
     }
 
     /// It passes.
@@ -101,12 +106,13 @@ impl Activation {
     }
 
     /// Its order was answered.
-    pub fn note(&mut self, answer: &Answer)
-        ensures { self.new ≡ after_answer answer.now self.old }
+    pub fn note(&mut self, answer: &Answer) -> Result<(), NoMemory>
+        ensures { OnOk result (self.new ≡ after_answer answer.now self.old) }
     {
         let seen = &mut *self.seen;
         seen.step = seen.step.saturating_add(1);
-        seen.last = answer.copy();
+        seen.last = answer.copy()?;
+        Ok(())
     }
 }
 

@@ -23,5 +23,4 @@ pub use kernel::Kernel;
 pub use label::{Ending, Label};
 pub use laws::step_laws;
 pub use line::push_line;
-pub use vh_base::Boxed;
 pub use vh_orders::Who;

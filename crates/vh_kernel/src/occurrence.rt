@@ -14,24 +14,25 @@ use vh_orders::Body;
 use vh_text::{Radix, text_of};
 
 /// Something has happened that callbacks may watch: why, to which object, and the value that
-/// it left there (IEEE 1364-2005, 27.33). Contracts see the value as its text.
+/// it left there (IEEE 1364-2005, 27.33). Contracts see the value as its text, which is made once, when the
+/// occurrence is told: all callbacks that fire for it share the text.
 #[derive(Drop)]
 pub struct Occurrence {
     reason: Reason,
     object: Option<Object>,
+    // the value until its text is made, and its text
     value: Option<Vec4>,
+    text: Option<Short>,
     index: Option<u32>,
 }
 
 impl Model for Occurrence {
-    ghost use Rattle.std.specs.Prelude.{None, option_map};
-    ghost use Rattle.vh_kernel.specs.Occurrences.{Occurrence as Occurring};
-    ghost use Rattle.vh_text.specs.declared.radix.Radix.TheVariants.{Binary};
-    ghost use Rattle.vh_text.specs.Texts.{text};
+    ghost use Rattle.std.specs.Prelude.{None};
+    ghost use Rattle.vh_kernel.specs.Occurrences.{Occurrence as Occurring, shown_value};
 
     ghost Value = { Occurring };
 
-    ghost view = { λ o. record { reason = o.reason; object = o.object; value = option_map (text Binary) o.value; index = o.index; only = None } };
+    ghost view = { λ o. record { reason = o.reason; object = o.object; value = shown_value o.text o.value; index = o.index; only = None } };
 }
 
 impl Occurrence {
@@ -45,6 +46,7 @@ impl Occurrence {
             reason,
             object: None,
             value: None,
+            text: None,
             index: None,
         }
     }
@@ -57,20 +59,42 @@ impl Occurrence {
             reason: Reason::CbValueChange,
             object: Some(object),
             value: Some(value),
+            text: None,
             index,
         }
     }
 
-    /// The same occurrence.
-    pub fn copy(&self) -> Occurrence
-        ensures { result ≡ self.now }
+    /// The same occurrence, with the text of its value made.
+    pub fn with_text(self, alloc: Global) -> Result<Occurrence, NoMemory>
+        ensures { IfOk result (λ occurrence. occurrence ≡ self) }
     {
-        Occurrence {
+        match self.value(alloc)? {
+            Some(text) => Ok(Occurrence {
+                reason: self.reason,
+                object: self.object,
+                value: None,
+                text: Some(text),
+                index: self.index,
+            }),
+            None => Ok(self),
+        }
+    }
+
+    /// The same occurrence, which shares its text.
+    pub fn copy(&self) -> Result<Occurrence, NoMemory>
+        ensures { IfOk result (λ occurrence. occurrence ≡ self.now) }
+    {
+        let text = match &self.text {
+            Some(text) => Some(text.copy()?),
+            None => None,
+        };
+        Ok(Occurrence {
             reason: self.reason,
             object: self.object,
             value: self.value,
+            text,
             index: self.index,
-        }
+        })
     }
 
     /// Does a callback watch it?
@@ -123,10 +147,13 @@ impl Occurrence {
     pub fn value(&self, alloc: Global) -> Result<Option<Short>, NoMemory>
         ensures { IfOk result (λ value. value ≡ self.now.value) }
     {
-        let Some(value) = &self.value else {
-            return Ok(None);
-        };
-        Ok(Some(binary_text(alloc, value)?))
+        if let Some(text) = &self.text {
+            return Ok(Some(text.copy()?));
+        }
+        match &self.value {
+            Some(value) => Ok(Some(binary_text(alloc, value)?)),
+            None => Ok(None),
+        }
     }
 }
 
@@ -136,7 +163,7 @@ fn binary_text(alloc: Global, value: &Vec4) -> Result<Short, NoMemory>
 {
     let _digits = value.width();
     let text = text_of(alloc, value, Radix::Binary)?;
-    let Some(short) = Short::new(text.as_bytes()) else {
+    let Some(short) = Short::new(alloc, text.as_bytes())? else {
         unreachable!();
     };
     Ok(short)

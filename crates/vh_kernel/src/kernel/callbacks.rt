@@ -9,7 +9,7 @@ use crate::kernel::Kernel;
 use crate::label::Label;
 use crate::occurrence::{Occurrence, Told};
 use std::alloc::Global;
-use vh_base::{Boxed, CbNumber, Fault, MOST_FRAMES, MOST_NUMBERS, NoMemory, Order};
+use vh_base::{CbNumber, Fault, MOST_FRAMES, MOST_NUMBERS, NoMemory, Order};
 use vh_orders::{Who, is_pass, is_return, perform};
 
 impl Kernel {
@@ -58,6 +58,7 @@ impl Kernel {
             (state_of self.old)) result self.new }
     {
         let number = self.occurrence;
+        let what = what.with_text(alloc)?;
         self.open_frame(alloc, number, &what)?;
         let label = Label::Occ(number, what.reason(), what.object());
         self.occurrence = number + 1;
@@ -76,7 +77,7 @@ impl Kernel {
             self.close_frame();
             return Ok(Label::Done(number));
         };
-        let what = told.what.copy();
+        let what = told.what.copy()?;
         self.control.push(Control::Frame(told))?;
         self.call(alloc, c, &what)?;
         Ok(Label::Fire(number, c))
@@ -153,7 +154,8 @@ impl Kernel {
             return Ok(Label::Ret(activation.who()));
         }
         let mut activation = activation;
-        let order = activation.next_order(&self.world.scripts[i], &mut self.world.vars[i]);
+        let script = &self.world.scripts[i];
+        let order = activation.next_order(alloc, script, &mut self.world.vars[i])?;
         if is_return(&order) {
             return Ok(self.ret(activation));
         }
@@ -175,7 +177,7 @@ impl Kernel {
         if is_pass(&order) {
             return self.pass(activation);
         }
-        self.ask(alloc, activation, Boxed::new(alloc, order)?)
+        self.ask(alloc, activation, order)
     }
 
     // It goes on by a step that asks for nothing.
@@ -196,7 +198,7 @@ impl Kernel {
         &mut self,
         alloc: Global,
         activation: Activation,
-        order: Boxed<Order>,
+        order: Order,
     ) -> Result<Label, NoMemory>
         requires goes_on { is_return order ≡ false }
         requires asks { is_pass order ≡ false }
@@ -205,10 +207,10 @@ impl Kernel {
             (given_by self.old)) result self.new }
     {
         let who = activation.who();
-        let answer = perform(alloc, &mut self.world, who, order.get())?;
+        let answer = perform(alloc, &mut self.world, who, &order)?;
         let mut activation = activation;
-        activation.note(&answer);
+        activation.note(&answer)?;
         self.control.push(Control::Activation(activation))?;
-        Ok(Label::Do(who, order, Boxed::new(alloc, answer)?))
+        Ok(Label::Do(who, order, answer))
     }
 }
