@@ -154,8 +154,7 @@ impl Kernel {
             return Ok(Label::Ret(activation.who()));
         }
         let mut activation = activation;
-        let script = &self.world.scripts[i];
-        let order = activation.next_order(alloc, script, &mut self.world.vars[i])?;
+        let order = activation.next_order(alloc, &self.world.scripts[i], &mut self.world.vars[i])?;
         if is_return(&order) {
             return Ok(self.ret(activation));
         }

@@ -1,5 +1,4 @@
 use Rattle.std.proofs.Common.{◌≡◌, Bool, true, false, sym, subst, ◌∙◌}
-use Rattle.vh_base.specs.declared.orders.Order.{Order}
 use Rattle.vh_kernel.specs.Step.{pass_move}
 use Rattle.vh_kernel.specs.Views.{state_of, given_by, Moves}
 use Rattle.vh_orders.specs.Orders.{is_pass}
@@ -16,8 +15,5 @@ pub returns : goal.returns
 returns c before =
     let k = c.args.self.now in
     let asks : false ≡ is_pass c.args.order = sym c.if-is_pass.false ∙ c.is_pass.ensures in
-    let asked : Moves (pass_move false c.args.order c.args.activation before (state_of k) (given_by k)) c.ask.result c.ask.new.self =
-    subst (λ (o : Order). Moves (pass_move false o c.args.activation before (state_of k) (given_by k)) c.ask.result c.ask.new.self)
-    c.in_ok-new.ensures (c.ask.ensures before) in
     subst (λ (b : Bool). Moves (pass_move b c.args.order c.args.activation before (state_of k) (given_by k)) c.ask.result c.ask.new.self)
-    asks asked
+    asks (c.ask.ensures before)
