@@ -80,8 +80,11 @@ fn turn<K: Sink>(
         Ok(label) => label,
         Err(_) => return Some(Status::NoMemory),
     };
-    match tell(kernel, &label, line, out) {
-        Ok(()) => status_after(&label),
+    let told = tell(kernel, &label, line, out);
+    let status = status_after(&label);
+    kernel.keep(label);
+    match told {
+        Ok(()) => status,
         Err(SinkFault::Failed) => Some(Status::WriteFault),
         Err(SinkFault::NoMemory) => Some(Status::NoMemory),
     }

@@ -1,11 +1,13 @@
 -- Occurrences: what callbacks may watch. (IEEE 1364-2005, 27.33)
 use Rattle.std.specs.List.{flat_map}
-use Rattle.std.specs.Prelude.{ℕ, List, [], ◌∷◌, Bool, true, false, if◌then◌else◌, Option, Some, None, option_map}
+use Rattle.std.specs.Prelude.{ℕ, List, [], ◌∷◌, Bool, true, false, if◌then◌else◌, Option, Some, None}
 use Rattle.vh_base.specs.declared.orders.Object.{Object}
 use Rattle.vh_base.specs.declared.words.Reason.{Reason}
 use Rattle.vh_base.specs.declared.words.Reason.TheVariants as reason
 use Rattle.vh_code.specs.declared.change.Change.{Change}
 use Rattle.vh_code.specs.declared.change.Made.{Made}
+use Rattle.vh_kernel.specs.declared.occurrence.Left.{Left}
+use Rattle.vh_kernel.specs.declared.occurrence.Left.TheVariants as left
 use Rattle.vh_logic.specs.Vector.{Vector}
 use Rattle.vh_nodes.specs.declared.object.ObjectInfo.{ObjectInfo}
 use Rattle.vh_nodes.specs.Fits.{has_kind}
@@ -37,10 +39,11 @@ set_by (Some c) o callbacks = if is_live c callbacks then c ∷ [] else []
 abbrev pub set_of : {B : Type 0} → Occurrence → Callbacks B → List ℕ
 set_of o callbacks = set_by o.only o callbacks
 
--- A value as text, which may stand already.
-abbrev pub shown_value : Option (List ℕ) → Option Vector → Option (List ℕ)
-shown_value (Some t) v = Some t
-shown_value None v = option_map (text Binary) v
+-- The value that an occurrence left as text, which may stand already.
+abbrev pub text_left : Left → Option (List ℕ)
+text_left left.Nothing = None
+text_left (left.Digits v) = Some (text Binary v)
+text_left (left.Text t) = Some t
 
 -- An object shows another value: its digits as text, the highest first; of a memory with the address of the word. (27.33.1)
 abbrev pub value_change : Object → Option ℕ → Vector → Occurrence

@@ -12,6 +12,7 @@ use crate::activation::{Activation, startup_seen};
 use crate::control::{Control, Stack};
 use crate::label::{Ending, Label};
 use crate::occurrence::{Agendum, Occurrence};
+use crate::ordered::Ordered;
 use crate::phase::Phase;
 use std::alloc::Global;
 use std::collections::VecDeque;
@@ -33,8 +34,9 @@ pub struct Kernel {
     agenda: VecDeque<Agendum>,
     occurrence: u64,
     phase: Phase,
-    // memory of what an activation saw, which the next one takes
+    // memory of what an activation saw, which the next one takes, and of an order that was told
     spare: Option<Box<Seen>>,
+    told: Option<Ordered>,
 }
 
 impl Kernel {
@@ -149,6 +151,15 @@ impl Kernel {
             self.settle();
         }
         Ok(label)
+    }
+
+    /// Takes a label back that was told: the next order has the memory of its order.
+    pub fn keep(&mut self, label: Label)
+        ensures { state_of self.new ≡ state_of self.old }
+    {
+        if let Label::Do(_, order, _) = label {
+            self.told = Some(order);
+        }
     }
 
     fn make_label(&mut self, alloc: Global, k: u32) -> Result<Label, NoMemory>

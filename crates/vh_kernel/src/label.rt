@@ -1,6 +1,7 @@
 ghost use Rattle.std.specs.Prelude.{◌≡◌};
 
-use vh_base::{Answer, Bytes, Cause, CbNumber, Fault, Object, Order, ProcId, Reason, Serial};
+use crate::ordered::Ordered;
+use vh_base::{Answer, Bytes, Cause, CbNumber, Fault, Object, ProcId, Reason, Serial};
 use vh_orders::Who;
 use vh_queue::Region;
 
@@ -19,7 +20,7 @@ pub enum Label {
     /// The startup of a script begins, by its number from 1.
     Startup(u32),
     /// An order, and what it was answered.
-    Do(Who, Order, Answer),
+    Do(Who, Ordered, Answer),
     /// An activation goes on by a test of a `while`.
     Pass(Who),
     /// An activation returns.

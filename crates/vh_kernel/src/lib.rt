@@ -17,10 +17,12 @@ mod label;
 mod laws;
 mod line;
 mod occurrence;
+mod ordered;
 mod phase;
 
 pub use kernel::Kernel;
 pub use label::{Ending, Label};
 pub use laws::step_laws;
 pub use line::push_line;
+pub use ordered::Ordered;
 pub use vh_orders::Who;

@@ -29,7 +29,7 @@ pub fn push_line(line: &mut String, k: &Kernel, l: &Label) -> Result<(), AllocEr
         | Label::Advance(_)
         | Label::Finish(_) => Ok(()),
         Label::Startup(number) => push_startup(line, k, *number),
-        Label::Do(who, order, answer) => push_do(line, time, *who, order, answer),
+        Label::Do(who, order, answer) => push_do(line, time, *who, order.get(), answer),
         Label::Occ(n, reason, object) => push_occurrence(line, k, *n, *reason, *object),
         Label::Fire(n, c) => push_fire(line, time, *n, c.number()),
         Label::Done(n) => push_done(line, time, *n),

@@ -2,7 +2,7 @@ ghost use Rattle.std.specs.Prelude.{◌≡◌, ◌<◌, ◌∷◌, not, length, 
 ghost use Rattle.vh_dispatch.specs.Frames.{stack_of};
 ghost use Rattle.vh_text.specs.declared.radix.Radix.TheVariants.{Binary};
 ghost use Rattle.vh_text.specs.Texts.{text};
-ghost use Rattle.vh_kernel.specs.Occurrences.{occurrence_of, value_change, set_of, is_empty};
+ghost use Rattle.vh_kernel.specs.Occurrences.{text_left, occurrence_of, value_change, set_of, is_empty};
 
 use std::alloc::Global;
 use std::marker::Model;
@@ -20,19 +20,38 @@ use vh_text::{Radix, text_of};
 pub struct Occurrence {
     reason: Reason,
     object: Option<Object>,
-    // the value until its text is made, and its text
-    value: Option<Vec4>,
-    text: Option<Short>,
+    value: Left,
     index: Option<u32>,
+}
+
+// The value that an occurrence left, until its text is made.
+#[derive(Drop)]
+pub(crate) enum Left {
+    Nothing,
+    Digits(Vec4),
+    Text(Short),
+}
+
+impl Left {
+    // The same once more, which shares its text.
+    fn copy(&self) -> Result<Left, NoMemory>
+        ensures { IfOk result (λ left. text_left left ≡ text_left self.now) }
+    {
+        Ok(match self {
+            Left::Nothing => Left::Nothing,
+            Left::Digits(value) => Left::Digits(*value),
+            Left::Text(text) => Left::Text(text.copy()?),
+        })
+    }
 }
 
 impl Model for Occurrence {
     ghost use Rattle.std.specs.Prelude.{None};
-    ghost use Rattle.vh_kernel.specs.Occurrences.{Occurrence as Occurring, shown_value};
+    ghost use Rattle.vh_kernel.specs.Occurrences.{Occurrence as Occurring, text_left};
 
     ghost Value = { Occurring };
 
-    ghost view = { λ o. record { reason = o.reason; object = o.object; value = shown_value o.text o.value; index = o.index; only = None } };
+    ghost view = { λ o. record { reason = o.reason; object = o.object; value = text_left o.value; index = o.index; only = None } };
 }
 
 impl Occurrence {
@@ -45,8 +64,7 @@ impl Occurrence {
         Occurrence {
             reason,
             object: None,
-            value: None,
-            text: None,
+            value: Left::Nothing,
             index: None,
         }
     }
@@ -58,8 +76,7 @@ impl Occurrence {
         Occurrence {
             reason: Reason::CbValueChange,
             object: Some(object),
-            value: Some(value),
-            text: None,
+            value: Left::Digits(value),
             index,
         }
     }
@@ -72,8 +89,7 @@ impl Occurrence {
             Some(text) => Ok(Occurrence {
                 reason: self.reason,
                 object: self.object,
-                value: None,
-                text: Some(text),
+                value: Left::Text(text),
                 index: self.index,
             }),
             None => Ok(self),
@@ -84,15 +100,10 @@ impl Occurrence {
     pub fn copy(&self) -> Result<Occurrence, NoMemory>
         ensures { IfOk result (λ occurrence. occurrence ≡ self.now) }
     {
-        let text = match &self.text {
-            Some(text) => Some(text.copy()?),
-            None => None,
-        };
         Ok(Occurrence {
             reason: self.reason,
             object: self.object,
-            value: self.value,
-            text,
+            value: self.value.copy()?,
             index: self.index,
         })
     }
@@ -147,12 +158,10 @@ impl Occurrence {
     pub fn value(&self, alloc: Global) -> Result<Option<Short>, NoMemory>
         ensures { IfOk result (λ value. value ≡ self.now.value) }
     {
-        if let Some(text) = &self.text {
-            return Ok(Some(text.copy()?));
-        }
         match &self.value {
-            Some(value) => Ok(Some(binary_text(alloc, value)?)),
-            None => Ok(None),
+            Left::Nothing => Ok(None),
+            Left::Digits(value) => Ok(Some(binary_text(alloc, value)?)),
+            Left::Text(text) => Ok(Some(text.copy()?)),
         }
     }
 }

@@ -8,6 +8,7 @@ use crate::control::Control;
 use crate::kernel::Kernel;
 use crate::label::Label;
 use crate::occurrence::{Occurrence, Told};
+use crate::ordered::Ordered;
 use std::alloc::Global;
 use vh_base::{CbNumber, Fault, MOST_FRAMES, MOST_NUMBERS, NoMemory, Order};
 use vh_orders::{Who, is_pass, is_return, perform};
@@ -210,6 +211,7 @@ impl Kernel {
         let mut activation = activation;
         activation.note(&answer)?;
         self.control.push(Control::Activation(activation))?;
-        Ok(Label::Do(who, order, answer))
+        let memory = self.told.take();
+        Ok(Label::Do(who, Ordered::new(alloc, memory, order)?, answer))
     }
 }
