@@ -36,7 +36,7 @@ pub struct Kernel {
     phase: Phase,
     // memory of what an activation saw, which the next one takes, and of an order that was told
     spare: Option<Box<Seen>>,
-    told: Option<Ordered>,
+    spare_order: Option<Ordered>,
 }
 
 impl Kernel {
@@ -158,7 +158,7 @@ impl Kernel {
         ensures { state_of self.new ≡ state_of self.old }
     {
         if let Label::Do(_, order, _) = label {
-            self.told = Some(order);
+            self.spare_order = Some(order);
         }
     }
 

@@ -211,7 +211,7 @@ impl Kernel {
         let mut activation = activation;
         activation.note(&answer)?;
         self.control.push(Control::Activation(activation))?;
-        let memory = self.told.take();
+        let memory = self.spare_order.take();
         Ok(Label::Do(who, Ordered::new(alloc, memory, order)?, answer))
     }
 }

@@ -114,7 +114,7 @@ impl Kernel {
             occurrence: 1,
             phase: Phase::Running,
             spare: None,
-            told: None,
+            spare_order: None,
         })
     }
 }
