@@ -6,6 +6,8 @@ mod Stacks
 mod OccurrencesLemmas
 -- What a step leaves, and that the machine goes on.
 pub mod StepLemmas
+-- A frame that stays on top of control while it fires.
+mod FireLemmas
 -- The step and its table are one.
 pub mod TableLemmas
 -- What holds of the queue behind each label of a process and each entry that is picked.

@@ -87,6 +87,22 @@ fire_move (Some c) f s = (
       (with_top (top.Frame f) (with_frames (without_in_top c s.world.frames) s)),
 )
 
+-- The occurrence that was told, where that is on top; and what a callback calls for it begins.
+abbrev pub frame_on : Control → Option Told
+frame_on (top.Process p) = None
+frame_on (top.Pending o) = None
+frame_on (top.Frame f) = Some f
+frame_on (top.Activation a) = None
+frame_on (top.Leave c) = None
+
+abbrev pub frame_of : Option Control → Option Told
+frame_of None = None
+frame_of (Some c) = frame_on c
+
+abbrev pub called_for : Option Told → ℕ → State → State
+called_for None c s = s
+called_for (Some f) c s = called (info_of c s.world.callbacks) (body_of c s.world.callbacks) c f.what s
+
 -- After an order an activation stands on control again, in the world that the order left.
 abbrev pub order_outcome : Activation → Answer × World → State → Outcome
 order_outcome a given s =

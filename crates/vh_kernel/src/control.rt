@@ -1,5 +1,6 @@
 ghost use Rattle.std.specs.Prelude.{◌≡◌, List, [], ◌∷◌, drop, slice_get, option_copied, OnOk, IfSome, IfNone};
 ghost use Rattle.vh_kernel.specs.declared.control.Control.{Control};
+ghost use Rattle.vh_kernel.specs.Step.{frame_of};
 
 use crate::activation::Activation;
 use crate::occurrence::{Occurrence, Told};
@@ -57,6 +58,16 @@ impl Stack {
         match self.items.last() {
             Some(item) => Some(item),
             None => self.bottom.as_ref(),
+        }
+    }
+
+    /// The occurrence on top, where one is there that was told.
+    pub fn frame(&self) -> Option<&Told>
+        ensures { option_copied result ≡ frame_of (slice_get self.now 0) }
+    {
+        match self.top() {
+            Some(Control::Frame(told)) => Some(told),
+            _ => None,
         }
     }
 

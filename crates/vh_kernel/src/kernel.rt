@@ -1,4 +1,4 @@
-ghost use Rattle.std.specs.Prelude.{◌≡◌, ◌<◌, ℕ, false, List, [], slice_get, length, ◌^◌, IfOk};
+ghost use Rattle.std.specs.Prelude.{◌≡◌, ◌<◌, ℕ, false, List, [], Some, is_some, slice_get, length, ◌^◌, IfOk};
 ghost use Rattle.vh_queue.specs.Events.{eligible, next_region, least_time};
 ghost use Rattle.vh_orders.specs.Names.{name_of};
 
@@ -43,7 +43,7 @@ impl Kernel {
     ghost use Rattle.vh_kernel.specs.Line.{script_name};
     ghost use Rattle.vh_kernel.specs.Outcome.{end_move, fault_move};
     ghost use Rattle.vh_kernel.specs.Settle.{Opens};
-    ghost use Rattle.vh_kernel.specs.Step.{finish_move, time_move, region_move, pick_move, agenda_move, idle_move, crowded_move, top_move, item_move, is_crowded, is_end, step_of, next_given, IsStep, choices_of, top_choices, item_choices, idle_choices, agenda_choices};
+    ghost use Rattle.vh_kernel.specs.Step.{finish_move, time_move, region_move, pick_move, agenda_move, idle_move, crowded_move, top_move, item_move, is_crowded, is_end, step_of, next_given, IsStep, choices_of, top_choices, item_choices, idle_choices, agenda_choices, frame_of};
     ghost use Rattle.vh_kernel.specs.Views.{state_of, given_by, Moves};
 
     /// The machine at the opening of a design with its scripts.
@@ -183,20 +183,24 @@ impl Kernel {
         if let Some(p) = self.control.take_process() {
             return self.perform_next(alloc, p);
         }
+        if self.control.frame().is_some() {
+            return self.fire(alloc, k);
+        }
         match self.control.pop() {
             None => self.go_idle(alloc, k),
             Some(item) => self.go_on_by(alloc, item, k),
         }
     }
 
-    // What was on top of control goes on.
+    // What was on top of control goes on: no occurrence that was told, which goes on in its place.
     fn go_on_by(&mut self, alloc: Global, item: Control, k: u32) -> Result<Label, NoMemory>
+        requires { is_some (frame_of (Some item)) ≡ false }
         ensures { Moves (item_move item (state_of self.old) k (given_by self.old)) result self.new }
     {
         match item {
             Control::Process(p) => self.perform_next(alloc, p),
             Control::Pending(what) => self.occur(alloc, what),
-            Control::Frame(told) => self.fire(alloc, told, k),
+            Control::Frame(_) => unreachable!(),
             Control::Activation(activation) => self.act(alloc, activation),
             Control::Leave(cause) => self.finish(cause),
         }

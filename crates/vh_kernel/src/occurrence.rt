@@ -2,7 +2,7 @@ ghost use Rattle.std.specs.Prelude.{◌≡◌, ◌<◌, ◌∷◌, not, length, 
 ghost use Rattle.vh_dispatch.specs.Frames.{stack_of};
 ghost use Rattle.vh_text.specs.declared.radix.Radix.TheVariants.{Binary};
 ghost use Rattle.vh_text.specs.Texts.{text};
-ghost use Rattle.vh_kernel.specs.Occurrences.{text_left, occurrence_of, value_change, set_of, is_empty};
+ghost use Rattle.vh_kernel.specs.Occurrences.{occurrence_of, value_change, set_of, is_empty};
 
 use std::alloc::Global;
 use std::marker::Model;
@@ -30,19 +30,6 @@ pub(crate) enum Left {
     Nothing,
     Digits(Vec4),
     Text(Short),
-}
-
-impl Left {
-    // The same once more, which shares its text.
-    fn copy(&self) -> Result<Left, NoMemory>
-        ensures { IfOk result (λ left. text_left left ≡ text_left self.now) }
-    {
-        Ok(match self {
-            Left::Nothing => Left::Nothing,
-            Left::Digits(value) => Left::Digits(*value),
-            Left::Text(text) => Left::Text(text.copy()?),
-        })
-    }
 }
 
 impl Model for Occurrence {
@@ -94,18 +81,6 @@ impl Occurrence {
             }),
             None => Ok(self),
         }
-    }
-
-    /// The same occurrence, which shares its text.
-    pub fn copy(&self) -> Result<Occurrence, NoMemory>
-        ensures { IfOk result (λ occurrence. occurrence ≡ self.now) }
-    {
-        Ok(Occurrence {
-            reason: self.reason,
-            object: self.object,
-            value: self.value.copy()?,
-            index: self.index,
-        })
     }
 
     /// Does a callback watch it?

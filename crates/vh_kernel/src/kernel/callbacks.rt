@@ -1,6 +1,4 @@
-ghost use Rattle.std.specs.Prelude.{◌≡◌, ◌≤◌, ◌<◌, false, true, length, slice_get, OnOk};
-ghost use Rattle.vh_callbacks.specs.Callbacks.{info_of, body_of};
-ghost use Rattle.vh_dispatch.specs.Frames.{top_set};
+ghost use Rattle.std.specs.Prelude.{◌≡◌, ◌≤◌, ◌<◌, false, true, is_some, length, slice_get, OnOk};
 ghost use Rattle.vh_orders.specs.Orders.{Given, is_pass, is_return};
 
 use crate::activation::{Activation, first_seen};
@@ -16,7 +14,7 @@ use vh_orders::{Who, is_pass, is_return, perform};
 impl Kernel {
     ghost use Rattle.vh_kernel.specs.Outcome.{move_of};
     ghost use Rattle.vh_kernel.specs.State.{State, with_top, without_item};
-    ghost use Rattle.vh_kernel.specs.Step.{telling_outcome, occurrence_move, called, fire_move, activation_move, order_move, pass_move, item_move, agenda_move};
+    ghost use Rattle.vh_kernel.specs.Step.{telling_outcome, occurrence_move, called_for, frame_of, top_move, activation_move, order_move, pass_move, item_move, agenda_move};
     ghost use Rattle.vh_kernel.specs.Views.{state_of, given_by, Moves};
 
     // An occurrence that was on top of control is told.
@@ -67,34 +65,40 @@ impl Kernel {
         Ok(label)
     }
 
-    // A frame that was on top of control fires the callback that was chosen, or is done.
-    pub(crate) fn fire(&mut self, alloc: Global, told: Told, k: u32) -> Result<Label, NoMemory>
-        ensures { Moves (fire_move (slice_get (top_set (state_of self.old).world.frames) k) told
-            (state_of self.old))
+    // The frame on top of control fires the callback that was chosen, or is done.
+    pub(crate) fn fire(&mut self, alloc: Global, k: u32) -> Result<Label, NoMemory>
+        requires { is_some (frame_of (slice_get (state_of self.old).control 0)) ≡ true }
+        ensures { Moves (top_move (slice_get (state_of self.old).control 0) (state_of self.old) k
+            (given_by self.old))
             result self.new }
     {
+        let Some(told) = self.control.frame() else {
+            unreachable!();
+        };
         let number = told.number;
         let Some(c) = self.take_left(k) else {
+            let _ = self.control.pop();
             self.close_frame();
             return Ok(Label::Done(number));
         };
-        let what = told.what.copy()?;
-        self.control.push(Control::Frame(told))?;
-        self.call(alloc, c, &what)?;
+        self.call(alloc, c)?;
         Ok(Label::Fire(number, c))
     }
 
-    // What a callback calls begins.
-    fn call(&mut self, alloc: Global, c: CbNumber, what: &Occurrence) -> Result<(), NoMemory>
+    // What a callback calls for the occurrence on top of control begins.
+    fn call(&mut self, alloc: Global, c: CbNumber) -> Result<(), NoMemory>
         ensures { OnOk result (state_of self.new
-            ≡ called (info_of c (state_of self.old).world.callbacks)
-            (body_of c (state_of self.old).world.callbacks) c what.now (state_of self.old)) }
+            ≡ called_for (frame_of (slice_get (state_of self.old).control 0)) c
+            (state_of self.old)) }
     {
+        let Some(told) = self.control.frame() else {
+            return Ok(());
+        };
         let Some(live) = self.world.registry.callback(c) else {
             return Ok(());
         };
         let time = self.simulation.time();
-        let seen = first_seen(alloc, &live.registration, what, time)?;
+        let seen = first_seen(alloc, &live.registration, &told.what, time)?;
         let body = live.body;
         let memory = self.spare.take();
         let who = Who::Callback(c);
