@@ -131,7 +131,8 @@ impl Script {
         vars.store(at.waiting, &seen.last)?;
         *at = Point::new(at.at);
         for _ in 0..self.nodes.as_slice().len() {
-            if let Some(order) = self.step(alloc, at, vars, seen)? {
+            let ordered = self.step(alloc, at, vars, seen)?;
+            if let Some(order) = ordered {
                 return Ok(order);
             }
         }

@@ -8,4 +8,4 @@ loop-preserved c =
     let held = ap (λ s. length s.nodes) c.self.view_is in
     let less : c.loop.counter < length c.args.self.now.nodes = omega (arith, same, held, c.loop-test.true) in
     step-on (length c.args.self.now.nodes) c.loop.counter c.args.self.now c.args.seen.now c.loop.vars c.loop.at _ _
-    less c.step.ensures c.in_default.is c.loop.invariant
+    less c.in_ok-ordered.ensures c.in_default.is c.loop.invariant
