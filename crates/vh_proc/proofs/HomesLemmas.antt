@@ -1,7 +1,8 @@
--- Where differ code of a process has a block, the process isn't inside it.
+-- Where a thread isn't in the code that has a block, it isn't inside it.
 use Rattle.std.proofs.Common.{◌≡◌, ◌∙◌, ◌<◌, ◌+◌, ℕ, zero, suc, Bool, true, false, cond, ◌||◌, nat_eq, nat_lt, List, [], ◌∷◌, length, Option, Some, None, IfSome, is_some, slice_get, refl, sym, ap, subst, arith}
 use Rattle.std.specs.Prelude.{unwrap_or}
 use Rattle.std.proofs.lemmas.Bool.{eqb-true, ltb-true, ltb-false}
+use Rattle.std.specs.BTreeSet.{BTreeSet}
 use Rattle.std.specs.List.{AllByRecursion}
 use Rattle.std.specs.Option.{option_map, option_and_then}
 use Rattle.vh_code.specs.declared.code.Block.{Block}
@@ -12,10 +13,13 @@ use Rattle.vh_nodes.specs.declared.object.ObjectInfo.{ObjectInfo}
 use Rattle.vh_nodes.specs.Fits.{body_of, body_number, has_body}
 use Rattle.vh_thread.specs.declared.call.Call.{Call}
 use Rattle.vh_thread.specs.Blocks.{block_or, block_below, block_of}
-use Rattle.vh_thread.specs.Control.{Control, Runs, HasBody, code_of, blocks_of, block_around, is_routine, is_call_of, is_within, outermost, or_these, is_inside}
+use Rattle.vh_thread.specs.Control.{Control, Runs, HasBody, code_of, blocks_of, block_around, is_routine, is_within, outermost, or_these, is_inside}
+use Rattle.vh_proc.specs.declared.layout.Owner.{Owner}
+use Rattle.vh_proc.specs.declared.layout.Owner.TheVariants as owner
 use Rattle.vh_proc.specs.declared.layout.Home.{Home}
 use Rattle.vh_proc.specs.declared.layout.Home.TheVariants as home
-use Rattle.vh_proc.specs.Homes.{IsHome, noted_of, says, Says, Grow, SaysAll, AreHomes}
+use Rattle.vh_proc.specs.Families.{is_caller}
+use Rattle.vh_proc.specs.Homes.{IsOwner, noted_of, is_same, says, Says, Grow, SaysAll, AreHomes}
 
 -- No block of these is one of the object.
 abbrev HasNone : ℕ → List Block → Type 0
@@ -52,55 +56,84 @@ none-of : (bs : List Block) (target : ℕ) (inner : Option ℕ) → HasNone targ
 none-of bs target None none = refl
 none-of bs target (Some k) none = none-below (suc k) bs target k none
 
-module _ (d : Shape) (target k root : ℕ) (at_home : IsHome d target k) (away : root ≡ k → ⊥) where
-  none-in : (routine : Option ℕ) (o : Option Code) → code_of d root routine ≡ o → HasNone target (unwrap_or (option_map (λ c. c.blocks) o) [])
-  none-in routine None is i b at same = absurd (cc)
-  none-in None (Some c) is i b at same = away (at_home.codes root c i b is at same)
-  none-in (Some r) (Some c) is i b at same = at_home.bodies r c i b is at same
+-- The code that a call runs.
+abbrev pub owner_of : ℕ → Option ℕ → Owner
+owner_of root None = owner.Process root
+owner_of root (Some r) = owner.Routine r
 
-  differ-call : (routine : Option ℕ) → IfSome routine (λ r. has_body d.objects r ≡ true) → is_routine target routine ≡ false
-  differ-call None body = refl
-  differ-call (Some r) body = by (nat_eq r target) refl
+abbrev pub IsAway : Owner → ℕ → Call → Type 0
+IsAway o root c = o ≡ owner_of root c.routine → ⊥
+
+module _ (d : Shape) (target root : ℕ) (o : Owner) (owned : IsOwner d target o) where
+  none-in : (routine : Option ℕ) (code : Option Code) → code_of d root routine ≡ code → (o ≡ owner_of root routine → ⊥)
+      → HasNone target (unwrap_or (option_map (λ c. c.blocks) code) [])
+  none-in routine None is away i b at same = absurd (cc)
+  none-in None (Some c) is away i b at same = away (owned.codes root c i b is at same)
+  none-in (Some r) (Some c) is away i b at same = away (owned.bodies r c i b is at same)
+
+  differ-call : (routine : Option ℕ) → IfSome routine (λ r. has_body d.objects r ≡ true) → (o ≡ owner_of root routine → ⊥) → is_routine target routine ≡ false
+  differ-call None body away = refl
+  differ-call (Some r) body away = by (nat_eq r target) refl
     where
       by : (b : Bool) → nat_eq r target ≡ b → nat_eq r target ≡ false
       by true is =
           let has : has_body d.objects target ≡ true = subst (λ x. has_body d.objects x ≡ true) (eqb-true r target is) body in
-          let not_one = at_home.routine in
-          absurd (cc)
+          absurd (away (owned.routine has ∙ ap owner.Routine (sym (eqb-true r target is))))
       by false is = is
 
-  not-within : (c : Call) → HasBody d c → is_within d root target c ≡ false
-  not-within c body =
-      ap (λ (b : Bool). b || is_some (block_around d root target c)) (differ-call c.routine body)
-      ∙ ap (λ (o : Option Block). is_some o) (none-of (blocks_of d root c) target c.block (none-in c.routine (code_of d root c.routine) refl))
+  not-within : (c : Call) → HasBody d c → IsAway o root c → is_within d root target c ≡ false
+  not-within c body away =
+      ap (λ (b : Bool). b || is_some (block_around d root target c)) (differ-call c.routine body away)
+      ∙ ap (λ (x : Option Block). is_some x) (none-of (blocks_of d root c) target c.block (none-in c.routine (code_of d root c.routine) refl away))
 
-  none-outermost : (cs : List Call) → AllByRecursion (HasBody d) cs → outermost (is_within d root target) cs ≡ []
-  none-outermost [] bodies = refl
-  none-outermost (c ∷ cs) bodies =
-      ap (λ (ds : List Call). or_these ds (cond (is_within d root target c) (c ∷ cs) [])) (none-outermost cs bodies.1)
-      ∙ ap (λ (b : Bool). cond b (c ∷ cs) []) (not-within c bodies.0)
+  none-outermost : (cs : List Call) → AllByRecursion (HasBody d) cs → AllByRecursion (IsAway o root) cs → outermost (is_within d root target) cs ≡ []
+  none-outermost [] bodies away = refl
+  none-outermost (c ∷ cs) bodies away =
+      ap (λ (ds : List Call). or_these ds (cond (is_within d root target c) (c ∷ cs) [])) (none-outermost cs bodies.1 away.1)
+      ∙ ap (λ (b : Bool). cond b (c ∷ cs) []) (not-within c bodies.0 away.0)
 
-pub not-inside : (d : Shape) (target k : ℕ) (t : Control) → IsHome d target k → Runs d t → (t.root ≡ k → ⊥) → is_inside d target t ≡ false
-not-inside d target k t at_home runs away =
-    ap (λ (cs : List Call). nat_lt 0 (length cs)) (none-outermost d target k t.root at_home away t.calls runs.calls)
+pub not-inside : (d : Shape) (target : ℕ) (o : Owner) (t : Control) → IsOwner d target o → Runs d t → AllByRecursion (IsAway o t.root) t.calls → is_inside d target t ≡ false
+not-inside d target o t owned runs away =
+    ap (λ (cs : List Call). nat_lt 0 (length cs)) (none-outermost d target t.root o owned t.calls runs.calls away)
+
+-- A thread of another process is in no code of this one; and where no call of a task or function is noted, in no body of that.
+pub process-away : (k root : ℕ) → (root ≡ k → ⊥) → (cs : List Call) → AllByRecursion (IsAway (owner.Process k) root) cs
+process-away k root away [] = tt
+process-away k root away (c ∷ cs) = (by c.routine, process-away k root away cs)
+  where
+    by : (routine : Option ℕ) → owner.Process k ≡ owner_of root routine → ⊥
+    by None is = away (let same : root ≡ k = cc in same)
+    by (Some r) is = absurd (cc)
+
+pub routine-away : (callers : List (ℕ × BTreeSet ℕ)) (r root : ℕ) → is_caller callers r root ≡ false → (cs : List Call)
+    → AllByRecursion (λ c. IfSome c.routine (λ s. is_caller callers s root ≡ true)) cs → AllByRecursion (IsAway (owner.Routine r) root) cs
+routine-away callers r root never [] notes = tt
+routine-away callers r root never (c ∷ cs) notes = (by c.routine notes.0, routine-away callers r root never cs notes.1)
+  where
+    by : (routine : Option ℕ) → IfSome routine (λ s. is_caller callers s root ≡ true) → owner.Routine r ≡ owner_of root routine → ⊥
+    by None noted is = absurd (cc)
+    by (Some s) noted is =
+        let same : s ≡ r = cc in
+        let called : is_caller callers r root ≡ true = subst (λ x. is_caller callers x root ≡ true) same noted in
+        absurd (cc)
 
 -- What is noted of the blocks of an object.
-not-true : (a : Bool) → (a ≡ true → ⊥) → a ≡ false
-not-true true h = absurd (h refl)
-not-true false h = refl
+same-owner : (o p : Owner) → is_same o p ≡ true → o ≡ p
+same-owner (owner.Process n) (owner.Process k) is = ap owner.Process (eqb-true n k is)
+same-owner (owner.Process n) (owner.Routine r) is = absurd (cc)
+same-owner (owner.Routine s) (owner.Process k) is = absurd (cc)
+same-owner (owner.Routine s) (owner.Routine r) is = ap owner.Routine (eqb-true s r is)
 
-pub is-home : (d : Shape) (hs : List (ℕ × Home)) (target k : ℕ) → AreHomes d hs → noted_of target hs ≡ Some (home.Only k) → IsHome d target k
-is-home d hs target k are is = record {
-  codes = λ n c i b at block same.
-      let told : says (noted_of target hs) (Some n) ≡ true = subst (λ o. says (noted_of o hs) (Some n) ≡ true) same (are.codes n c at i b block) in
-      sym (eqb-true k n (subst (λ (x : Option Home). says x (Some n) ≡ true) is told));
-  bodies = λ r c i b at block same.
-      let told : says (noted_of target hs) None ≡ true = subst (λ o. says (noted_of o hs) None ≡ true) same (are.bodies r c at i b block) in
-      let never : false ≡ true = subst (λ (x : Option Home). says x None ≡ true) is told in
-      absurd (cc);
-  routine = not-true (has_body d.objects target) (λ has.
-      let never : false ≡ true = subst (λ (x : Option Home). says x None ≡ true) is (are.routines target has) in
-      absurd (cc));
+pub is-owner : (d : Shape) (hs : List (ℕ × Home)) (target : ℕ) (o : Owner) → AreHomes d hs → noted_of target hs ≡ Some (home.Only o) → IsOwner d target o
+is-owner d hs target o are is = record {
+  codes = λ n c i b at block same. same-owner o (owner.Process n)
+      (subst (λ (x : Option Home). says x (owner.Process n) ≡ true) is
+      (subst (λ k. says (noted_of k hs) (owner.Process n) ≡ true) same (are.codes n c at i b block)));
+  bodies = λ r c i b at block same. same-owner o (owner.Routine r)
+      (subst (λ (x : Option Home). says x (owner.Routine r) ≡ true) is
+      (subst (λ k. says (noted_of k hs) (owner.Routine r) ≡ true) same (are.bodies r c at i b block)));
+  routine = λ has. same-owner o (owner.Routine target)
+      (subst (λ (x : Option Home). says x (owner.Routine target) ≡ true) is (are.routines target has));
 }
 
 -- A place where an element is.
@@ -117,7 +150,7 @@ last-or k n P low before last = by (nat_lt n k) refl
     by true is = before (ltb-true n k is)
     by false is = let high = ltb-false n k is in let same : k ≡ n = omega (arith, low, high) in subst P same last
 
-pub next-noted : (hs gs : List (ℕ × Home)) (p : Option ℕ) (bs : List Block) (k : ℕ) (x : Block) → slice_get bs k ≡ Some x
+pub next-noted : (hs gs : List (ℕ × Home)) (p : Owner) (bs : List Block) (k : ℕ) (x : Block) → slice_get bs k ≡ Some x
     → ((i : ℕ) (b : Block) → i < k → slice_get bs i ≡ Some b → Says hs p b.object) → Grow hs gs → Says gs p x.object
     → (i : ℕ) (b : Block) → i < k + 1 → slice_get bs i ≡ Some b → Says gs p b.object
 next-noted hs gs p bs k x is before grow last i b low at =
@@ -128,24 +161,24 @@ next-noted hs gs p bs k x is before grow last i b low at =
     one h = cc
 
 pub next-code : (d : Shape) (hs gs : List (ℕ × Home)) (k : ℕ) (x : Code)
-    → ((n : ℕ) (c : Code) → n < k → slice_get d.codes n ≡ Some c → SaysAll hs (Some n) c.blocks) → Grow hs gs → slice_get d.codes k ≡ Some x → SaysAll gs (Some k) x.blocks
-    → (n : ℕ) (c : Code) → n < k + 1 → slice_get d.codes n ≡ Some c → SaysAll gs (Some n) c.blocks
+    → ((n : ℕ) (c : Code) → n < k → slice_get d.codes n ≡ Some c → SaysAll hs (owner.Process n) c.blocks) → Grow hs gs → slice_get d.codes k ≡ Some x → SaysAll gs (owner.Process k) x.blocks
+    → (n : ℕ) (c : Code) → n < k + 1 → slice_get d.codes n ≡ Some c → SaysAll gs (owner.Process n) c.blocks
 next-code d hs gs k x before grow is last n c low at =
-    last-or k n (λ m. slice_get d.codes m ≡ Some c → SaysAll gs (Some m) c.blocks) low (λ less h i b block. grow (Some n) b.object (before n c less h i b block))
-    (λ h. subst (λ (y : Code). SaysAll gs (Some k) y.blocks) (one (sym is ∙ h)) last) at
+    last-or k n (λ m. slice_get d.codes m ≡ Some c → SaysAll gs (owner.Process m) c.blocks) low (λ less h i b block. grow (owner.Process n) b.object (before n c less h i b block))
+    (λ h. subst (λ (y : Code). SaysAll gs (owner.Process k) y.blocks) (one (sym is ∙ h)) last) at
   where
     one : {y z : Code} → ◌≡◌ {A = Option Code} (Some y) (Some z) → y ≡ z
     one h = cc
 
-pub next-own : (d : Shape) (hs gs : List (ℕ × Home)) (k : ℕ) → ((r : ℕ) → r < k → has_body d.objects r ≡ true → Says hs None r) → Grow hs gs
-    → (has_body d.objects k ≡ true → Says gs None k) → (r : ℕ) → r < k + 1 → has_body d.objects r ≡ true → Says gs None r
+pub next-own : (d : Shape) (hs gs : List (ℕ × Home)) (k : ℕ) → ((r : ℕ) → r < k → has_body d.objects r ≡ true → Says hs (owner.Routine r) r) → Grow hs gs
+    → (has_body d.objects k ≡ true → Says gs (owner.Routine k) k) → (r : ℕ) → r < k + 1 → has_body d.objects r ≡ true → Says gs (owner.Routine r) r
 next-own d hs gs k before grow last r low has =
-    last-or k r (λ m. has_body d.objects m ≡ true → Says gs None m) low (λ less h. grow None r (before r less h)) last has
+    last-or k r (λ m. has_body d.objects m ≡ true → Says gs (owner.Routine m) m) low (λ less h. grow (owner.Routine r) r (before r less h)) last has
 
-pub next-body : (d : Shape) (hs gs : List (ℕ × Home)) (k : ℕ) → ((r : ℕ) (c : Code) → r < k → body_at d r ≡ Some c → SaysAll hs None c.blocks) → Grow hs gs
-    → ((c : Code) → body_at d k ≡ Some c → SaysAll gs None c.blocks) → (r : ℕ) (c : Code) → r < k + 1 → body_at d r ≡ Some c → SaysAll gs None c.blocks
+pub next-body : (d : Shape) (hs gs : List (ℕ × Home)) (k : ℕ) → ((r : ℕ) (c : Code) → r < k → body_at d r ≡ Some c → SaysAll hs (owner.Routine r) c.blocks) → Grow hs gs
+    → ((c : Code) → body_at d k ≡ Some c → SaysAll gs (owner.Routine k) c.blocks) → (r : ℕ) (c : Code) → r < k + 1 → body_at d r ≡ Some c → SaysAll gs (owner.Routine r) c.blocks
 next-body d hs gs k before grow last r c low at =
-    last-or k r (λ m. body_at d m ≡ Some c → SaysAll gs None c.blocks) low (λ less h i b block. grow None b.object (before r c less h i b block)) (λ h. last c h) at
+    last-or k r (λ m. body_at d m ≡ Some c → SaysAll gs (owner.Routine m) c.blocks) low (λ less h i b block. grow (owner.Routine r) b.object (before r c less h i b block)) (λ h. last c h) at
 
 -- A task or function is an object.
 pub body-below : (d : Shape) (r : ℕ) → has_body d.objects r ≡ true → r < length d.objects

@@ -20,28 +20,28 @@ use Rattle.vh_thread.specs.Control.{Control, outermost, is_within, is_call_of, b
 use Rattle.vh_turn.specs.declared.process.Process.{Process}
 use Rattle.vh_turn.specs.declared.next.Next.TheVariants as next
 use Rattle.vh_turn.specs.Drives.{all_driven, driving}
-use Rattle.vh_turn.specs.Own.{Own, Turn, own_of, going, arriving, with_entry}
+use Rattle.vh_turn.specs.Own.{Own, Turn, arriving}
 use Rattle.vh_turn.specs.Own as O
 use Rattle.vh_turn.specs.Turns.{turn_of, turn_at}
 use Rattle.vh_turn.specs.Turns as T
 
 -- What stands before a step that succeeds, succeeds.
-ok-then : {X Y F : Type 0} (o : Result X F) (f : X → Result Y F) (y : Y) → with_ok o f ≡ Ok y → (x : X) × (o ≡ Ok x) × (f x ≡ Ok y)
+pub ok-then : {X Y F : Type 0} (o : Result X F) (f : X → Result Y F) (y : Y) → with_ok o f ≡ Ok y → (x : X) × (o ≡ Ok x) × (f x ≡ Ok y)
 ok-then (Ok x) f y h = (x, refl, h)
 ok-then (Err e) f y h = absurd (cc)
 
-unless-then : {X F : Type 0} (b : Bool) (e : F) (rest : Result X F) (x : X) → unless b e rest ≡ Ok x → rest ≡ Ok x
+pub unless-then : {X F : Type 0} (b : Bool) (e : F) (rest : Result X F) (x : X) → unless b e rest ≡ Ok x → rest ≡ Ok x
 unless-then true e rest x h = absurd (cc)
 unless-then false e rest x h = h
 
-some-then : {X Y F : Type 0} (o : Option X) (e : F) (f : X → Result Y F) (y : Y) → with_some o e f ≡ Ok y → (x : X) × (o ≡ Some x) × (f x ≡ Ok y)
+pub some-then : {X Y F : Type 0} (o : Option X) (e : F) (f : X → Result Y F) (y : Y) → with_some o e f ≡ Ok y → (x : X) × (o ≡ Some x) × (f x ≡ Ok y)
 some-then None e f y h = absurd (cc)
 some-then (Some x) e f y h = (x, refl, h)
 
-abbrev Gives : {X F : Type 0} → Result X F → X → Type 0
+abbrev pub Gives : {X F : Type 0} → Result X F → X → Type 0
 Gives o x = o ≡ Ok x
 
-ok-same : {X F : Type 0} (x y : X) → Gives {F = F} (Ok x) y → x ≡ y
+pub ok-same : {X F : Type 0} (x y : X) → Gives {F = F} (Ok x) y → x ≡ y
 ok-same x y h = cc
 
 -- A label that touches differ other process leaves its parent, and the process of the design that it comes from.

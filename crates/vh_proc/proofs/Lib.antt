@@ -6,11 +6,15 @@ mod StandsLemmas
 mod LoopsLemmas
 -- A label leaves what has begun a process and where it comes from
 mod KinLemmas
+-- What holds of each task and function that a thread is in holds after every change of it
+mod CallsLemmas
 -- Sets of numbers in a list, after a change of one
 mod SetsLemmas
 -- Each process is in its family, after every change of one
 mod FamiliesLemmas
--- Where no code of a process has a block, the process isn't inside it
+-- Where a thread isn't in the code that has a block, it isn't inside it
 mod HomesLemmas
+-- Who has called a task or function, and all that come from them
+mod CallersLemmas
 -- A walk over a family finds whom a walk over all processes finds
 mod WalkLemmas

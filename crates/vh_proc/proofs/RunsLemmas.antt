@@ -1,5 +1,5 @@
 -- Each process runs codes that are there, after every change of one.
-use Rattle.std.proofs.Common.{◌≡◌, ℕ, Bool, true, false, cond, List, [], ◌∷◌, Option, Some, None, refl, subst}
+use Rattle.std.proofs.Common.{◌≡◌, ◌<◌, ℕ, Bool, true, false, cond, List, [], ◌∷◌, length, Option, Some, None, refl, sym, subst}
 use Rattle.std.specs.BTreeMap.{is_at, insert_entry}
 use Rattle.std.specs.declared.cmp.Ordering.{Ordering}
 use Rattle.std.specs.declared.cmp.Ordering.TheVariants.{Less, Equal, Greater}
@@ -7,13 +7,13 @@ use Rattle.std.specs.List.{AllByRecursion}
 use Rattle.std.specs.Map.{lookup, set_value, remove_entry}
 use Rattle.std.specs.Ordering.{nat_cmp, match_ordering}
 use Rattle.vh_design.specs.Shape.{Shape}
-use Rattle.vh_code.specs.declared.code.Block.{Block}
 use Rattle.vh_code.specs.declared.code.Goes.{Goes}
-use Rattle.vh_code.specs.declared.code.Goes.TheVariants as goes
-use Rattle.vh_thread.specs.declared.call.Call.{Call}
-use Rattle.vh_thread.specs.Control.{Control, Runs, HasBody, behind, gone, goes_on, past, or_these, outermost, is_within, is_call_of, blocks_of, block_around, left_task, left_block, left, disabled, in_block, block_at, next_of, arrived}
+use Rattle.vh_nodes.specs.Fits.{has_body}
+use Rattle.vh_thread.specs.Control.{Control, Runs, goes_on, disabled, block_at, next_of, arrived}
 use Rattle.vh_turn.specs.declared.process.Process.{Process}
 use Rattle.vh_proc.specs.Processes.{Processes, AllRun, process_at, changed, changed_in}
+use Rattle.vh_proc.proofs.CallsLemmas.{calls-gone, calls-in, calls-disabled}
+use Rattle.vh_proc.proofs.KinLemmas.{root-disabled}
 
 abbrev pub EachRuns : Shape → List (ℕ × Process) → Type 0
 EachRuns d es = AllByRecursion (λ e. Runs d e.1.thread) es
@@ -69,60 +69,18 @@ pub runs-changed : (d : Shape) (p : ℕ) (change : Process → Process) (ps : Pr
     → ((t : Process) → Runs d t.thread → Runs d (change t).thread) → AllRun d (changed p change ps)
 runs-changed d p change ps all keeps = changed-by d (process_at p ps) p change ps refl all keeps
 
--- Where a process goes on, its calls run codes that are there.
-bodies-gone : (d : Shape) (root : ℕ) (g : Goes) (cs : List Call) → AllByRecursion (HasBody d) cs → AllByRecursion (HasBody d) (gone d root g cs)
-unfolding gone
-bodies-gone d root (goes.To k) [] all = tt
-bodies-gone d root (goes.To k) (c ∷ cs) all = all
-bodies-gone d root goes.Back [] all = tt
-bodies-gone d root goes.Back (c ∷ []) all = tt
-bodies-gone d root goes.Back (c ∷ e ∷ cs) all = bodies-gone d root (behind d root e) (e ∷ cs) all.1
+-- Where a process goes on, performs a label, or leaves a block or task that is disabled.
+abbrev IsThere : Shape → ℕ → Type 0
+IsThere d r = has_body d.objects r ≡ true
 
 pub runs-on : (d : Shape) (g : Goes) (t : Control) → Runs d t → Runs d (goes_on d g t)
-runs-on d g t runs = record { root = runs.root; calls = bodies-gone d t.root g t.calls runs.calls }
+runs-on d g t runs = record { root = runs.root; calls = calls-gone (IsThere d) d t.root g t.calls runs.calls }
 
--- And where it leaves a block or task that is disabled.
-bodies-or : (d : Shape) (xs ys : List Call) → AllByRecursion (HasBody d) xs → AllByRecursion (HasBody d) ys → AllByRecursion (HasBody d) (or_these xs ys)
-bodies-or d [] ys one two = two
-bodies-or d (x ∷ xs) ys one two = one
-
-bodies-if : (d : Shape) (b : Bool) (xs : List Call) → AllByRecursion (HasBody d) xs → AllByRecursion (HasBody d) (cond b xs [])
-bodies-if d true xs all = all
-bodies-if d false xs all = tt
-
-bodies-outermost : (d : Shape) (test : Call → Bool) (cs : List Call) → AllByRecursion (HasBody d) cs → AllByRecursion (HasBody d) (outermost test cs)
-bodies-outermost d test [] all = tt
-bodies-outermost d test (c ∷ cs) all =
-    bodies-or d (outermost test cs) (cond (test c) (c ∷ cs) []) (bodies-outermost d test cs all.1) (bodies-if d (test c) (c ∷ cs) all)
-
-bodies-past : (d : Shape) (root : ℕ) (cs : List Call) → AllByRecursion (HasBody d) cs → AllByRecursion (HasBody d) (past d root cs)
-bodies-past d root [] all = tt
-bodies-past d root (c ∷ cs) all = bodies-gone d root (behind d root c) (c ∷ cs) all
-
-bodies-in : (d : Shape) (block : Option ℕ) (cs : List Call) → AllByRecursion (HasBody d) cs → AllByRecursion (HasBody d) (in_block block cs)
-bodies-in d block [] all = tt
-bodies-in d block (c ∷ cs) all = all
-
-runs-left-block : (d : Shape) (target : ℕ) (cs : List Call) (bs : List Block) (b : Option Block) (t : Control) → Runs d t → AllByRecursion (HasBody d) cs
-    → Runs d (left_block d target cs bs b t)
-runs-left-block d target cs bs None t runs all = record { root = runs.root; calls = all }
-runs-left-block d target cs bs (Some b) t runs all =
-    record { root = runs.root; calls = bodies-gone d t.root b.after (in_block b.around cs) (bodies-in d b.around cs all) }
-
-runs-left-by : (d : Shape) (target : ℕ) (b : Bool) (c : Call) (cs : List Call) (t : Control) → Runs d t → AllByRecursion (HasBody d) (c ∷ cs)
-    → Runs d (cond b (left_task d (c ∷ cs) t) (left_block d target (c ∷ cs) (blocks_of d t.root c) (block_around d t.root target c) t))
-runs-left-by d target true c cs t runs all =
-    record { root = runs.root; calls = bodies-past d t.root (gone d t.root goes.Back (c ∷ cs)) (bodies-gone d t.root goes.Back (c ∷ cs) all) }
-runs-left-by d target false c cs t runs all = runs-left-block d target (c ∷ cs) (blocks_of d t.root c) (block_around d t.root target c) t runs all
-
-runs-left : (d : Shape) (target : ℕ) (t : Control) (cs : List Call) → Runs d t → AllByRecursion (HasBody d) cs → Runs d (left d target t cs)
-runs-left d target t [] runs all = runs
-runs-left d target t (c ∷ cs) runs all = runs-left-by d target (is_call_of target c) c cs t runs all
+pub runs-arrived : (d : Shape) (t : Control) → Runs d t → Runs d (arrived d t)
+runs-arrived d t runs = record { root = runs.root; calls = calls-in (IsThere d) (block_at (next_of d t)) t.calls runs.calls }
 
 pub runs-disabled : (d : Shape) (target : ℕ) (t : Control) → Runs d t → Runs d (disabled d target t)
-runs-disabled d target t runs =
-    runs-left d target t (outermost (is_within d t.root target) t.calls) runs (bodies-outermost d (is_within d t.root target) t.calls runs.calls)
-
--- And where it performs a label.
-pub runs-arrived : (d : Shape) (t : Control) → Runs d t → Runs d (arrived d t)
-runs-arrived d t runs = record { root = runs.root; calls = bodies-in d (block_at (next_of d t)) t.calls runs.calls }
+runs-disabled d target t runs = record {
+  root = subst (λ k. k < length d.codes) (sym (root-disabled d target t)) runs.root;
+  calls = calls-disabled (IsThere d) d target t runs.calls;
+}

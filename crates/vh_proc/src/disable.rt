@@ -14,7 +14,7 @@ ghost use Rattle.vh_proc.specs.Families.{HasAll};
 ghost use Rattle.vh_turn.specs.Own.{FailsBy};
 
 use crate::families::Family;
-use crate::layout::Layout;
+use crate::layout::{Layout, Owner};
 use crate::threads::Threads;
 use std::alloc::Global;
 use std::collections::{BTreeMap, BTreeSet};
@@ -169,24 +169,52 @@ impl Threads {
         if !self.are_kept {
             return None;
         }
-        let root = d.home(target)?;
+        let Some(Owner::Process(root)) = d.owner(target) else {
+            return None;
+        };
         let Some(family) = self.families.sets.get(root as usize) else {
             return None;
         };
         Some(family)
     }
 
-    // The processes that a disable stops: where the block is in the code of one process alone, of
-    // those that come from it, else of all.
+    // All whom it may stop, where the block is in the body of one task or function alone, or is
+    // one: those that come from its callers.
+    fn callers_of(
+        &self,
+        alloc: Global,
+        d: &Layout,
+        target: ObjId,
+    ) -> Result<Option<Family>, NoMemory>
+        requires { AllRun d.now self.now }
+        ensures { IfOk result (λ them. IfSome them
+            (λ family. HasAll d.now target family (self.now).all)) }
+    {
+        if !self.are_kept {
+            return Ok(None);
+        }
+        let Some(Owner::Routine(r)) = d.owner(target) else {
+            return Ok(None);
+        };
+        let family = self.families.of_callers(alloc, r)?;
+        Ok(Some(family))
+    }
+
+    // The processes that a disable stops: where the block is in one code alone, of those that come
+    // from its process or its callers, else of all.
     fn stopped(&self, alloc: Global, d: &Layout, target: ObjId) -> Result<Stopped, NoMemory>
         requires { AllRun d.now self.now }
         ensures found { IfOk result (λ found. found_seen found ≡ stopped d.now target self.now) }
         ensures all { IfOk result HoldsAll }
     {
-        let Some(family) = self.family_of(d, target) else {
-            return stopped_of_all(alloc, d.design(), target, &self.all);
-        };
-        stopped_of_family(alloc, d.design(), target, &self.all, family)
+        let design = d.design();
+        if let Some(family) = self.family_of(d, target) {
+            return stopped_of_family(alloc, design, target, &self.all, family);
+        }
+        if let Some(family) = self.callers_of(alloc, d, target)? {
+            return stopped_of_family(alloc, design, target, &self.all, &family);
+        }
+        stopped_of_all(alloc, design, target, &self.all)
     }
 
     // A process ends.

@@ -1,18 +1,29 @@
-ghost use Rattle.std.specs.Prelude.{◌≡◌, ◌+◌, [], length, true, Some, IfOk, OnOk};
-ghost use Rattle.vh_proc.specs.Families.{AreKept, Joins, Leaves, MembersJoin, MembersLeave, root_of};
+ghost use Rattle.std.specs.Prelude.{◌≡◌, ◌+◌, ◌||◌, [], length, true, false, Some, None, IfOk, OnOk};
+ghost use Rattle.std.specs.BTreeMap.{is_at};
+ghost use Rattle.std.specs.BTreeSet.{contains};
+ghost use Rattle.std.specs.Map.{lookup};
+ghost use Rattle.std.specs.Ordering.{nat_cmp};
+ghost use Rattle.vh_proc.specs.Families.{AreKept, CallJoins, Joins, Leaves, Calls, ComeFrom, IsExact, MembersJoin, MembersLeave, called_by, is_of, root_of};
 
 use std::alloc::Global;
 use std::collections::{BTreeMap, BTreeSet};
-use vh_base::{NoMemory, ProcId};
+use vh_base::{NoMemory, ObjId, ProcId};
+use vh_design::{Instruction, Operation};
 
 // The numbers of a process of the design and of the branches that come from it.
 pub(crate) type Family = BTreeSet<u64, Global>;
 
-// The family of each process of the design, and of each number in one that process.
+// The processes of the design that have called a task or function, or from which one comes that
+// has, for each that was called.
+type Callers = BTreeMap<u32, BTreeSet<u64, Global>, Global>;
+
+// The family of each process of the design, and of each number in one that process; and who has
+// called what.
 #[derive(Drop)]
 pub(crate) struct Families {
     pub(crate) sets: Vec<Family>,
     pub(crate) roots: BTreeMap<u64, u64, Global>,
+    callers: Callers,
 }
 
 // Adds a family of one number.
@@ -48,6 +59,56 @@ fn remove_at(sets: &mut Vec<Family>, k: u64, p: u64)
     }
 }
 
+// A caller comes into the set of a task or function. Is there one?
+fn insert_under(callers: &mut Callers, r: ObjId, k: u64) -> Result<bool, NoMemory>
+    ensures there { IfOk result (λ is_there. is_there ≡ true
+        → CallJoins callers.old.entries callers.new.entries r k) }
+    ensures none { IfOk result (λ is_there. is_there ≡ false
+        → (callers.new.entries ≡ callers.old.entries)
+        × (lookup (is_at (nat_cmp r)) callers.old.entries ≡ None)) }
+{
+    let Some(set) = callers.get_mut(&r.number()) else {
+        return Ok(false);
+    };
+    set.insert(k)?;
+    Ok(true)
+}
+
+// A caller of a task or function comes in.
+fn insert_caller(alloc: Global, callers: &mut Callers, r: ObjId, k: u64) -> Result<(), NoMemory>
+    ensures { OnOk result (CallJoins callers.old.entries callers.new.entries r k) }
+{
+    if insert_under(callers, r, k)? {
+        return Ok(());
+    }
+    let mut set = BTreeSet::new(alloc);
+    set.insert(k)?;
+    callers.insert(r.number(), set)?;
+    Ok(())
+}
+
+// The numbers of a family come into a set.
+fn add_family(all: &mut Family, family: &Family) -> Result<(), NoMemory>
+    ensures { OnOk result ((p : _) → contains nat_cmp all.new p
+        ≡ (contains nat_cmp all.old p || contains nat_cmp family.now p)) }
+{
+    for p in family.iter() {
+        all.insert(*p)?;
+    }
+    Ok(())
+}
+
+// Those of the family of a process of the design do.
+fn add_all(all: &mut Family, sets: &[Family], k: u64) -> Result<(), NoMemory>
+    ensures { OnOk result ((p : _) → contains nat_cmp all.new p
+        ≡ (contains nat_cmp all.old p || is_of sets.now k p)) }
+{
+    match sets.get(k as usize) {
+        Some(family) => add_family(all, family),
+        None => Ok(()),
+    }
+}
+
 impl Families {
     // No process is there.
     pub(crate) fn none(alloc: Global) -> Families
@@ -57,6 +118,7 @@ impl Families {
         Families {
             sets: Vec::new(alloc),
             roots: BTreeMap::new(alloc),
+            callers: BTreeMap::new(alloc),
         }
     }
 
@@ -93,5 +155,47 @@ impl Families {
         if let Some(root) = self.roots.remove(&p) {
             remove_at(&mut self.sets, root, p);
         }
+    }
+
+    // A process calls a task or function.
+    #[inline(never)]
+    fn note_call(&mut self, alloc: Global, p: ProcId, r: ObjId) -> Result<(), NoMemory>
+        ensures { OnOk result (Calls self.old self.new p (Some r)) }
+    {
+        let Some(root) = self.roots.get(&p.number()) else {
+            return Ok(());
+        };
+        let root = *root;
+        insert_caller(alloc, &mut self.callers, r, root)
+    }
+
+    // A process performs a label: what it calls is noted.
+    pub(crate) fn arrive(
+        &mut self,
+        alloc: Global,
+        p: ProcId,
+        i: &Instruction,
+    ) -> Result<(), NoMemory>
+        ensures { OnOk result (Calls self.old self.new p (called_by i.now.operation)) }
+    {
+        let Operation::Enter { routine, .. } = &i.operation else {
+            return Ok(());
+        };
+        self.note_call(alloc, p, *routine)
+    }
+
+    // All that come from the callers of a task or function.
+    pub(crate) fn of_callers(&self, alloc: Global, r: u32) -> Result<Family, NoMemory>
+        requires { IsExact self.now }
+        ensures { IfOk result (ComeFrom self.now r) }
+    {
+        let mut all = BTreeSet::new(alloc);
+        let Some(callers) = self.callers.get(&r) else {
+            return Ok(all);
+        };
+        for k in callers.iter() {
+            add_all(&mut all, &self.sets, *k)?;
+        }
+        Ok(all)
     }
 }

@@ -250,6 +250,7 @@ impl Threads {
         self.room.made.clear();
         let were_kept = self.are_kept;
         self.are_kept = false;
+        self.families.arrive(alloc, p, i)?;
         let Some(process) = self.all.get_mut(&p.number()) else {
             unreachable!();
         };

@@ -6,6 +6,6 @@ use Rattle.vh_proc.proofs.layout.note_blocks.Given as goal
 -- Those so far are noted.
 abbrev pub invariant-loop-block : goal.invariant-loop-block
 invariant-loop-block l = record {
-  noted : (i : ℕ) (b : Block) → i < l.block-index → slice_get l.blocks i ≡ Some b → Says l.homes.entries l.process b.object;
+  noted : (i : ℕ) (b : Block) → i < l.block-index → slice_get l.blocks i ≡ Some b → Says l.homes.entries l.owner b.object;
   kept : Grow l.initial.homes.entries l.homes.entries;
 }

@@ -15,4 +15,4 @@ returns-clause-runs c =
 pub invariant_of-self : goal.invariant_of-self
 invariant_of-self c =
     kept-through c.self.inside.families c.match-get_mut.self-inside.families c.self.inside.are_kept c.match-get_mut.self-inside.are_kept (the_view c.self.inside) c.args.self.now
-    (the_view c.match-get_mut.self-inside) c.args.p (with_serial c.args.e) (search rules) (search rules) c.self.view_is (search rules) (λ t. refl) c.self.invariant
+    (the_view c.match-get_mut.self-inside) c.args.p (with_serial c.args.e) (search rules) (search rules) c.self.view_is (search rules) (λ t. refl) (λ t P all. all) c.self.invariant

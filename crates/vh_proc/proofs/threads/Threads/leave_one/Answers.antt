@@ -1,10 +1,11 @@
-use Rattle.std.proofs.Common.{◌≡◌, ◌∙◌, sym, ap, subst, rules, ℕ, refl}
+use Rattle.std.proofs.Common.{◌≡◌, ◌∙◌, sym, ap, subst, rules, ℕ}
 use Rattle.std.specs.Option.{option_copied_mut}
 use Rattle.vh_proc.specs.contracts.threads.Threads.{the_view}
 use Rattle.vh_proc.specs.Disabled.{left_by}
 use Rattle.vh_proc.specs.Processes.{AllRun, changed}
 use Rattle.vh_proc.proofs.RunsLemmas.{runs-found, runs-changed, runs-disabled}
 use Rattle.vh_proc.proofs.FamiliesLemmas.{kept-through}
+use Rattle.vh_proc.proofs.CallsLemmas.{calls-disabled}
 use Rattle.vh_proc.proofs.KinLemmas.{root-disabled}
 use Rattle.vh_proc.proofs.threads.Threads.leave_one.Goals as goal
 
@@ -22,4 +23,5 @@ returns-clause-runs c =
 pub invariant_of-self : goal.invariant_of-self
 invariant_of-self c =
     kept-through c.self.inside.families c.match-get_mut.self-inside.families c.self.inside.are_kept c.match-get_mut.self-inside.are_kept (the_view c.self.inside) c.args.self.now
-    (the_view c.match-get_mut.self-inside) c.args.p (left_by c.args.d.now c.args.target) (search rules) (search rules) c.self.view_is (search rules) (λ t. ap (λ (k : ℕ). (t.parent, k)) (root-disabled c.args.d.now c.args.target t.thread)) c.self.invariant
+    (the_view c.match-get_mut.self-inside) c.args.p (left_by c.args.d.now c.args.target) (search rules) (search rules) c.self.view_is (search rules) (λ t. ap (λ (k : ℕ). (t.parent, k)) (root-disabled c.args.d.now c.args.target t.thread))
+    (λ t P all. calls-disabled P c.args.d.now c.args.target t.thread all) c.self.invariant
