@@ -80,11 +80,8 @@ fn turn<K: Sink>(
         Ok(label) => label,
         Err(_) => return Some(Status::NoMemory),
     };
-    let told = tell(kernel, &label, line, out);
-    let status = status_after(&label);
-    kernel.keep(label);
-    match told {
-        Ok(()) => status,
+    match tell(kernel, &label, line, out) {
+        Ok(()) => hand_back(kernel, label),
         Err(SinkFault::Failed) => Some(Status::WriteFault),
         Err(SinkFault::NoMemory) => Some(Status::NoMemory),
     }
@@ -109,6 +106,16 @@ fn tell<K: Sink>(
         Ok(()) => write_whole(out, line.as_bytes()),
         Err(_) => Err(SinkFault::NoMemory),
     }
+}
+
+// A label that was told goes back to the kernel. Answers the status with which it ends the run, if it does.
+fn hand_back(kernel: &mut Kernel, label: Label) -> Option<Status>
+    ensures status { result ≡ status_after label }
+    ensures same { state_of kernel.new ≡ state_of kernel.old }
+{
+    let status = status_after(&label);
+    kernel.keep(label);
+    status
 }
 
 // The status with which a label ends the run, if it does.
