@@ -60,6 +60,24 @@ next-in p ps rest old new q is more =
 pub no-more : (ps : List ℕ) (all : BTreeSet ℕ) (q : ℕ) → ps ≡ [] → contains nat_cmp all q ≡ (contains nat_cmp all q || holds ps q)
 no-more ps all q is = or-none (contains nat_cmp all q) ∙ ap (λ (xs : List ℕ). contains nat_cmp all q || holds xs q) (sym is)
 
+-- What holds of all of a set but those that are left.
+abbrev pub AllBut : BTreeSet ℕ → List ℕ → (ℕ → Type 0) → Type 0
+AllBut f rest T = (q : ℕ) → contains nat_cmp f q ≡ true → holds rest q ≡ false → T q
+
+pub but-all : (f : BTreeSet ℕ) (rest : List ℕ) (T : ℕ → Type 0) → rest ≡ f.keys → AllBut f rest T
+but-all f rest T is = λ q in_it out. let here : holds rest q ≡ true = ap (λ (ks : List ℕ). holds ks q) is ∙ in_it in absurd (cc)
+
+pub but-less : (f : BTreeSet ℕ) (p : ℕ) (ps rest : List ℕ) (T : ℕ → Type 0) → rest ≡ p ∷ ps → T p → AllBut f rest T → AllBut f ps T
+but-less f p ps rest T is own before = λ q in_it out. by q in_it out (is_at (nat_cmp q) p) refl
+  where
+    by : (q : ℕ) → contains nat_cmp f q ≡ true → holds ps q ≡ false → (b : Bool) → is_at (nat_cmp q) p ≡ b → T q
+    by q in_it out true at = subst T (sym (eqb-true q p (sym (at-eq q p) ∙ at))) own
+    by q in_it out false at =
+        before q in_it (ap (λ (ks : List ℕ). holds ks q) is ∙ ap (λ (b : Bool). b || holds ps q) at ∙ out)
+
+pub but-none : (f : BTreeSet ℕ) (rest : List ℕ) (T : ℕ → Type 0) → rest ≡ [] → AllBut f rest T → (q : ℕ) → contains nat_cmp f q ≡ true → T q
+but-none f rest T is before q in_it = before q in_it (ap (λ (ks : List ℕ). holds ks q) is)
+
 -- The families of the callers that were gone over are in the set, and nobody else.
 pub record HasSome (fs : Families) (r : ℕ) (left : List ℕ) (all : BTreeSet ℕ) : Type 0 where
   pub has : (k p : ℕ) → is_caller fs.callers.entries r k ≡ true → is_of fs.sets.items k p ≡ true → (contains nat_cmp all p || holds left k) ≡ true

@@ -16,5 +16,7 @@ mod FamiliesLemmas
 mod HomesLemmas
 -- Who has called a task or function, and all that come from them
 mod CallersLemmas
+-- Callers of whom nobody is in a call any more are forgotten
+mod IdleLemmas
 -- A walk over a family finds whom a walk over all processes finds
 mod WalkLemmas

@@ -1,5 +1,5 @@
 -- A walk over a family finds whom a walk over all processes finds.
-use Rattle.std.proofs.Common.{◌≡◌, ◌∙◌, ◌<◌, ℕ, Bool, true, false, cond, ◌||◌, ◌==◌, nat_eq, nat_lt, List, [], ◌∷◌, ◌++◌, map, filter, Option, Some, None, IfSome, Less, Equal, Greater, refl, sym, ap, subst, arith}
+use Rattle.std.proofs.Common.{◌≡◌, ◌∙◌, ◌<◌, ℕ, Bool, true, false, cond, ◌||◌, nat_eq, nat_lt, List, [], ◌∷◌, ◌++◌, filter, Option, Some, None, IfSome, Less, Equal, Greater, refl, sym, ap, subst, arith}
 use Rattle.std.proofs.lemmas.Bool.{eqb-true, eq-eqb, ne_eqb, ltb-true, ltb-false}
 use Rattle.std.specs.BTreeMap.{is_at}
 use Rattle.std.specs.BTreeSet.{BTreeSet, contains}
@@ -8,8 +8,7 @@ use Rattle.std.specs.List.Sorted.{IsStrictlySortedBy}
 use Rattle.std.specs.Map.{lookup, keys_of}
 use Rattle.std.specs.Cmp.{nat_cmp_is}
 use Rattle.std.proofs.lemmas.Map.Keys.{sorted_head, sorted_tail}
-use Rattle.std.specs.Ordering.{nat_cmp, is_eq}
-use Rattle.std.specs.declared.cmp.Ordering.{Ordering}
+use Rattle.std.specs.Ordering.{nat_cmp}
 use Rattle.vh_design.specs.Shape.{Shape}
 use Rattle.vh_thread.specs.Control.{is_inside}
 use Rattle.vh_turn.specs.declared.process.Process.{Process}
@@ -142,7 +141,7 @@ drops p ps (e ∷ es) above =
     (drops p ps es above.1)
 
 -- None of them has the number.
-none-above : (p : ℕ) (es : List (ℕ × Process)) → Above p (keys_of es) → lookup (is_at (nat_cmp p)) es ≡ None
+pub none-above : (p : ℕ) (es : List (ℕ × Process)) → Above p (keys_of es) → lookup (is_at (nat_cmp p)) es ≡ None
 none-above p [] above = refl
 none-above p (e ∷ es) above =
     ap (λ (b : Bool). cond b (Some e.1) (lookup (is_at (nat_cmp p)) es)) (at-eq p e.0 ∙ ne_eqb p e.0 (λ same. let less = less-is p e.0 above.0 in omega (arith, less, same)))

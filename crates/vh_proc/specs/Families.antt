@@ -21,7 +21,7 @@ is_of fs k p = unwrap_or (option_map (λ f. contains nat_cmp f p) (slice_get fs 
 abbrev pub root_of : ℕ → Families → Option ℕ
 root_of p fs = lookup (is_at (nat_cmp p)) fs.roots.entries
 
--- Has this process of the design called a task or function, or has one that comes from it?
+-- Is it noted that this process of the design, or one that comes from it, has called a task or function?
 abbrev pub is_caller : List (ℕ × BTreeSet ℕ) → ℕ → ℕ → Bool
 is_caller cs r k = unwrap_or (option_map (λ f. contains nat_cmp f k) (lookup (is_at (nat_cmp r)) cs)) false
 
@@ -111,6 +111,21 @@ comes_from fs r p = unwrap_or (option_map (λ k. is_caller fs.callers.entries r 
 pub record ComeFrom (fs : Families) (r : ℕ) (all : BTreeSet ℕ) : Type 0 where
   pub has : (k p : ℕ) → is_caller fs.callers.entries r k ≡ true → is_of fs.sets.items k p ≡ true → contains nat_cmp all p ≡ true
   pub only : (p : ℕ) → contains nat_cmp all p ≡ true → comes_from fs r p ≡ true
+
+-- Is the process of a number in a call of this task or function? Nobody of a family is.
+abbrev pub is_in_call : Shape → ℕ → Option Process → Bool
+is_in_call d r None = false
+is_in_call d r (Some t) = is_inside d r t.thread
+
+abbrev pub IsIdle : Shape → ℕ → List (BTreeSet ℕ) → List (ℕ × Process) → ℕ → Type 0
+IsIdle d r fs es k = (p : ℕ) → is_of fs k p ≡ true → is_in_call d r (lookup (is_at (nat_cmp p)) es) ≡ false
+
+-- Of the callers of it some are forgotten, of whom nobody is.
+pub record Forgets (d : Shape) (r : ℕ) (es : List (ℕ × Process)) (old new : Families) : Type 0 where
+  pub members : new.sets.items ≡ old.sets.items
+  pub roots : (q : ℕ) → root_of q new ≡ root_of q old
+  pub others : (s n : ℕ) → (r == s) ≡ false → is_caller new.callers.entries s n ≡ is_caller old.callers.entries s n
+  pub idle : (k : ℕ) → is_caller old.callers.entries r k ≡ true → is_caller new.callers.entries r k ≡ false → IsIdle d r old.sets.items es k
 
 -- A process that isn't in a family isn't inside a block or task, nor begun by one that is in it.
 pub record IsPassed (d : Shape) (target : ℕ) (family : BTreeSet ℕ) (p : ℕ) (t : Process) : Type 0 where

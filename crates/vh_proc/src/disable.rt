@@ -200,6 +200,29 @@ impl Threads {
         Ok(Some(family))
     }
 
+    // Callers of whom nobody is in a call any more are forgotten.
+    pub(crate) fn forget_idle(
+        &mut self,
+        alloc: Global,
+        d: &Layout,
+        target: ObjId,
+    ) -> Result<(), NoMemory>
+        requires { AllRun d.now self.old }
+        ensures { self.new ≡ self.old }
+    {
+        if !self.are_kept {
+            return Ok(());
+        }
+        let Some(Owner::Routine(r)) = d.owner(target) else {
+            return Ok(());
+        };
+        rise(&self.all);
+        self.are_kept = false;
+        self.families.forget_idle(alloc, d.design(), &self.all, r)?;
+        self.are_kept = true;
+        Ok(())
+    }
+
     // The processes that a disable stops: where the block is in one code alone, of those that come
     // from its process or its callers, else of all.
     fn stopped(&self, alloc: Global, d: &Layout, target: ObjId) -> Result<Stopped, NoMemory>

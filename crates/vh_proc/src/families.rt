@@ -13,8 +13,8 @@ use vh_design::{Instruction, Operation};
 // The numbers of a process of the design and of the branches that come from it.
 pub(crate) type Family = BTreeSet<u64, Global>;
 
-// The processes of the design that have called a task or function, or from which one comes that
-// has, for each that was called.
+// For each task and function that was called, the processes of the design that have called it, or
+// from which a branch comes that has, and aren't forgotten.
 type Callers = BTreeMap<u32, BTreeSet<u64, Global>, Global>;
 
 // The family of each process of the design, and of each number in one that process; and who has
@@ -23,7 +23,7 @@ type Callers = BTreeMap<u32, BTreeSet<u64, Global>, Global>;
 pub(crate) struct Families {
     pub(crate) sets: Vec<Family>,
     pub(crate) roots: BTreeMap<u64, u64, Global>,
-    callers: Callers,
+    pub(crate) callers: Callers,
 }
 
 // Adds a family of one number.

@@ -14,6 +14,7 @@
 mod disable;
 mod families;
 mod fork;
+mod idle;
 mod layout;
 mod stepped;
 mod threads;

@@ -297,6 +297,7 @@ impl Threads {
             Single::Disable(target) => {
                 self.arrive(d.design(), p);
                 let next = self.disable(alloc, d, sense, q, p, i.next, target)?;
+                self.forget_idle(alloc, d, target)?;
                 Ok(quietly(alloc, next))
             }
             _ => self.alone(alloc, d.design(), s, sense, q, p, i),
