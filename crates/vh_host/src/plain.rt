@@ -7,14 +7,17 @@ ghost use Rattle.vh_words.specs.Words.{texts, order_word};
 ghost use Rattle.vh_host.specs.Acceptance.{verdict, by_files, by_texts, files_with, first_too_long, is_too_long};
 ghost use Rattle.vh_host.specs.Reading.{file_seen, files_seen};
 ghost use Rattle.vh_host.specs.Headline.{IsTextBy};
+ghost use Rattle.vh_host.specs.Transcript.{IsTextFromOpening};
 
 use crate::file::TextFile;
 use crate::judging::{Refusal, judge};
 use crate::reading::limit_of;
 use crate::transcript::choose;
 use std::alloc::Global;
+use vh_app::Script;
 use vh_base::{Bytes, NoMemory};
 use vh_choice::Chooser;
+use vh_design::Design;
 use vh_kernel::{Kernel, Label};
 use vh_words::read_words;
 
@@ -107,14 +110,27 @@ fn text_of_texts(
         (λ text. IsTextBy order budget (by_texts (files_seen files.now)) text.items) }
 {
     match judge(alloc, files) {
-        Ok((design, scripts)) => {
-            let mut kernel = Kernel::new(alloc, design, scripts)?;
-            let text = text_from(alloc, &mut kernel, order, budget)?;
-            Ok(text)
-        }
+        Ok((design, scripts)) => text_of_run(alloc, design, scripts, order, budget),
         Err(Refusal::NoMemory) => Err(NoMemory),
         Err(Refusal::Design(_, _) | Refusal::Script(_, _, _)) => Ok(Vec::new(alloc)),
     }
+}
+
+// The text of the run of a design with its scripts.
+fn text_of_run(
+    alloc: Global,
+    design: Design,
+    scripts: Vec<Script>,
+    order: Chooser,
+    budget: u64,
+) -> Result<Vec<u8>, NoMemory>
+    requires { length scripts.items ≤ 8 }
+    ensures { IfOk result
+        (λ text. IsTextFromOpening order budget design scripts.items text.items) }
+{
+    let mut kernel = Kernel::new(alloc, design, scripts)?;
+    let text = text_from(alloc, &mut kernel, order, budget)?;
+    Ok(text)
 }
 
 // The text of so many labels at most, from the state that the kernel shows.
