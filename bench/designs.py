@@ -29,6 +29,7 @@ LENGTHS = [
     ("woken", "a change that wakes one of 1,000 waiting processes", 1000, 3000, int),
     ("woken_of_many", "the same of 40,000", 1000, 3000, int),
     ("sum", "an assignment of a sum of 1,001 operands", 1000, 3000, int),
+    ("disabled", "a `disable` of a task that one process is in, beside 2,000 that wait, and the next call of it", 200, 1200, int),
 ]
 BUDGETS = [("turns", "a label, of which three are a turn"), ("nothing", "a label")]
 
