@@ -147,7 +147,8 @@ fn binary_text(alloc: Global, value: &Vec4) -> Result<Short, NoMemory>
 {
     let _digits = value.width();
     let text = text_of(alloc, value, Radix::Binary)?;
-    let Some(short) = Short::new(alloc, text.as_bytes())? else {
+    let made = Short::new(alloc, text.as_bytes())?;
+    let Some(short) = made else {
         unreachable!();
     };
     Ok(short)
