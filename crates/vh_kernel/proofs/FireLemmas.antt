@@ -1,5 +1,5 @@
 -- A frame that stays on top of control while it fires.
-use Rattle.std.proofs.Common.{◌≡◌, ◌∙◌, ℕ, List, [], ◌∷◌, drop, Option, Some, None, slice_get, is_some, false, refl, sym, ap}
+use Rattle.std.proofs.Common.{◌≡◌, ◌∙◌, ℕ, List, [], ◌∷◌, drop, Option, Some, None, slice_get, sym, ap}
 use Rattle.vh_callbacks.specs.Callbacks.{info_of, body_of}
 use Rattle.vh_dispatch.specs.Frames.{top_set, without_in_top}
 use Rattle.vh_kernel.specs.declared.control.Control.{Control}
@@ -7,7 +7,7 @@ use Rattle.vh_kernel.specs.declared.control.Control.TheVariants as top
 use Rattle.vh_kernel.specs.declared.label.Label.TheVariants as label
 use Rattle.vh_kernel.specs.declared.occurrence.Told.{Told}
 use Rattle.vh_kernel.specs.Outcome.{Move}
-use Rattle.vh_kernel.specs.State.{State, with_top, without_top, with_frames}
+use Rattle.vh_kernel.specs.State.{State, without_top, with_frames}
 use Rattle.vh_kernel.specs.Step.{frame_of, called, called_for, fire_move, top_move}
 use Rattle.vh_orders.specs.Orders.{Given}
 
