@@ -81,7 +81,12 @@ fn turn<K: Sink>(
         Err(_) => return Some(Status::NoMemory),
     };
     match tell(kernel, &label, line, out) {
-        Ok(()) => hand_back(kernel, label),
+        Ok(()) => {
+            if is_order(&label) {
+                return hand_back(kernel, label);
+            }
+            status_after(&label)
+        }
         Err(SinkFault::Failed) => Some(Status::WriteFault),
         Err(SinkFault::NoMemory) => Some(Status::NoMemory),
     }
@@ -108,7 +113,14 @@ fn tell<K: Sink>(
     }
 }
 
-// A label that was told goes back to the kernel. Answers the status with which it ends the run, if it does.
+// Has a label an order, whose memory the kernel takes back?
+fn is_order(label: &Label) -> bool {
+    matches!(label, Label::Do(_, _, _))
+}
+
+// A label that was told goes back to the kernel. Answers the status with which it ends the run, if it does. It
+// stands apart, so that a label without an order isn't moved for it.
+#[inline(never)]
 fn hand_back(kernel: &mut Kernel, label: Label) -> Option<Status>
     ensures status { result ≡ status_after label }
     ensures same { state_of kernel.new ≡ state_of kernel.old }
