@@ -6,6 +6,8 @@ pub mod Layout
 pub mod Values
 -- What a script orders next
 pub mod Next
+-- How the number of a procedure is found by its name
+pub mod Numbers
 -- What the bytes of a script are
 pub mod Reading
 -- How contracts see what the code holds

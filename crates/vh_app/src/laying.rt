@@ -190,5 +190,5 @@ pub(crate) fn script_of(alloc: Global, app: &App<'_>) -> Result<Script, NoMemory
     let name = name(alloc, app.name)?;
     let variables = app.variables.as_slice().len();
     let Laying { procedures, nodes } = so;
-    Ok(Script::new(name, variables, procedures, nodes))
+    Script::new(alloc, name, variables, procedures, nodes)
 }

@@ -12,6 +12,7 @@ mod form;
 mod forms;
 mod laws;
 mod laying;
+mod numbers;
 mod orders;
 mod point;
 mod read;

@@ -1,12 +1,13 @@
-ghost use Rattle.std.specs.Prelude.{◌≡◌, true, bytes_eq, position, slice_get, IfOk};
+ghost use Rattle.std.specs.Prelude.{◌≡◌, true, slice_get, IfOk};
 ghost use Rattle.vh_app.specs.Next as spec;
 ghost use Rattle.vh_app.specs.Next.{ReturnsAt, came, next_of, number_of, procedure_in, procedure_named};
-ghost use Rattle.vh_app.specs.Script.{ScriptData};
 
 use crate::form::{Node, Procedure};
+use crate::numbers::numbers_of;
 use crate::point::Point;
 use crate::value::{holds, set_to};
 use crate::vars::Vars;
+use indexmap::IndexMap;
 use std::alloc::Global;
 use std::marker::Model;
 use vh_base::{NoMemory, Order, Seen, Sequence, Short};
@@ -18,9 +19,14 @@ pub struct Script {
     variables: usize,
     procedures: Sequence<Procedure>,
     nodes: Sequence<Node>,
+    // the number of the first procedure of each name
+    numbers: IndexMap<Vec<u8>, usize>,
 }
 
 impl Model for Script {
+    ghost use Rattle.vh_app.specs.Numbers.{IsTableOf};
+    ghost use Rattle.vh_app.specs.Script.{ScriptData};
+
     ghost Value = { ScriptData };
 
     ghost view = { λ s. record {
@@ -29,29 +35,34 @@ impl Model for Script {
       procedures = s.procedures;
       nodes = s.nodes;
     } };
+
+    ghost invariant = { λ s. IsTableOf s.procedures s.numbers.entries };
 }
 
 impl Script {
-    /// A script of these parts.
+    /// A script of these parts. It takes memory for each name of a procedure.
     pub(crate) fn new(
+        alloc: Global,
         name: Short,
         variables: usize,
         procedures: Vec<Procedure>,
         nodes: Vec<Node>,
-    ) -> Script
-        ensures { result ≡ record {
+    ) -> Result<Script, NoMemory>
+        ensures { IfOk result (λ s. s ≡ record {
           name = name;
           variables = variables;
           procedures = procedures.items;
           nodes = nodes.items;
-        } }
+        }) }
     {
-        Script {
+        let numbers = numbers_of(alloc, procedures.as_slice())?;
+        Ok(Script {
             name,
             variables,
             procedures: Sequence::new(procedures),
             nodes: Sequence::new(nodes),
-        }
+            numbers,
+        })
     }
 
     /// Its name.
@@ -75,8 +86,8 @@ impl Script {
         Point::new(0)
     }
 
-    /// Where the procedure of this name begins, found in time that grows with the number of the
-    /// procedures.
+    /// Where the procedure of this name begins, found by one hash of the name, whatever the number
+    /// of the procedures.
     pub fn procedure(&self, name: &[u8]) -> Option<Point>
         ensures { result ≡ procedure_named self.now name.now }
     {
@@ -87,8 +98,7 @@ impl Script {
     fn number(&self, name: &[u8]) -> Option<usize>
         ensures { result ≡ number_of self.now name.now }
     {
-        let procedures = self.procedures.as_slice();
-        procedures.iter().position(|p| p.name.bytes() == name)
+        self.numbers.get(name).copied()
     }
 
     // Where a procedure begins, if there is one.
