@@ -103,6 +103,9 @@ pub(crate) fn push_handle(line: &mut String, handle: Option<HandleNo>) -> Result
 pub fn push_number(line: &mut String, n: u64) -> Result<(), AllocError>
     ensures { OnOk result (string_bytes line.new ≡ string_bytes line.old ++ decimal n) }
 {
+    if n < 10 {
+        return line.push((b'0' + n as u8) as char);
+    }
     let mut buffer = Buffer::new();
     line.push_str(buffer.format(n))
 }

@@ -70,16 +70,22 @@ fn push_all_escaped(line: &mut String, text: &[u8]) -> Result<(), AllocError>
     push_each_escaped(line, text)
 }
 
-// Does each byte of a text stand in quotes as it is?
+// Does each byte of a text stand in quotes as it is? It looks at all of them, so that the compiler can test several at once.
 fn stands(text: &[u8]) -> bool
     ensures { result ≡ true → flat_map escaped text.now ≡ text.now }
 {
+    let mut all = true;
     for byte in text {
-        if !matches!(*byte, b' ' | b'!' | b'#'..=b'[' | b']'..=b'~') {
-            return false;
-        }
+        all &= byte_stands(*byte);
     }
-    true
+    all
+}
+
+// Does a byte stand in quotes as it is?
+fn byte_stands(byte: u8) -> bool
+    ensures { result ≡ true → escaped byte ≡ byte ∷ [] }
+{
+    (byte >= b' ') & (byte <= b'~') & (byte != b'"') & (byte != b'\\')
 }
 
 // Adds each byte of a text as it stands in quotes.
