@@ -4,9 +4,9 @@ use Rattle.std.proofs.lemmas.Bool.{le-ltb, lt-ltb, ne_eqb, leb-false, ltb-true, 
 use Rattle.std.proofs.lemmas.List.{length-append}
 use Rattle.std.specs.BTreeMap.{is_at as is_key, insert_entry}
 use Rattle.std.specs.BTreeSet.{BTreeSet}
-use Rattle.std.specs.List.{list_any, find}
+use Rattle.std.specs.List.{list_any, find, All}
 use Rattle.std.specs.List.Sorted.{IsStrictlySortedBy}
-use Rattle.std.specs.Map.{values_of, remove_entry, lookup}
+use Rattle.std.specs.Map.{keys_of, values_of, remove_entry, lookup}
 use Rattle.std.specs.Option.{option_map, is_some, IfSome, IfNone}
 use Rattle.std.specs.Result.{is_err, OnOk, OnErr}
 use Rattle.std.specs.Ordering.{nat_cmp}
@@ -66,6 +66,27 @@ holds-added next now due ready m pairs more x y e h at timely room is entered st
     rises-more : (low high : ℕ) (es : List Entry) (e : Entry) → e.serial ≡ high → Rises low high es → Rises low (high + 1) (es ++ e ∷ [])
     rises-more low high es e at rises = rw (← at) (rises-added e.time e.region e.work low e.serial es (rw at rises))
 
+-- An entry more by its serial stands last.
+pub inserted : (next : ℕ) (e : Entry) (pairs : List (ℕ × Entry)) → pairs ≡ by_serial (values_of pairs) → Rises 1 next (values_of pairs)
+    → e.serial ≡ next → pairs ++ (next, e) ∷ [] ≡ insert_entry nat_cmp pairs next e
+inserted next e pairs keyed rises at =
+    ap (λ (ps : List (ℕ × Entry)). ps ++ (next, e) ∷ []) keyed ∙ behind (values_of pairs)
+    ∙ sym (insert-last 1 next e (values_of pairs) rises at) ∙ ap (λ (ps : List (ℕ × Entry)). insert_entry nat_cmp ps next e) (sym keyed)
+  where
+    behind : (es : List Entry) → by_serial es ++ (next, e) ∷ [] ≡ by_serial (es ++ e ∷ [])
+    behind [] = ap (λ (n : ℕ). (n, e) ∷ []) (sym at)
+    behind (f ∷ es) = ap (λ (t : List (ℕ × Entry)). (f.serial, f) ∷ t) (behind es)
+
+-- All stand below the next serial.
+pub all-below : (next : ℕ) (pairs : List (ℕ × Entry)) → pairs ≡ by_serial (values_of pairs) → Rises 1 next (values_of pairs)
+    → All (λ n. n < next) (keys_of pairs)
+all-below next pairs keyed rises = subst (λ (ps : List (ℕ × Entry)). All (λ n. n < next) (keys_of ps)) (sym keyed) (below 1 (values_of pairs) rises)
+  where
+    below : (low : ℕ) (es : List Entry) → Rises low next es → All (λ n. n < next) (keys_of (by_serial es))
+    below low [] rises k d within = absurd (omega (arith, within))
+    below low (e ∷ es) rises zero d within = let h = rises-empty (e.serial + 1) next es rises.1 in omega (arith, h)
+    below low (e ∷ es) rises (suc k) d within = below (e.serial + 1) es rises.1 k d (omega (arith, within))
+
 -- An entry that couldn't be entered.
 pub insert-undone : (next : ℕ) (e : Entry) (pairs more less : List (ℕ × Entry)) → pairs ≡ by_serial (values_of pairs) → Rises 1 next (values_of pairs)
     → e.serial ≡ next → more ≡ insert_entry nat_cmp pairs next e → less ≡ remove_entry (is_key (nat_cmp next)) more → less ≡ pairs
@@ -83,6 +104,17 @@ insert-undone next e pairs more less keyed rises at is then =
         let bound = rises-empty (f.serial + 1) next es r.1 in
         rw (le-ltb next f.serial (omega (arith, bound)), ne_eqb next f.serial (λ same. omega (arith, bound, same)))
         (ap (λ (t : List (ℕ × Entry)). (f.serial, f) ∷ t) (undone (f.serial + 1) es r.1))
+
+-- Where a serial has none, nothing goes.
+pub none-removed : (s : ℕ) (pairs : List (ℕ × Entry)) → lookup (is_key (nat_cmp s)) pairs ≡ None → remove_entry (is_key (nat_cmp s)) pairs ≡ pairs
+none-removed s [] is = refl
+none-removed s (p ∷ ps) is = by_test (is_key (nat_cmp s) p.0) is (none-removed s ps)
+  where
+    by_test : (b : Bool) → cond b (Some p.1) (lookup (is_key (nat_cmp s)) ps) ≡ None
+        → (lookup (is_key (nat_cmp s)) ps ≡ None → remove_entry (is_key (nat_cmp s)) ps ≡ ps)
+        → cond b ps (p ∷ remove_entry (is_key (nat_cmp s)) ps) ≡ p ∷ ps
+    by_test true found rest = absurd (cc)
+    by_test false found rest = ap (λ (t : List (ℕ × Entry)). p ∷ t) (rest found)
 
 -- One entry less.
 pub holds-taken : (next now due ready s fewer less : ℕ) (m : Marks) (pairs rest : List (ℕ × Entry)) (x y : Index) (e : Entry)

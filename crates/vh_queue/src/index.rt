@@ -26,8 +26,8 @@ impl Index {
         ensures { Indexes [] result }
     {
         Index {
-            plain: BTreeSet::new(alloc),
-            updates: BTreeSet::new(alloc),
+            plain: Places::new(alloc),
+            updates: Places::new(alloc),
             untimed: BTreeSet::new(alloc),
         }
     }

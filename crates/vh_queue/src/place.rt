@@ -6,9 +6,7 @@ ghost use Rattle.vh_queue.specs.Serials.{later_of, last_of};
 
 use crate::marks::Marks;
 use crate::region::Region;
-use std::alloc::Global;
-use std::collections::BTreeSet;
-use std::ops::Bound;
+use vh_near::Near;
 
 // Where an entry with a time waits: by its time, its region's rank and its serial.
 #[derive(Clone, Copy, PartialEq, Eq, PartialOrd, Ord)]
@@ -19,7 +17,7 @@ pub(crate) struct Place {
 }
 
 // The places of some entries.
-pub(crate) type Places = BTreeSet<Place, Global>;
+pub(crate) type Places = Near<Place>;
 
 // Does each place stand at a later time? Then no more is to be asked.
 fn are_later(places: &Places, time: u64) -> bool
@@ -56,9 +54,7 @@ pub(crate) fn first_of(places: &Places, time: u64, rank: u8, from: u64, below: u
     if first <= *least {
         return Some(least.serial);
     }
-    let place = places
-        .range((Bound::Included(first), Bound::Excluded(end)))
-        .next()?;
+    let place = places.first_between(&first, &end)?;
     Some(place.serial)
 }
 
@@ -81,9 +77,7 @@ pub(crate) fn last_of(places: &Places, time: u64, rank: u8, from: u64, below: u6
     if end <= *least {
         return None;
     }
-    let place = places
-        .range((Bound::Included(first), Bound::Excluded(end)))
-        .next_back()?;
+    let place = places.last_between(&first, &end)?;
     Some(place.serial)
 }
 
@@ -111,9 +105,7 @@ pub(crate) fn count_of(places: &Places, time: u64, rank: u8, from: u64, below: u
     if end <= *least {
         return 0;
     }
-    places
-        .range((Bound::Included(first), Bound::Excluded(end)))
-        .count()
+    places.count_between(&first, &end)
 }
 
 // The earlier of two numbers that may be missing.

@@ -16,9 +16,9 @@ use crate::place::{
 use crate::region::Region;
 use crate::work::Work;
 use std::alloc::Global;
-use std::collections::BTreeMap;
 use std::marker::Model;
 use vh_base::{MOST_ENTRIES, MOST_NUMBERS, NoMemory, Serial};
+use vh_near::Recent;
 
 /// The event queue, which contracts see as `Events`: its entries by rising serial, the
 /// next serial, and the present time. Inside, entries stay as they were added; they wait in sets that are
@@ -26,7 +26,7 @@ use vh_base::{MOST_ENTRIES, MOST_NUMBERS, NoMemory, Serial};
 /// over all entries, but a pick that is neither the first nor the last.
 #[derive(Drop)]
 pub struct Queue {
-    entries: BTreeMap<u64, Entry, Global>,
+    entries: Recent<Entry>,
     index: Index,
     marks: Marks,
     next: u64,
@@ -42,9 +42,9 @@ impl Model for Queue {
 
     ghost Value = { Events };
 
-    ghost view = { λ q. record { entries = all_seen q.time q.marks (values_of q.entries.entries); next = q.next; time = q.time } };
+    ghost view = { λ q. record { entries = all_seen q.time q.marks (values_of q.entries); next = q.next; time = q.time } };
 
-    ghost invariant = { λ q. Holds q.next q.time q.marks q.starts q.ready q.entries.entries q.index };
+    ghost invariant = { λ q. Holds q.next q.time q.marks q.starts q.ready q.entries q.index };
 }
 
 // One where it is so, else none.
@@ -63,7 +63,7 @@ fn time_if(so: bool, time: u64) -> Option<u64>
 
 // The serial of the k-th entry that may be picked, as entries are seen.
 fn nth_picked(
-    entries: &BTreeMap<u64, Entry, Global>,
+    entries: &Recent<Entry>,
     now: u64,
     marks: &Marks,
     starts: bool,
@@ -71,11 +71,21 @@ fn nth_picked(
     k: u32,
 ) -> Option<u64>
     ensures { result ≡ slice_get (map (λ e. e.serial)
-        (filter (picked_by starts now first) (all_seen now marks.now (values_of entries.now.entries)))) k }
+        (filter (picked_by starts now first) (all_seen now marks.now (values_of entries.now)))) k }
 {
+    let (old, row) = entries.parts();
     let mut left = k;
-    for stored in entries.values() {
+    for stored in old.values() {
         let entry = stored.seen(now, marks);
+        if entry.is_picked_by(starts, now, first) {
+            if left == 0 {
+                return Some(entry.serial.number());
+            }
+            left -= 1;
+        }
+    }
+    for stored in row {
+        let entry = stored.1.seen(now, marks);
         if entry.is_picked_by(starts, now, first) {
             if left == 0 {
                 return Some(entry.serial.number());
@@ -92,7 +102,7 @@ impl Queue {
         ensures { IfOk result (λ q. q ≡ no_events) }
     {
         Ok(Queue {
-            entries: BTreeMap::new(alloc),
+            entries: Recent::new(alloc),
             index: Index::new(alloc),
             marks: Marks {
                 inactive: 0,
@@ -233,7 +243,7 @@ impl Queue {
         ensures entry { result ≡ entry_of serial self.old }
         ensures gone { self.new ≡ without serial self.old }
     {
-        let stored = self.entries.remove(&serial)?;
+        let stored = self.entries.remove(serial)?;
         self.index.leave(&stored);
         let entry = stored.seen(self.time, &self.marks);
         self.starts -= one_if(entry.is_due(Region::Start, self.time));
@@ -261,7 +271,7 @@ impl Queue {
     pub fn work(&self, s: Serial) -> Option<&Work>
         ensures { option_copied result ≡ work_of s self.now }
     {
-        let entry = self.entries.get(&s.number())?;
+        let entry = self.entries.get(s.number())?;
         Some(&entry.work)
     }
 
@@ -295,11 +305,11 @@ impl Queue {
             region,
             work,
         };
-        if self.entries.insert(self.next, entry).is_err() {
+        if self.entries.push(self.next, entry).is_err() {
             return Err(AddFault::NoMemory);
         }
         if self.index.enter(&entry).is_err() {
-            self.entries.remove(&self.next);
+            self.entries.remove(self.next);
             return Err(AddFault::NoMemory);
         }
         self.starts += one_if(entry.is_due(Region::Start, self.time));

@@ -12,36 +12,36 @@ use Rattle.vh_queue.proofs.queue.Queue.activate.Goals as goal
 pub count_start-requires : goal.count_start-requires
 count_start-requires c =
     let i = c.self.inside in let h = c.self.invariant in
-    few-starts i.next i.time i.starts i.ready i.marks i.entries.entries i.index h i.time c.set.new.self h.timely
+    few-starts i.next i.time i.starts i.ready i.marks i.entries i.index h i.time c.set.new.self h.timely
 
 pub overflow_cast-self : goal.overflow_cast-self
 overflow_cast-self c =
     let i = c.self.inside in let h = c.self.invariant in
-    let few = few-starts i.next i.time i.starts i.ready i.marks i.entries.entries i.index h i.time c.set.new.self h.timely in
+    let few = few-starts i.next i.time i.starts i.ready i.marks i.entries i.index h i.time c.set.new.self h.timely in
     let is = c.count_start.ensures in omega (arith, few, is)
 
 pub count_four-requires : goal.count_four-requires
 count_four-requires c =
     let i = c.self.inside in let h = c.self.invariant in
-    few-ready i.next i.time i.starts i.ready i.marks i.entries.entries i.index h i.time c.set.new.self h.timely
+    few-ready i.next i.time i.starts i.ready i.marks i.entries i.index h i.time c.set.new.self h.timely
 
 pub overflow_cast-self-2 : goal.overflow_cast-self-2
 overflow_cast-self-2 c =
     let i = c.self.inside in let h = c.self.invariant in
-    let few = few-ready i.next i.time i.starts i.ready i.marks i.entries.entries i.index h i.time c.set.new.self h.timely in
+    let few = few-ready i.next i.time i.starts i.ready i.marks i.entries i.index h i.time c.set.new.self h.timely in
     let is = c.count_four.ensures in omega (arith, few, is)
 
 pub invariant_of-self : goal.invariant_of-self
 invariant_of-self c =
     let i = c.self.inside in let h = c.self.invariant in
     rw (c.count_start.ensures, c.count_four.ensures)
-    (holds-at i.next i.time i.starts i.ready i.marks i.entries.entries i.index h i.time c.set.new.self h.timely
+    (holds-at i.next i.time i.starts i.ready i.marks i.entries i.index h i.time c.set.new.self h.timely
     (subst (λ (k : Marks). AreMarks i.next k) (sym c.set.ensures) (with-marks c.in_ok-region.region i.next i.marks h.marks)))
 
 pub returns-clause-active : goal.returns-clause-active
 returns-clause-active c =
     let i = c.self.inside in let h = c.self.invariant in let r = c.in_ok-region.region in
-    let es : List Entry = values_of i.entries.entries in
+    let es : List Entry = values_of i.entries in
     ap (λ (k : Marks). (let q : Events = record { entries = all_seen i.time k es; next = i.next; time = i.time } in q)) c.set.ensures
     ∙ ap (λ (xs : List Entry). (let q : Events = record { entries = xs; next = i.next; time = i.time } in q))
     (all-made i.time 1 i.next i.marks r es h.rises h.timely c.in_ok-region.ensures.later)

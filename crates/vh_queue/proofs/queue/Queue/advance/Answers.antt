@@ -12,47 +12,47 @@ use Rattle.vh_queue.proofs.queue.Queue.advance.Goals as goal
 pub count_start-requires : goal.count_start-requires
 count_start-requires c =
     let i = c.self.inside in let h = c.self.invariant in let t = c.in_ok-time.time in
-    let goes = goes-on i.next i.time i.starts i.ready i.marks i.entries.entries i.index h t (t == i.time) c.any_beyond-gives.result
+    let goes = goes-on i.next i.time i.starts i.ready i.marks i.entries i.index h t (t == i.time) c.any_beyond-gives.result
     (ap (λ (q : Events). least_time q.entries) c.self.view_is ∙ sym c.in_ok-time.ensures) (eqb-true t i.time) (eqb-false t i.time) in
-    few-starts i.next i.time i.starts i.ready i.marks i.entries.entries i.index h t c.at-marks.result goes.1
+    few-starts i.next i.time i.starts i.ready i.marks i.entries i.index h t c.at-marks.result goes.1
 
 pub overflow_cast-self : goal.overflow_cast-self
 overflow_cast-self c =
     let i = c.self.inside in let h = c.self.invariant in let t = c.in_ok-time.time in
-    let goes = goes-on i.next i.time i.starts i.ready i.marks i.entries.entries i.index h t (t == i.time) c.any_beyond-gives.result
+    let goes = goes-on i.next i.time i.starts i.ready i.marks i.entries i.index h t (t == i.time) c.any_beyond-gives.result
     (ap (λ (q : Events). least_time q.entries) c.self.view_is ∙ sym c.in_ok-time.ensures) (eqb-true t i.time) (eqb-false t i.time) in
-    let few = few-starts i.next i.time i.starts i.ready i.marks i.entries.entries i.index h t c.at-marks.result goes.1 in
+    let few = few-starts i.next i.time i.starts i.ready i.marks i.entries i.index h t c.at-marks.result goes.1 in
     let is = c.count_start.ensures in omega (arith, few, is)
 
 pub count_four-requires : goal.count_four-requires
 count_four-requires c =
     let i = c.self.inside in let h = c.self.invariant in let t = c.in_ok-time.time in
-    let goes = goes-on i.next i.time i.starts i.ready i.marks i.entries.entries i.index h t (t == i.time) c.any_beyond-gives.result
+    let goes = goes-on i.next i.time i.starts i.ready i.marks i.entries i.index h t (t == i.time) c.any_beyond-gives.result
     (ap (λ (q : Events). least_time q.entries) c.self.view_is ∙ sym c.in_ok-time.ensures) (eqb-true t i.time) (eqb-false t i.time) in
-    few-ready i.next i.time i.starts i.ready i.marks i.entries.entries i.index h t c.at-marks.result goes.1
+    few-ready i.next i.time i.starts i.ready i.marks i.entries i.index h t c.at-marks.result goes.1
 
 pub overflow_cast-self-2 : goal.overflow_cast-self-2
 overflow_cast-self-2 c =
     let i = c.self.inside in let h = c.self.invariant in let t = c.in_ok-time.time in
-    let goes = goes-on i.next i.time i.starts i.ready i.marks i.entries.entries i.index h t (t == i.time) c.any_beyond-gives.result
+    let goes = goes-on i.next i.time i.starts i.ready i.marks i.entries i.index h t (t == i.time) c.any_beyond-gives.result
     (ap (λ (q : Events). least_time q.entries) c.self.view_is ∙ sym c.in_ok-time.ensures) (eqb-true t i.time) (eqb-false t i.time) in
-    let few = few-ready i.next i.time i.starts i.ready i.marks i.entries.entries i.index h t c.at-marks.result goes.1 in
+    let few = few-ready i.next i.time i.starts i.ready i.marks i.entries i.index h t c.at-marks.result goes.1 in
     let is = c.count_four.ensures in omega (arith, few, is)
 
 pub invariant_of-self : goal.invariant_of-self
 invariant_of-self c =
     let i = c.self.inside in let h = c.self.invariant in let t = c.in_ok-time.time in
-    let goes = goes-on i.next i.time i.starts i.ready i.marks i.entries.entries i.index h t (t == i.time) c.any_beyond-gives.result
+    let goes = goes-on i.next i.time i.starts i.ready i.marks i.entries i.index h t (t == i.time) c.any_beyond-gives.result
     (ap (λ (q : Events). least_time q.entries) c.self.view_is ∙ sym c.in_ok-time.ensures) (eqb-true t i.time) (eqb-false t i.time) in
     rw (c.count_start.ensures, c.count_four.ensures)
-    (holds-at i.next i.time i.starts i.ready i.marks i.entries.entries i.index h t c.at-marks.result goes.1
+    (holds-at i.next i.time i.starts i.ready i.marks i.entries i.index h t c.at-marks.result goes.1
     (subst (λ (k : Marks). AreMarks i.next k) (sym c.at-marks.ensures) (at-marks (t == i.time) c.any_beyond-gives.result i.next i.marks h.marks)))
 
 pub returns-clause-active : goal.returns-clause-active
 returns-clause-active c =
     let i = c.self.inside in let h = c.self.invariant in let t = c.in_ok-time.time in
-    let es : List Entry = values_of i.entries.entries in
-    let goes = goes-on i.next i.time i.starts i.ready i.marks i.entries.entries i.index h t (t == i.time) c.any_beyond-gives.result
+    let es : List Entry = values_of i.entries in
+    let goes = goes-on i.next i.time i.starts i.ready i.marks i.entries i.index h t (t == i.time) c.any_beyond-gives.result
     (ap (λ (q : Events). least_time q.entries) c.self.view_is ∙ sym c.in_ok-time.ensures) (eqb-true t i.time) (eqb-false t i.time) in
     ap (λ (k : Marks). (let q : Events = record { entries = all_seen t k es; next = i.next; time = t } in q)) c.at-marks.ensures
     ∙ ap (λ (xs : List Entry). (let q : Events = record { entries = xs; next = i.next; time = t } in q)) goes.0

@@ -15,8 +15,8 @@ returns-then-any_four c =
     let all : Marks = record { inactive = i.next; nonblocking = i.next; monitor = i.next; dated = 0 } in
     or-then c.any_four.result (is_some (first_four c.args.time i.next all i.index.plain)) (is_some (first_four c.args.time i.next all i.index.updates)) _
     c.any_four.ensures c.if-any_four.true
-    (beyond-any i.next i.time c.args.time i.marks all (values_of i.entries.entries) i.index.plain i.index.updates
-    (keeps-plain i.next i.time i.starts i.ready i.marks i.entries.entries i.index h) (keeps-updates i.next i.time i.starts i.ready i.marks i.entries.entries i.index h)
+    (beyond-any i.next i.time c.args.time i.marks all (values_of i.entries) i.index.plain i.index.updates
+    (keeps-plain i.next i.time i.starts i.ready i.marks i.entries i.index h) (keeps-updates i.next i.time i.starts i.ready i.marks i.entries i.index h)
     refl refl refl ∙ ap (λ (q : Events). list_any (is_beyond_start c.args.time) q.entries) c.self.view_is)
 
 pub returns-else-any_four : goal.returns-else-any_four
@@ -27,6 +27,6 @@ returns-else-any_four c =
     (is_some (first_four c.args.time i.next all i.index.updates)) _
     c.any_four.ensures c.if-any_four.false
     c.any_four-else-any_four.ensures
-    (beyond-any i.next i.time c.args.time i.marks all (values_of i.entries.entries) i.index.plain i.index.updates
-    (keeps-plain i.next i.time i.starts i.ready i.marks i.entries.entries i.index h) (keeps-updates i.next i.time i.starts i.ready i.marks i.entries.entries i.index h)
+    (beyond-any i.next i.time c.args.time i.marks all (values_of i.entries) i.index.plain i.index.updates
+    (keeps-plain i.next i.time i.starts i.ready i.marks i.entries i.index h) (keeps-updates i.next i.time i.starts i.ready i.marks i.entries i.index h)
     refl refl refl ∙ ap (λ (q : Events). list_any (is_beyond_start c.args.time) q.entries) c.self.view_is)

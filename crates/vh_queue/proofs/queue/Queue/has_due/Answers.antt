@@ -18,8 +18,8 @@ returns-then-is_some c =
     (c.is_some.ensures ∙ ap is_some c.first_of.ensures
     ∙ ap (λ (k : ℕ). is_some (slice_get (serials_of i.time k c.of-from.result i.next i.index.plain) 0)) c.rank-rank.ensures
     ∙ ap (λ (n : ℕ). is_some (slice_get (serials_of i.time (rank r) n i.next i.index.plain) 0)) c.of-from.ensures) c.if-is_some.true
-    (due-any i.next i.time i.marks r (values_of i.entries.entries) i.index.plain i.index.updates
-    (keeps-plain i.next i.time i.starts i.ready i.marks i.entries.entries i.index h) (keeps-updates i.next i.time i.starts i.ready i.marks i.entries.entries i.index h)
+    (due-any i.next i.time i.marks r (values_of i.entries) i.index.plain i.index.updates
+    (keeps-plain i.next i.time i.starts i.ready i.marks i.entries i.index h) (keeps-updates i.next i.time i.starts i.ready i.marks i.entries i.index h)
     c.requires ∙ ap (λ (q : Events). list_any (is_due r q.time) q.entries) c.self.view_is)
 
 pub returns-else-is_some : goal.returns-else-is_some
@@ -33,6 +33,6 @@ returns-else-is_some c =
     (c.is_some-else-is_some.ensures ∙ ap is_some c.first_of-else-is_some.ensures
     ∙ ap (λ (k : ℕ). is_some (slice_get (serials_of i.time k c.of-from.result i.next i.index.updates) 0)) c.rank-rank.ensures
     ∙ ap (λ (n : ℕ). is_some (slice_get (serials_of i.time (rank r) n i.next i.index.updates) 0)) c.of-from.ensures)
-    (due-any i.next i.time i.marks r (values_of i.entries.entries) i.index.plain i.index.updates
-    (keeps-plain i.next i.time i.starts i.ready i.marks i.entries.entries i.index h) (keeps-updates i.next i.time i.starts i.ready i.marks i.entries.entries i.index h)
+    (due-any i.next i.time i.marks r (values_of i.entries) i.index.plain i.index.updates
+    (keeps-plain i.next i.time i.starts i.ready i.marks i.entries i.index h) (keeps-updates i.next i.time i.starts i.ready i.marks i.entries i.index h)
     c.requires ∙ ap (λ (q : Events). list_any (is_due r q.time) q.entries) c.self.view_is)
