@@ -1,7 +1,6 @@
 -- What a label of a process does, a row for each kind in the order of the statements' table. (IEEE 1364-2005, clauses
 -- 9 and 10; the faults are own)
-use Rattle.std.specs.Prelude.{ℕ, List, [], ◌∷◌, length, Bool, true, false, if◌then◌else◌, Option, Some, None, unwrap_or, Result, Ok, Err}
-use Rattle.std.specs.Option.{option_map, is_some}
+use Rattle.std.specs.Prelude.{ℕ, List, [], ◌∷◌, length, if◌then◌else◌, Option, Some, None, Result, Ok, Err}
 use Rattle.vh_base.specs.Checks.{with_ok}
 use Rattle.vh_base.specs.declared.faults.Fault.{Fault}
 use Rattle.vh_code.specs.declared.code.Goes.{Goes}
@@ -134,10 +133,3 @@ step_of_process d p (Some t) w = step_in d p t (next_of d t.thread) w
 
 abbrev pub step_of : Shape → ℕ → World → Outcome
 step_of d p w = step_of_process d p (process_at p w.processes) w
-
--- Has a process a next label?
-abbrev pub has_next : Shape → Process → Bool
-has_next d t = is_some (next_of d t.thread)
-
-abbrev pub has_label : Shape → ℕ → Processes → Bool
-has_label d p ps = unwrap_or (option_map (has_next d) (process_at p ps)) false

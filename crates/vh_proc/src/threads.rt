@@ -1,11 +1,11 @@
-ghost use Rattle.std.specs.Prelude.{◌≡◌, [], true, Some, Ok, IsSome, IfSome, IfOk, IfErr, OnOk};
+ghost use Rattle.std.specs.Prelude.{◌≡◌, [], true, Some, None, Ok, Err, IsSome, IfSome, IfNone, IfOk, IfErr, OnOk};
 ghost use Rattle.std.specs.BTreeMap.{insert_entry};
 ghost use Rattle.std.specs.Ordering.{nat_cmp};
 ghost use Rattle.vh_design.specs.Shape.{Shape};
 ghost use Rattle.vh_design.specs.Validity.{IsValid};
 ghost use Rattle.vh_thread.specs.Control.{next_of};
 ghost use Rattle.vh_proc.specs.Processes.{AllRun, process_at, without_process, changed, arrived_in, gone_on, with_left, one_less, opening, noted, resumed, queued, world_of, step_with};
-ghost use Rattle.vh_proc.specs.Steps.{has_label, step_of, single_step, alone, after_fork};
+ghost use Rattle.vh_proc.specs.Steps.{step_of, step_at, single_step, alone, after_fork};
 ghost use Rattle.vh_turn.specs.Turns.{is_own};
 ghost use Rattle.vh_turn.specs.Own.{FailsBy};
 
@@ -304,18 +304,7 @@ impl Threads {
         }
     }
 
-    /// Has a process a next label?
-    pub fn has_label(&self, d: &Design, p: ProcId) -> bool
-        requires { AllRun d.now self.now }
-        ensures { result ≡ has_label d.now p self.now }
-    {
-        let Some(process) = self.all.get(&p.number()) else {
-            return false;
-        };
-        process.thread.next(d).is_some()
-    }
-
-    /// Performs the next label of a process.
+    /// Performs the next label of a process; none where it has none.
     pub fn step(
         &mut self,
         alloc: Global,
@@ -324,13 +313,17 @@ impl Threads {
         sense: &mut Sense,
         q: &mut Queue,
         p: ProcId,
-    ) -> Result<Stepped, StepFault>
+    ) -> Result<Option<Stepped>, StepFault>
         requires runs { AllRun d.now self.old }
-        requires there { has_label d.now p self.old ≡ true }
         requires waits { (sense.old).waits ≡ (d.now).waits }
         requires now { (s.old).time ≡ (q.old).time }
-        ensures done { IfOk result (λ r. step_of d.now p (world_of self.old s.old sense.old q.old)
-            ≡ Ok (step_with (world_of self.new s.new sense.new q.new) r.made r.next)) }
+        ensures done { IfOk result (λ o. IfSome o (λ r.
+            step_of d.now p (world_of self.old s.old sense.old q.old)
+            ≡ Ok (step_with (world_of self.new s.new sense.new q.new) r.made r.next))) }
+        ensures none { IfOk result (λ o. IfNone o
+            (step_of d.now p (world_of self.old s.old sense.old q.old) ≡ Err None)) }
+        ensures same { IfOk result (λ o. IfNone o (world_of self.new s.new sense.new q.new
+            ≡ world_of self.old s.old sense.old q.old)) }
         ensures fails { IfErr result (FailsBy (step_of d.now p
             (world_of self.old s.old sense.old q.old))) }
         ensures time { (s.new).time ≡ (s.old).time }
@@ -341,11 +334,44 @@ impl Threads {
         let design = d.design();
         keeps_rules(design);
         let Some(process) = self.all.get(&p.number()) else {
-            unreachable!();
+            return Ok(None);
         };
         let Some(i) = process.thread.next(design) else {
-            unreachable!();
+            return Ok(None);
         };
+        let stepped = self.perform(alloc, d, s, sense, q, p, i)?;
+        Ok(Some(stepped))
+    }
+
+    // Performs a label of a process, which is its next one.
+    fn perform(
+        &mut self,
+        alloc: Global,
+        d: &Layout,
+        s: &mut Store,
+        sense: &mut Sense,
+        q: &mut Queue,
+        p: ProcId,
+        i: &Instruction,
+    ) -> Result<Stepped, StepFault>
+        requires runs { AllRun d.now self.old }
+        requires there { IfSome (process_at p self.old) (λ t. next_of d.now t.thread ≡ Some i.now) }
+        requires known { IsSome (process_at p self.old) }
+        requires valid { IsValid d.now }
+        requires waits { (sense.old).waits ≡ (d.now).waits }
+        requires now { (s.old).time ≡ (q.old).time }
+        ensures done { IfSome (process_at p self.old) (λ t. IfOk result
+            (λ r. step_at d.now p t i.now i.now.operation (world_of self.old s.old sense.old q.old)
+            ≡ Ok (step_with (world_of self.new s.new sense.new q.new) r.made r.next))) }
+        ensures fails { IfSome (process_at p self.old) (λ t.
+            IfErr result (FailsBy (step_at d.now p t i.now i.now.operation
+            (world_of self.old s.old sense.old q.old)))) }
+        ensures time { (s.new).time ≡ (s.old).time }
+        ensures kept { (sense.new).waits ≡ (sense.old).waits }
+        ensures still { (q.new).time ≡ (q.old).time }
+        ensures runs { OnOk result (AllRun d.now self.new) }
+    {
+        let design = d.design();
         match &i.operation {
             Operation::Fork(places) => {
                 self.arrive(design, p);

@@ -1,8 +1,7 @@
-ghost use Rattle.std.specs.Prelude.{◌≡◌, [], true, length, slice_get, Ok, IfOk, IfErr, OnOk};
+ghost use Rattle.std.specs.Prelude.{◌≡◌, [], true, length, slice_get, None, Ok, Err, IfSome, IfNone, IfOk, IfErr, OnOk};
 ghost use Rattle.std.specs.List.{flat_map, list_all};
 ghost use Rattle.vh_code.specs.Codes.{fits_arg};
 ghost use Rattle.vh_display.specs.Calls.{shown_text};
-ghost use Rattle.vh_proc.specs.Steps.{has_label};
 ghost use Rattle.vh_assign.specs.Assigned.{is_same_value};
 ghost use Rattle.vh_simulation.specs.Entries.{watched, monitor_entered};
 ghost use Rattle.vh_simulation.specs.Labels.{IsOver, came, performed, updated, driven, followed_up, putting, worked, monitor_of, displaying, displayed, monitor_shown, compared, all_compared, are_same};
@@ -222,11 +221,12 @@ fn show_monitor(
 }
 
 impl Simulation {
-    /// Performs the next label of a process.
-    pub fn perform(&mut self, alloc: Global, p: ProcId) -> Result<Performed, StepFault>
-        requires there { has_label (self.old).design p (self.old).processes ≡ true }
-        ensures done { IfOk result (λ r. performed p self.old
-            ≡ Ok (record { came = came r.came.made r.came.shown self.new; next = r.next })) }
+    /// Performs the next label of a process; none where it has none.
+    pub fn perform(&mut self, alloc: Global, p: ProcId) -> Result<Option<Performed>, StepFault>
+        ensures done { IfOk result (λ o. IfSome o (λ r. performed p self.old
+            ≡ Ok (record { came = came r.came.made r.came.shown self.new; next = r.next }))) }
+        ensures none { IfOk result (λ o. IfNone o (performed p self.old ≡ Err None)) }
+        ensures same { IfOk result (λ o. IfNone o (self.new ≡ self.old)) }
         ensures fails { IfErr result (FailsBy (performed p self.old)) }
         ensures over { IfErr result (λ e. IsOver e self.old self.new) }
     {
@@ -243,6 +243,10 @@ impl Simulation {
             &mut self.queue,
             p,
         )?;
+        let Some(stepped) = stepped else {
+            self.is_broken = false;
+            return Ok(None);
+        };
         let made = stepped.made.as_slice();
         enter_all(
             d,
@@ -263,13 +267,13 @@ impl Simulation {
             stepped.next,
         )?;
         self.is_broken = false;
-        Ok(Performed {
+        Ok(Some(Performed {
             came: Came {
                 made: stepped.made,
                 shown,
             },
             next: stepped.next,
-        })
+        }))
     }
 
     /// Keeps the room of a list of changes, so that the labels that follow take no memory for theirs.

@@ -2,7 +2,6 @@ ghost use Rattle.std.specs.Prelude.{◌≡◌, ◌<◌, ◌≤◌, length, slice
 ghost use Rattle.vh_base.specs.declared.limits.TheConstants.{MOST_ENTRIES};
 ghost use Rattle.vh_design.specs.Shape.{Shape};
 ghost use Rattle.vh_proc.specs.Processes.{AllRun, queued};
-ghost use Rattle.vh_proc.specs.Steps.{has_label};
 ghost use Rattle.vh_queue.specs.Events.{no_events, eligible, without, cleared, next_region, activated_next, least_time};
 ghost use Rattle.vh_simulation.specs.Activity.{IsOpening, evaluations, stopped};
 ghost use Rattle.vh_simulation.specs.Labels.{at_next_time};
@@ -177,12 +176,5 @@ impl Simulation {
         ensures { self.new ≡ stopped self.old }
     {
         self.is_broken = true;
-    }
-
-    /// Has a process a next label?
-    pub fn has_label(&self, p: ProcId) -> bool
-        ensures { result ≡ has_label (self.now).design p (self.now).processes }
-    {
-        !self.is_broken && self.threads.has_label(self.design.design(), p)
     }
 }

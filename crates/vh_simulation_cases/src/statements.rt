@@ -250,10 +250,10 @@ impl Run {
     // A process goes on until it waits.
     fn process(&mut self, alloc: Global, p: ProcId) -> Result<(), StepFault> {
         for _ in 0..50 {
-            if !self.simulation.has_label(p) {
-                return Ok(());
-            }
             let performed = self.simulation.perform(alloc, p)?;
+            let Some(performed) = performed else {
+                return Ok(());
+            };
             let goes_on = matches!(performed.next, Next::On | Next::Shows(_));
             self.note(performed.came)?;
             if !goes_on {

@@ -99,11 +99,9 @@ impl Kernel {
             (given_by self.old)) result self.new }
     {
         let process = ProcId::new(p);
-        if !self.simulation.has_label(process) {
-            return Ok(Label::Stmt(process, None));
-        }
         match self.simulation.perform(alloc, process) {
-            Ok(performed) => {
+            Ok(None) => Ok(Label::Stmt(process, None)),
+            Ok(Some(performed)) => {
                 go_on(&mut self.control, performed.next, p)?;
                 let made = performed.came.made.as_slice();
                 pend_all(&mut self.control, self.simulation.design(), made)?;

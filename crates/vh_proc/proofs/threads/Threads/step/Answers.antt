@@ -11,7 +11,3 @@ next-requires c =
     subst (λ (d : Shape). Runs d c.in-Some.process.now.thread) (sym c.design-design.ensures)
     (runs-found c.args.d.now _ c.self.inside.all.entries c.in-Some.process.now (subst (AllRun c.args.d.now) (sym c.self.view_is) c.requires.runs)
     (sym c.get.ensures.value ∙ ap option_copied c.in-Some.is))
-
-pub returns-in_ok-stepped-in-Initial-clause-runs : goal.returns-in_ok-stepped-in-Initial-clause-runs
-returns-in_ok-stepped-in-Initial-clause-runs c =
-    c.take_out.ensures.runs c.args.d.now (subst (λ (d : Shape). AllRun d c.alone.new.self) c.design-design.ensures c.in_ok-stepped-in-Initial.ensures.runs)
