@@ -7,12 +7,21 @@ use std::rt::Clock;
 use std::time::{Duration, Instant};
 use vh_base::{Sink, SinkFault};
 
-// How many milliseconds a byte is held at most, where pieces go on coming.
+// How many milliseconds old the oldest byte held is when a look at the clock writes it out.
 const PATIENCE: u64 = 250;
 
+// Where so many bytes or more came within so many milliseconds, the clock isn't looked at with so many pieces.
+const MUCH: usize = 4_096;
+
+const HASTE: u64 = 10;
+
+const UNSEEN: u8 = 7;
+
 /// A sink that holds what it is given, up to so many bytes, and writes it out to the sink below: when there would be more, with
-/// the first piece that comes a quarter of a second after the oldest one held, and by `flush`. With no room it writes each
-/// piece at once. It tells nothing itself, since what is held when a write fails is lost.
+/// a piece that comes a quarter of a second after the oldest one held, and by `flush`. That piece is the first one that comes
+/// then. But where 4,096 bytes came within 10 milliseconds the clock is looked at with each eighth piece alone, and then it may
+/// be any of the first eight. With no room it writes each piece at once. It tells nothing itself, since what is held when a
+/// write fails is lost.
 #[derive(Drop)]
 pub struct Holding<'a, K, C> {
     sink: K,
@@ -21,6 +30,8 @@ pub struct Holding<'a, K, C> {
     held: Vec<u8>,
     // when the first piece of those that are held came
     since: Option<Instant>,
+    // with how many pieces more the clock isn't looked at
+    unseen: u8,
 }
 
 impl<'a, K: Sink, C: Clock> Holding<'a, K, C> {
@@ -35,6 +46,7 @@ impl<'a, K: Sink, C: Clock> Holding<'a, K, C> {
             room,
             held: Vec::new(alloc),
             since: None,
+            unseen: 0,
         }
     }
 
@@ -55,6 +67,7 @@ impl<'a, K: Sink, C: Clock> Holding<'a, K, C> {
         let written = write_whole(&mut self.sink, self.held.as_slice());
         self.held.clear();
         self.since = None;
+        self.unseen = 0;
         written
     }
 
@@ -121,8 +134,8 @@ impl<'a, K: Sink, C: Clock> Holding<'a, K, C> {
             && self.held.extend_from_slice(piece).is_ok()
     }
 
-    // Has the oldest of what is held been held long enough? It has where the clock can't be read; the
-    // clock isn't read where nothing is held.
+    // Has the oldest of what is held been held long enough, as far as the clock is looked at? It has where the clock can't be
+    // read; the clock isn't read where nothing is held.
     fn is_due(&mut self) -> bool
         ensures held { self.new.held.items ≡ self.old.held.items }
         ensures sink { self.new.sink ≡ self.old.sink }
@@ -131,16 +144,22 @@ impl<'a, K: Sink, C: Clock> Holding<'a, K, C> {
         if self.held.is_empty() {
             return false;
         }
+        if self.unseen > 0 {
+            self.unseen -= 1;
+            return false;
+        }
         let Ok(now) = Instant::now(self.clock) else {
             return true;
         };
-        match self.since {
-            Some(since) => now.duration_since(since) >= Duration::from_millis(PATIENCE),
-            None => {
-                self.since = Some(now);
-                false
-            }
+        let Some(since) = self.since else {
+            self.since = Some(now);
+            return false;
+        };
+        let age = now.duration_since(since);
+        if self.held.len() >= MUCH && age < Duration::from_millis(HASTE) {
+            self.unseen = UNSEEN;
         }
+        age >= Duration::from_millis(PATIENCE)
     }
 }
 

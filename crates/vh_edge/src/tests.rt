@@ -131,6 +131,44 @@ fn a_pipe_gets_what_is_held_after_a_quarter_of_a_second(rt: HostRuntime) -> Resu
 }
 
 #[test]
+fn where_much_comes_at_once_the_clock_is_looked_at_with_each_eighth_piece(
+    rt: HostRuntime,
+) -> Result<(), Fail> {
+    let stand = Stand::new(10_000);
+    let mut out = Holding::new(Output::new(&stand), &stand, rt.alloc(), 65_536);
+    let piece = [b'a'; 1000];
+    for _ in 0..4 {
+        assert_eq!(rt; out.write(&piece), Ok(1000));
+    }
+    stand.time.set(Some(9));
+    assert_eq!(rt; out.write(&piece), Ok(1000));
+    // not with the next seven
+    stand.time.set(Some(250));
+    for _ in 0..7 {
+        assert_eq!(rt; out.write(b"1234567890"), Ok(10));
+    }
+    assert_eq!(rt; stand.seen(), (0, 0));
+    assert_eq!(rt; out.write(b"1234567890"), Ok(10));
+    assert_eq!(rt; stand.seen(), (5080, 1));
+    Ok(())
+}
+
+#[test]
+fn where_little_comes_at_once_the_clock_is_looked_at_with_each_piece(
+    rt: HostRuntime,
+) -> Result<(), Fail> {
+    let stand = Stand::new(100);
+    let mut out = Holding::new(Output::new(&stand), &stand, rt.alloc(), 65_536);
+    assert_eq!(rt; out.write(b"1234567890"), Ok(10));
+    stand.time.set(Some(9));
+    assert_eq!(rt; out.write(b"1234567890"), Ok(10));
+    stand.time.set(Some(250));
+    assert_eq!(rt; out.write(b"1234567890"), Ok(10));
+    assert_eq!(rt; stand.seen(), (30, 1));
+    Ok(())
+}
+
+#[test]
 fn no_more_is_held_than_there_is_room(rt: HostRuntime) -> Result<(), Fail> {
     let stand = Stand::new(1_000_000);
     let mut out = Holding::new(Output::new(&stand), &stand, rt.alloc(), 65_536);
