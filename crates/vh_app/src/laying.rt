@@ -77,7 +77,8 @@ fn add_turn(
 // The steps of a command.
 #[cycle(lay)]
 fn lay(alloc: Global, nodes: &mut Vec<Node>, command: &Command<'_>) -> Result<(), NoMemory>
-    ensures { OnOk result (nodes.new.items ≡ with_command (command_tree command.now) nodes.old.items) }
+    ensures { OnOk result
+        (nodes.new.items ≡ with_command (command_tree command.now) nodes.old.items) }
 {
     match command {
         Command::Ask(target, order) => add(

@@ -175,7 +175,8 @@ pub fn follow_object(
     made: &mut Vec<Made>,
 ) -> Result<(), NoMemory>
     ensures contents { s.new ≡ with_follow force d.now o s.old }
-    ensures made { OnOk result (made.new.items ≡ made.old.items ++ follow_made force d.now o s.old) }
+    ensures made { OnOk result
+        (made.new.items ≡ made.old.items ++ follow_made force d.now o s.old) }
     ensures time { s.new.time ≡ s.old.time }
 {
     let Some(e) = expr_of(s, force, o) else {

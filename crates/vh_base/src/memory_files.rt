@@ -25,7 +25,13 @@ impl Model for MemoryFiles {
 
     ghost Value = { Shelf };
 
-    ghost view = { λ s. record { files = shelf_files s.files.items; failing = s.failing.items; calls = s.calls; faults = s.faults; blamed = text_or_empty s.blamed } };
+    ghost view = { λ s. record {
+      files = shelf_files s.files.items;
+      failing = s.failing.items;
+      calls = s.calls;
+      faults = s.faults;
+      blamed = text_or_empty s.blamed;
+    } };
 }
 
 impl MemoryFiles {
@@ -34,7 +40,13 @@ impl MemoryFiles {
     /// A source that holds these files, under their names; the reads of the numbers in
     /// `failing`, counted from 1, fail.
     pub fn new(files: Vec<(String, Vec<u8>)>, failing: Vec<u64>) -> MemoryFiles
-        ensures { result ≡ record { files = shelf_files files.items; failing = failing.items; calls = 0; faults = 0; blamed = [] } }
+        ensures { result ≡ record {
+          files = shelf_files files.items;
+          failing = failing.items;
+          calls = 0;
+          faults = 0;
+          blamed = [];
+        } }
     {
         MemoryFiles {
             files,
@@ -58,15 +70,18 @@ impl Files for MemoryFiles {
         ensures exact { IfOk result (λ found. read_of self.old name.now limit ≡ Some found.items) }
         ensures after { OnOk result (self.new ≡ after_read self.old) }
         ensures fails { result ≡ Err FetchFault.Failed → read_of self.old name.now limit ≡ None }
-        ensures after_failed { result ≡ Err FetchFault.Failed → self.new ≡ after_failed_read self.old name.now }
+        ensures after_failed { result ≡ Err FetchFault.Failed →
+            self.new ≡ after_failed_read self.old name.now }
         ensures after_refused { result ≡ Err FetchFault.NoMemory → self.new ≡ after_read self.old }
-        ensures bytes { IfOk result (λ found. IsAnswered (bytes_named self.old.files name.now) limit found.items) }
+        ensures bytes { IfOk result
+            (λ found. IsAnswered (bytes_named self.old.files name.now) limit found.items) }
         ensures failed { result ≡ Err FetchFault.Failed → Rose self.old.faults self.new.faults }
         ensures blame { result ≡ Err FetchFault.Failed → self.new.blamed ≡ name.now }
         ensures calm { result ≢ Err FetchFault.Failed → self.new.faults ≡ self.old.faults }
         ensures unblamed { result ≢ Err FetchFault.Failed → self.new.blamed ≡ self.old.blamed }
         ensures later { self.old.faults ≤ self.new.faults }
-        ensures same { (other : List ℕ) → bytes_named self.new.files other ≡ bytes_named self.old.files other }
+        ensures same { (other : List ℕ) →
+            bytes_named self.new.files other ≡ bytes_named self.old.files other }
     {
         self.calls = self.calls.saturating_add(1);
         let found = if self.failing.contains(&self.calls) {

@@ -21,7 +21,13 @@ pub struct MemorySink {
 impl Model for MemorySink {
     ghost Value = { Tape };
 
-    ghost view = { λ s. record { written = s.written.items; most = s.most; failing = s.failing.items; calls = s.calls; faults = s.faults } };
+    ghost view = { λ s. record {
+      written = s.written.items;
+      most = s.most;
+      failing = s.failing.items;
+      calls = s.calls;
+      faults = s.faults;
+    } };
 
     ghost invariant = { λ s. 0 < s.most };
 }
@@ -31,7 +37,14 @@ impl MemorySink {
     /// `failing`, counted from 1, fail.
     pub fn new(alloc: Global, most: usize, failing: Vec<u64>) -> Result<MemorySink, NoMemory>
         requires { 0 < most }
-        ensures made { IfOk result (λ s. s ≡ record { written = []; most = most; failing = failing.items; calls = 0; faults = 0 }) }
+        ensures made { IfOk result
+            (λ s. s ≡ record {
+              written = [];
+              most = most;
+              failing = failing.items;
+              calls = 0;
+              faults = 0;
+            }) }
         ensures always { IsOk result }
     {
         Ok(MemorySink {
@@ -61,11 +74,15 @@ impl Sink for MemorySink {
         ensures calmly { OnOk result (write_fails self.old ≡ false) }
         ensures after { OnOk result (self.new ≡ after_write self.old piece.now) }
         ensures fails { result ≡ Err SinkFault.Failed → write_fails self.old ≡ true }
-        ensures after_failed { result ≡ Err SinkFault.Failed → self.new ≡ after_failed_write self.old }
-        ensures after_refused { result ≡ Err SinkFault.NoMemory → self.new ≡ after_refused_write self.old }
+        ensures after_failed { result ≡ Err SinkFault.Failed →
+            self.new ≡ after_failed_write self.old }
+        ensures after_refused { result ≡ Err SinkFault.NoMemory →
+            self.new ≡ after_refused_write self.old }
         ensures most { IfOk result (λ taken. taken ≤ length piece.now) }
         ensures least { IfOk result (λ taken. 0 < length piece.now → 0 < taken) }
-        ensures bytes { IfOk result (λ taken. Some self.new.written ≡ appended (Some self.old.written) (take taken piece.now)) }
+        ensures bytes { IfOk result
+            (λ taken. Some self.new.written ≡
+            appended (Some self.old.written) (take taken piece.now)) }
         ensures kept { OnErr result (Some self.new.written ≡ Some self.old.written) }
         ensures failed { result ≡ Err SinkFault.Failed → Rose self.old.faults self.new.faults }
         ensures calm { result ≢ Err SinkFault.Failed → self.new.faults ≡ self.old.faults }

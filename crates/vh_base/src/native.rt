@@ -17,7 +17,8 @@ pub struct Native {
     pub promise: Promise,
     pub body: Body,
     ghost callable: { Body.IsAlwaysCallable body },
-    ghost keeps: { (s : _) (o : _) → Body.post body s o → Allows promise s.now o } by { Prim.hlevel props },
+    ghost keeps: { (s : _) (o : _) → Body.post body s o →
+        Allows promise s.now o } by { Prim.hlevel props },
 }
 
 impl Native {

@@ -38,7 +38,8 @@ pub trait Files {
     /// The first `limit + 1` bytes of the file, or all where it has no more.
     fn read(&mut self, alloc: Global, name: &str, limit: usize) -> Result<Vec<u8>, FetchFault>
         requires { limit < 2 ^ 31 }
-        ensures bytes { IfOk result (λ found. IsAnswered (holds self.old name.now) limit found.items) }
+        ensures bytes { IfOk result
+            (λ found. IsAnswered (holds self.old name.now) limit found.items) }
         ensures failed { result ≡ Err FetchFault.Failed → Rose (faults self.old) (faults self.new) }
         ensures blame { result ≡ Err FetchFault.Failed → blamed self.new ≡ name.now }
         ensures calm { result ≢ Err FetchFault.Failed → faults self.new ≡ faults self.old }
@@ -60,7 +61,8 @@ pub trait Sink {
     fn write(&mut self, piece: &[u8]) -> Result<usize, SinkFault>
         ensures most { IfOk result (λ taken. taken ≤ length piece.now) }
         ensures least { IfOk result (λ taken. 0 < length piece.now → 0 < taken) }
-        ensures bytes { IfOk result (λ taken. written self.new ≡ appended (written self.old) (take taken piece.now)) }
+        ensures bytes { IfOk result
+            (λ taken. written self.new ≡ appended (written self.old) (take taken piece.now)) }
         ensures kept { OnErr result (written self.new ≡ written self.old) }
         ensures failed { result ≡ Err SinkFault.Failed → Rose (faults self.old) (faults self.new) }
         ensures calm { result ≢ Err SinkFault.Failed → faults self.new ≡ faults self.old }

@@ -55,7 +55,8 @@ fn bind(
     e: &Expr,
 ) -> Result<Option<ExprId>, ElabFault>
     requires sound { IsSound mode.Constant (scope_seen scope.now) nodes.old.items }
-    ensures step { Steps (bound mode.Constant (scope_seen scope.now) (expr_tree e.now) nodes.old.items) result nodes.new.items }
+    ensures step { Steps (bound mode.Constant (scope_seen scope.now) (expr_tree e.now)
+        nodes.old.items) result nodes.new.items }
     ensures sound { OnOk result (IsSound mode.Constant (scope_seen scope.now) nodes.new.items) }
     ensures below { IfOk result (λ o. IfSome o (λ n. n < length nodes.new.items)) }
     ensures grows { OnOk result (length nodes.old.items ≤ length nodes.new.items) }
@@ -222,8 +223,10 @@ fn bind_system(
 ) -> Result<Option<ExprId>, ElabFault>
     requires sound { IsSound mode.Constant (scope_seen scope.now) nodes.old.items }
     ensures step { Steps
-        (system_row mode.Constant (scope_seen scope.now) id.now (exprs (map expr_tree arguments.now)) (mark_of id.now.name)
-        (sole_bound mode.Constant (scope_seen scope.now) (exprs (map expr_tree arguments.now))) nodes.old.items) result nodes.new.items }
+        (system_row mode.Constant (scope_seen scope.now) id.now
+        (exprs (map expr_tree arguments.now)) (mark_of id.now.name)
+        (sole_bound mode.Constant (scope_seen scope.now) (exprs (map expr_tree arguments.now)))
+        nodes.old.items) result nodes.new.items }
     ensures sound { OnOk result (IsSound mode.Constant (scope_seen scope.now) nodes.new.items) }
     ensures below { IfOk result (λ o. IfSome o (λ n. n < length nodes.new.items)) }
     ensures grows { OnOk result (length nodes.old.items ≤ length nodes.new.items) }
@@ -249,7 +252,8 @@ fn bind_entry(
 ) -> Result<Option<ExprId>, ElabFault>
     requires sound { IsSound mode.Constant (scope_seen scope.now) nodes.old.items }
     ensures step { Steps
-        (entry (expr_tree e.now) (bound mode.Constant (scope_seen scope.now) (expr_tree e.now)) nodes.old.items)
+        (entry (expr_tree e.now) (bound mode.Constant (scope_seen scope.now) (expr_tree e.now))
+        nodes.old.items)
         result nodes.new.items }
     ensures sound { OnOk result (IsSound mode.Constant (scope_seen scope.now) nodes.new.items) }
     ensures below { IfOk result (λ o. IfSome o (λ n. n < length nodes.new.items)) }
@@ -271,10 +275,12 @@ fn bind_entries(
 ) -> Result<Option<ExprIds>, ElabFault>
     requires sound { IsSound mode.Constant (scope_seen scope.now) nodes.old.items }
     ensures step { Steps
-        (entries_bound mode.Constant (scope_seen scope.now) (Some []) (exprs (map expr_tree parts.now)) nodes.old.items)
+        (entries_bound mode.Constant (scope_seen scope.now) (Some [])
+        (exprs (map expr_tree parts.now)) nodes.old.items)
         result nodes.new.items }
     ensures sound { OnOk result (IsSound mode.Constant (scope_seen scope.now) nodes.new.items) }
-    ensures below { IfOk result (λ o. IfSome o (λ ns. all_before (length nodes.new.items) ns ≡ true)) }
+    ensures below { IfOk result
+        (λ o. IfSome o (λ ns. all_before (length nodes.new.items) ns ≡ true)) }
     ensures grows { OnOk result (length nodes.old.items ≤ length nodes.new.items) }
 {
     let mut numbers = Some(Vec::new(alloc));
@@ -295,10 +301,12 @@ fn bind_links(
 ) -> Result<Option<ExprIds>, ElabFault>
     requires sound { IsSound mode.Constant (scope_seen scope.now) nodes.old.items }
     ensures step { Steps
-        (links_bound mode.Constant (scope_seen scope.now) (Some []) (Expressions.links (map link_tree links.now)) nodes.old.items)
+        (links_bound mode.Constant (scope_seen scope.now) (Some [])
+        (Expressions.links (map link_tree links.now)) nodes.old.items)
         result nodes.new.items }
     ensures sound { OnOk result (IsSound mode.Constant (scope_seen scope.now) nodes.new.items) }
-    ensures below { IfOk result (λ o. IfSome o (λ ns. all_before (length nodes.new.items) ns ≡ true)) }
+    ensures below { IfOk result
+        (λ o. IfSome o (λ ns. all_before (length nodes.new.items) ns ≡ true)) }
     ensures grows { OnOk result (length nodes.old.items ≤ length nodes.new.items) }
 {
     let mut numbers = Some(Vec::new(alloc));

@@ -105,7 +105,8 @@ fn object_named(exprs: &[ExprNode], range: Range, object: &ObjectInfo) -> Named
 }
 
 fn there_named(scope: &Scope, range: Range, id: ObjId) -> Named
-    ensures { result ≡ there_named (scope_seen scope.now).exprs range (slice_get (scope_seen scope.now).objects id) }
+    ensures { result ≡ there_named (scope_seen scope.now).exprs range
+        (slice_get (scope_seen scope.now).objects id) }
 {
     match scope.objects.get(id.number() as usize) {
         None => Named::Wrong(DesignFault::N1),

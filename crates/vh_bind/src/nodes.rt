@@ -117,7 +117,8 @@ pub fn push_chain(
     requires first { first < length nodes.old.items }
     requires rest { all_before (length nodes.old.items) rest.now ≡ true }
     ensures step { Steps
-        (chained mode (scope_seen scope.now) place operators.now first rest.now nodes.old.items) result nodes.new.items }
+        (chained mode (scope_seen scope.now) place operators.now first rest.now nodes.old.items)
+        result nodes.new.items }
     ensures sound { OnOk result (IsSound mode (scope_seen scope.now) nodes.new.items) }
     ensures below { IfOk result (λ o. IfSome o (λ e. e < length nodes.new.items)) }
     ensures grows { OnOk result (length nodes.old.items ≤ length nodes.new.items) }
@@ -141,7 +142,8 @@ pub fn push_join(
     requires sound { IsSound mode (scope_seen scope.now) nodes.old.items }
     requires parts { all_before (length nodes.old.items) parts.now ≡ true }
     ensures step { Steps
-        (joined mode (scope_seen scope.now) place parts.now nodes.old.items) result nodes.new.items }
+        (joined mode (scope_seen scope.now) place parts.now nodes.old.items) result
+        nodes.new.items }
     ensures sound { OnOk result (IsSound mode (scope_seen scope.now) nodes.new.items) }
     ensures below { IfOk result (λ o. IfSome o (λ e. e < length nodes.new.items)) }
     ensures grows { OnOk result (length nodes.old.items ≤ length nodes.new.items) }
@@ -174,7 +176,8 @@ pub fn push_repeat(
     requires sound { IsSound mode (scope_seen scope.now) nodes.old.items }
     requires part { part < length nodes.old.items }
     ensures step { Steps
-        (repeated mode (scope_seen scope.now) place count part nodes.old.items) result nodes.new.items }
+        (repeated mode (scope_seen scope.now) place count part nodes.old.items) result
+        nodes.new.items }
     ensures sound { OnOk result (IsSound mode (scope_seen scope.now) nodes.new.items) }
     ensures below { IfOk result (λ o. IfSome o (λ e. e < length nodes.new.items)) }
     ensures grows { OnOk result (length nodes.old.items ≤ length nodes.new.items) }
@@ -219,7 +222,8 @@ pub fn push_text(
 ) -> Result<Option<ExprId>, ElabFault>
     requires sound { IsSound mode (scope_seen scope.now) nodes.old.items }
     ensures step { Steps
-        (text_pushed mode (scope_seen scope.now) place bytes.now nodes.old.items) result nodes.new.items }
+        (text_pushed mode (scope_seen scope.now) place bytes.now nodes.old.items) result
+        nodes.new.items }
     ensures sound { OnOk result (IsSound mode (scope_seen scope.now) nodes.new.items) }
     ensures below { IfOk result (λ o. IfSome o (λ e. e < length nodes.new.items)) }
     ensures grows { OnOk result (length nodes.old.items ≤ length nodes.new.items) }

@@ -69,7 +69,8 @@ pub fn sequence(numbers: Option<Vec<ExprId>>) -> Option<ExprIds>
 
 /// The operators of a chain.
 pub fn chain_operators(alloc: Global, links: &[Link<Expr>]) -> Result<Vec<Operator>, NoMemory>
-    ensures { IfOk result (λ os. os.items ≡ operators (Expressions.links (map link_tree links.now))) }
+    ensures { IfOk result
+        (λ os. os.items ≡ operators (Expressions.links (map link_tree links.now))) }
 {
     let mut operators = Vec::new(alloc);
     for link in links {
@@ -111,7 +112,8 @@ pub fn push_marked(
     requires sound { IsSound mode (scope_seen scope.now) nodes.old.items }
     requires part { IfSome part (λ n. n < length nodes.old.items) }
     ensures step { Steps
-        (marked_pushed mode (scope_seen scope.now) place signed part nodes.old.items) result nodes.new.items }
+        (marked_pushed mode (scope_seen scope.now) place signed part nodes.old.items) result
+        nodes.new.items }
     ensures sound { OnOk result (IsSound mode (scope_seen scope.now) nodes.new.items) }
     ensures below { IfOk result (λ o. IfSome o (λ n. n < length nodes.new.items)) }
     ensures grows { OnOk result (length nodes.old.items ≤ length nodes.new.items) }
@@ -134,7 +136,8 @@ pub fn push_unary(
     requires sound { IsSound mode (scope_seen scope.now) nodes.old.items }
     requires part { IfSome part (λ n. n < length nodes.old.items) }
     ensures step { Steps
-        (unary_pushed mode (scope_seen scope.now) place sign part nodes.old.items) result nodes.new.items }
+        (unary_pushed mode (scope_seen scope.now) place sign part nodes.old.items) result
+        nodes.new.items }
     ensures sound { OnOk result (IsSound mode (scope_seen scope.now) nodes.new.items) }
     ensures below { IfOk result (λ o. IfSome o (λ n. n < length nodes.new.items)) }
     ensures grows { OnOk result (length nodes.old.items ≤ length nodes.new.items) }
@@ -163,7 +166,8 @@ pub fn push_links(
     requires first { IfSome first (λ n. n < length nodes.old.items) }
     requires rest { IfSome rest (λ ns. all_before (length nodes.old.items) ns ≡ true) }
     ensures step { Steps
-        (chain_pushed mode (scope_seen scope.now) place operators.now first rest nodes.old.items) result nodes.new.items }
+        (chain_pushed mode (scope_seen scope.now) place operators.now first rest nodes.old.items)
+        result nodes.new.items }
     ensures sound { OnOk result (IsSound mode (scope_seen scope.now) nodes.new.items) }
     ensures below { IfOk result (λ o. IfSome o (λ n. n < length nodes.new.items)) }
     ensures grows { OnOk result (length nodes.old.items ≤ length nodes.new.items) }
@@ -198,7 +202,8 @@ pub fn push_concat(
     requires sound { IsSound mode (scope_seen scope.now) nodes.old.items }
     requires parts { IfSome parts (λ ns. all_before (length nodes.old.items) ns ≡ true) }
     ensures step { Steps
-        (concat_pushed mode (scope_seen scope.now) place parts nodes.old.items) result nodes.new.items }
+        (concat_pushed mode (scope_seen scope.now) place parts nodes.old.items) result
+        nodes.new.items }
     ensures sound { OnOk result (IsSound mode (scope_seen scope.now) nodes.new.items) }
     ensures below { IfOk result (λ o. IfSome o (λ n. n < length nodes.new.items)) }
     ensures grows { OnOk result (length nodes.old.items ≤ length nodes.new.items) }
@@ -221,7 +226,8 @@ pub fn push_times(
     requires sound { IsSound mode (scope_seen scope.now) nodes.old.items }
     requires part { IfSome part (λ n. n < length nodes.old.items) }
     ensures step { Steps
-        (times_pushed mode (scope_seen scope.now) place count part nodes.old.items) result nodes.new.items }
+        (times_pushed mode (scope_seen scope.now) place count part nodes.old.items) result
+        nodes.new.items }
     ensures sound { OnOk result (IsSound mode (scope_seen scope.now) nodes.new.items) }
     ensures below { IfOk result (λ o. IfSome o (λ n. n < length nodes.new.items)) }
     ensures grows { OnOk result (length nodes.old.items ≤ length nodes.new.items) }
@@ -250,7 +256,8 @@ pub fn push_choice(
     requires yes { IfSome yes (λ n. n < length nodes.old.items) }
     requires no { IfSome no (λ n. n < length nodes.old.items) }
     ensures step { Steps
-        (choice_pushed mode (scope_seen scope.now) place condition yes no nodes.old.items) result nodes.new.items }
+        (choice_pushed mode (scope_seen scope.now) place condition yes no nodes.old.items) result
+        nodes.new.items }
     ensures sound { OnOk result (IsSound mode (scope_seen scope.now) nodes.new.items) }
     ensures below { IfOk result (λ o. IfSome o (λ n. n < length nodes.new.items)) }
     ensures grows { OnOk result (length nodes.old.items ≤ length nodes.new.items) }

@@ -62,7 +62,8 @@ fn part_meant(
     part: &Step<Expr>,
 ) -> Result<Option<Meaning>, ElabFault>
     ensures { Gives
-        (part_meant (scope_seen scope.now) place declaration part.now.id.name (index_by expr_tree part.now.index))
+        (part_meant (scope_seen scope.now) place declaration part.now.id.name
+        (index_by expr_tree part.now.index))
         result }
 {
     let Some(declaration) = declaration else {
@@ -84,7 +85,8 @@ fn part_meant(
 // A path, from its first part on.
 fn path_meant(alloc: Global, scope: &Scope, name: &Name<Expr>) -> Result<Option<Meaning>, ElabFault>
     ensures { Gives
-        (path_meant (scope_seen scope.now) name.now.first.id (index_by expr_tree name.now.first.index)
+        (path_meant (scope_seen scope.now) name.now.first.id
+        (index_by expr_tree name.now.first.index)
         (steps (map (step_by expr_tree) name.now.more))) result }
 {
     let place = name.first.id.place;

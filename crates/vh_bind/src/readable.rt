@@ -68,7 +68,8 @@ fn object_read(exprs: &[ExprNode], id: ObjId, range: Range, object: &ObjectInfo)
 }
 
 fn there_read(scope: &Scope, id: ObjId, range: Range) -> Readable
-    ensures { result ≡ there_read (scope_seen scope.now).exprs id range (slice_get (scope_seen scope.now).objects id) }
+    ensures { result ≡ there_read (scope_seen scope.now).exprs id range
+        (slice_get (scope_seen scope.now).objects id) }
 {
     match scope.objects.get(id.number() as usize) {
         None => Readable::Wrong,

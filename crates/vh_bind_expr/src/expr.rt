@@ -416,7 +416,8 @@ fn bind_beside(
 ) -> Result<Option<ExprIds>, ElabFault>
     requires sound { IsSound mode.Value (scope_seen scope.now) nodes.old.items }
     requires unit { is_unit (scope_seen scope.now).precision (scope_seen scope.now).unit ≡ true }
-    ensures step { let s = scope_seen scope.now in let es = exprs (map expr_tree values.now) in Steps
+    ensures step { let s = scope_seen scope.now in let es = exprs (map expr_tree values.now) in
+        Steps
         (beside (given_bound s directions.now 0 (Some []) es)
         (taken_bound s directions.now 0 (Some []) es) nodes.old.items) result nodes.new.items }
     ensures sound { OnOk result (IsSound mode.Value (scope_seen scope.now) nodes.new.items) }
@@ -581,7 +582,8 @@ fn bind_targets(
     requires unit { is_unit (scope_seen scope.now).precision (scope_seen scope.now).unit ≡ true }
     requires parts { all_before (length nodes.old.items) parts.old.items ≡ true }
     ensures step { StepsOn
-        (targets_pieces (scope_seen scope.now) parts.old.items (exprs (map expr_tree entries.now)) nodes.old.items)
+        (targets_pieces (scope_seen scope.now) parts.old.items (exprs (map expr_tree entries.now))
+        nodes.old.items)
         result parts.new.items nodes.new.items }
     ensures sound { OnOk result (IsSound mode.Value (scope_seen scope.now) nodes.new.items) }
     ensures below { OnOk result (all_before (length nodes.new.items) parts.new.items ≡ true) }
@@ -608,7 +610,8 @@ fn bind_variable(
     requires sound { IsSound mode.Value (scope_seen scope.now) nodes.old.items }
     requires unit { is_unit (scope_seen scope.now).precision (scope_seen scope.now).unit ≡ true }
     ensures step { Steps
-        (variable_bound (scope_seen scope.now) place (name_tree name.now) (sel_tree sel.now) nodes.old.items)
+        (variable_bound (scope_seen scope.now) place (name_tree name.now) (sel_tree sel.now)
+        nodes.old.items)
         result nodes.new.items }
     ensures sound { OnOk result (IsSound mode.Value (scope_seen scope.now) nodes.new.items) }
     ensures below { IfOk result (λ o. IfSome o (λ n. n < length nodes.new.items)) }

@@ -120,7 +120,8 @@ fn called(
     function: Option<Function>,
 ) -> Result<Option<Function>, ElabFault>
     ensures { Gives
-        (called (scope_seen scope.now) place (count_of (exprs (map expr_tree arguments.now))) function) result }
+        (called (scope_seen scope.now) place (count_of (exprs (map expr_tree arguments.now)))
+        function) result }
 {
     let Some(function) = function else {
         return Err(ElabFault::Refused(DesignFault::N1, place));

@@ -180,9 +180,11 @@ pub(crate) fn push_begin(
     requires function { IsFunction (scope_seen scope.now).objects function.now }
     requires given { IfSome given (λ ns. all_before (length nodes.old.items) ns ≡ true) }
     ensures step { Steps
-        (begun (scope_seen scope.now) place function.now given nodes.old.items) result nodes.new.items }
+        (begun (scope_seen scope.now) place function.now given nodes.old.items) result
+        nodes.new.items }
     ensures sound { OnOk result (IsSound mode.Value (scope_seen scope.now) nodes.new.items) }
-    ensures below { IfOk result (λ o. IfSome o (λ ns. all_before (length nodes.new.items) ns ≡ true)) }
+    ensures below { IfOk result
+        (λ o. IfSome o (λ ns. all_before (length nodes.new.items) ns ≡ true)) }
     ensures grows { OnOk result (length nodes.old.items ≤ length nodes.new.items) }
 {
     let arguments = copied(alloc, &given)?;

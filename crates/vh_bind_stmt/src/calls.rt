@@ -407,7 +407,8 @@ fn add_read(terms: &mut Vec<Term>, object: Option<ObjId>) -> Result<(), NoMemory
 
 // What an expression reads, if it is there.
 fn add_reads_there(terms: &mut Vec<Term>, node: Option<&ExprNode>) -> Result<(), NoMemory>
-    ensures { OnOk result (terms.new.items ≡ terms.old.items ++ reads_at (option_copied node.entry)) }
+    ensures { OnOk result
+        (terms.new.items ≡ terms.old.items ++ reads_at (option_copied node.entry)) }
 {
     match node {
         None => Ok(()),

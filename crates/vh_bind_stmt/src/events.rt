@@ -304,7 +304,8 @@ fn never(
     sel: &Option<Boxed<Sel<Expr>>>,
 ) -> Result<Option<Terms>, ElabFault>
     ensures { Gives
-        (never (sel_terms (scope_seen here.now) place of.object of.width of.edge range (sel_tree sel.now)))
+        (never (sel_terms (scope_seen here.now) place of.object of.width of.edge range
+        (sel_tree sel.now)))
         result }
 {
     match sel_terms(alloc, here, place, of, range, sel)? {
@@ -417,7 +418,8 @@ pub fn name_terms(
     sel: &Option<Boxed<Sel<Expr>>>,
 ) -> Result<Option<Terms>, ElabFault>
     ensures { Gives
-        (name_terms (scope_seen here.now) place word (name_tree name.now) (sel_tree sel.now)) result }
+        (name_terms (scope_seen here.now) place word (name_tree name.now) (sel_tree sel.now))
+        result }
 {
     let start = name.first.id.place;
     let meaning = meaning(alloc, here, name, false)?;

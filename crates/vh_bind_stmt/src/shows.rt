@@ -293,7 +293,8 @@ fn bind_argument(
     requires sound { IsSound mode.Value (scope_seen scope.now) nodes.old.items }
     requires unit { is_unit (scope_seen scope.now).precision (scope_seen scope.now).unit ≡ true }
     ensures step { StepsOn
-        (argument_bound (scope_seen scope.now) all.old.items wanted (option_map expr_tree argument.now)
+        (argument_bound (scope_seen scope.now) all.old.items wanted
+        (option_map expr_tree argument.now)
         nodes.old.items)
         result all.new.items nodes.new.items }
     ensures sound { OnOk result (IsSound mode.Value (scope_seen scope.now) nodes.new.items) }

@@ -103,7 +103,8 @@ fn vector_target(
     requires sound { IsSound mode.Value (scope_seen scope.now) nodes.old.items }
     requires unit { is_unit (scope_seen scope.now).precision (scope_seen scope.now).unit ≡ true }
     ensures step { StepsOn
-        (vector_target (scope_seen scope.now) targets.old.items place object range (sel_tree sel.now) nodes.old.items)
+        (vector_target (scope_seen scope.now) targets.old.items place object range
+        (sel_tree sel.now) nodes.old.items)
         result targets.new.items nodes.new.items }
     ensures sound { OnOk result (IsSound mode.Value (scope_seen scope.now) nodes.new.items) }
 {
@@ -138,7 +139,8 @@ fn memory_target(
     requires sound { IsSound mode.Value (scope_seen scope.now) nodes.old.items }
     requires unit { is_unit (scope_seen scope.now).precision (scope_seen scope.now).unit ≡ true }
     ensures step { StepsOn
-        (memory_target (scope_seen scope.now) targets.old.items place object range (sel_tree sel.now) nodes.old.items)
+        (memory_target (scope_seen scope.now) targets.old.items place object range
+        (sel_tree sel.now) nodes.old.items)
         result targets.new.items nodes.new.items }
     ensures sound { OnOk result (IsSound mode.Value (scope_seen scope.now) nodes.new.items) }
 {
@@ -204,7 +206,8 @@ fn bind_piece(
     requires sound { IsSound mode.Value (scope_seen scope.now) nodes.old.items }
     requires unit { is_unit (scope_seen scope.now).precision (scope_seen scope.now).unit ≡ true }
     ensures step { StepsOn
-        (piece_bound (scope_seen scope.now) targets.old.items (lv_part_tree piece.now) nodes.old.items)
+        (piece_bound (scope_seen scope.now) targets.old.items (lv_part_tree piece.now)
+        nodes.old.items)
         result targets.new.items nodes.new.items }
     ensures sound { OnOk result (IsSound mode.Value (scope_seen scope.now) nodes.new.items) }
 {

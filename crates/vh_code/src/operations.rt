@@ -217,7 +217,8 @@ pub(crate) fn fits_operation(
     places: usize,
     operation: &Operation,
 ) -> bool
-    ensures { result ≡ fits_operation objects.now exprs.now drivers.now limits places operation.now }
+    ensures { result ≡ fits_operation objects.now exprs.now drivers.now limits places
+        operation.now }
 {
     let count = exprs.len();
     match operation {

@@ -70,7 +70,8 @@ fn keep_block(
     declared: Declared,
     genvars: &mut Genvars,
 ) -> Result<(), NoMemory>
-    ensures { OnOk result (genvars.new ≡ block_kept number (declared_seen declared.entry) genvars.old) }
+    ensures { OnOk result
+        (genvars.new ≡ block_kept number (declared_seen declared.entry) genvars.old) }
 {
     match declared {
         Declared::GenBlock(_, Some(genvar)) => {

@@ -66,7 +66,8 @@ fn alone_in(d: &Design, s: &Store, e: ExprId) -> Vec4
 #[cycle(eval)]
 fn truth_in(d: &Design, s: &Store, e: ExprId) -> Digit
     requires known { e < length (d.now).exprs }
-    ensures { (k : ℕ) → e < k → result ≡ truth_of (alone (value_below k d.now s.now) (d.now).exprs e) }
+    ensures { (k : ℕ) → e < k →
+        result ≡ truth_of (alone (value_below k d.now s.now) (d.now).exprs e) }
 {
     truth(&alone_in(d, s, e))
 }
@@ -157,7 +158,8 @@ fn selected_in(d: &Design, s: &Store, e: ExprId, x: &Selected) -> Vec4
 fn arithmetic_in(d: &Design, s: &Store, e: ExprId, v: Vec4, rest: &[Link<Arithmetic>]) -> Vec4
     requires known { e < length (d.now).exprs }
     requires parts { AreReady (d.now).exprs e (digits_in v) (operands rest.now) }
-    ensures value { result ≡ arithmetic_chain (value_below e d.now s.now) (digits_in v) v.signed v rest.now }
+    ensures value { result ≡ arithmetic_chain (value_below e d.now s.now) (digits_in v) v.signed v
+        rest.now }
     ensures width { digits_in result ≡ digits_in v }
     ensures signed { result.signed ≡ v.signed }
 {
@@ -320,8 +322,10 @@ fn choice_in(
     requires wide_first { width_of (d.now).exprs branches.0 ≤ width }
     requires wide_second { width_of (d.now).exprs branches.1 ≤ width }
     requires small { width ≤ MAX_WIDTH }
-    ensures value { result ≡ choice_of (truth_of (alone (value_below e d.now s.now) (d.now).exprs condition))
-        (value_below e d.now s.now branches.0 width signed) (value_below e d.now s.now branches.1 width signed) }
+    ensures value { result ≡ choice_of
+        (truth_of (alone (value_below e d.now s.now) (d.now).exprs condition))
+        (value_below e d.now s.now branches.0 width signed)
+        (value_below e d.now s.now branches.1 width signed) }
     ensures width { digits_in result ≡ width }
     ensures signed { result.signed ≡ signed }
 {
@@ -340,7 +344,8 @@ fn composed_in(d: &Design, s: &Store, e: ExprId, kind: &ExprKind, width: u32, si
     requires least { 1 ≤ kind_width (d.now).exprs (d.now).objects kind.now }
     requires wide { kind_width (d.now).exprs (d.now).objects kind.now ≤ width }
     requires small { width ≤ MAX_WIDTH }
-    ensures value { result ≡ kind_value (value_below e d.now s.now) d.now s.now e kind.now width signed }
+    ensures value { result ≡ kind_value (value_below e d.now s.now) d.now s.now e kind.now width
+        signed }
     ensures width { digits_in result ≡ width }
     ensures signed { result.signed ≡ signed }
 {
@@ -379,7 +384,8 @@ fn kind_in(d: &Design, s: &Store, e: ExprId, kind: &ExprKind, width: u32, signed
     requires least { 1 ≤ kind_width (d.now).exprs (d.now).objects kind.now }
     requires wide { kind_width (d.now).exprs (d.now).objects kind.now ≤ width }
     requires small { width ≤ MAX_WIDTH }
-    ensures value { result ≡ kind_value (value_below e d.now s.now) d.now s.now e kind.now width signed }
+    ensures value { result ≡ kind_value (value_below e d.now s.now) d.now s.now e kind.now width
+        signed }
     ensures width { digits_in result ≡ width }
     ensures signed { result.signed ≡ signed }
 {

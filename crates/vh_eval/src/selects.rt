@@ -87,7 +87,10 @@ fn unknown(width: u32) -> Vec4
 fn digits_above(v: &Vec4, place: u128, width: u32) -> Vec4
     requires least { 1 ≤ width }
     requires most { width ≤ MAX_WIDTH }
-    ensures value { result ≡ record { digits = digits_above (v.now).digits place width; signed = false } }
+    ensures value { result ≡ record {
+      digits = digits_above (v.now).digits place width;
+      signed = false;
+    } }
     ensures width { width_of result ≡ width }
 {
     if place >= u128::from(v.width()) {
@@ -106,7 +109,10 @@ fn digits_below(v: &Vec4, distance: u128, width: u32) -> Vec4
     requires some { 1 ≤ distance }
     requires least { 1 ≤ width }
     requires most { width ≤ MAX_WIDTH }
-    ensures value { result ≡ record { digits = digits_below (v.now).digits distance width; signed = false } }
+    ensures value { result ≡ record {
+      digits = digits_below (v.now).digits distance width;
+      signed = false;
+    } }
     ensures width { width_of result ≡ width }
 {
     if distance >= u128::from(width) {
@@ -120,7 +126,10 @@ fn digits_below(v: &Vec4, distance: u128, width: u32) -> Vec4
 fn digits_from(v: &Vec4, place: i128, width: u32) -> Vec4
     requires least { 1 ≤ width }
     requires most { width ≤ MAX_WIDTH }
-    ensures value { result ≡ record { digits = digits_from (v.now).digits place width; signed = false } }
+    ensures value { result ≡ record {
+      digits = digits_from (v.now).digits place width;
+      signed = false;
+    } }
     ensures width { width_of result ≡ width }
 {
     let distance = place.unsigned_abs();
@@ -149,7 +158,11 @@ pub fn selected(v: &Vec4, range: Range, up: bool, index: &Vec4, width: u32) -> V
 pub fn sliced(v: &Vec4, range: Range, lowest: u32, width: u32) -> Vec4
     requires least { 1 ≤ width }
     requires most { width ≤ MAX_WIDTH }
-    ensures value { result ≡ record { digits = digits_from (v.now).digits (place_of range (pos lowest)) width; signed = false } }
+    ensures value { result ≡ record {
+      digits = digits_from (v.now).digits
+          (place_of range (pos lowest)) width;
+      signed = false;
+    } }
     ensures width { width_of result ≡ width }
 {
     digits_from(v, place_of(range, i128::from(lowest)), width)

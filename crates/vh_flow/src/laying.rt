@@ -64,7 +64,8 @@ fn arms_from(
     after: Goes,
     items: &[CaseItem<Flow>],
 ) -> Result<Arms, NoMemory>
-    ensures { IfOk result (λ arms. arms ≡ arms_from first after (case_items (map item_tree items.now))) }
+    ensures { IfOk result
+        (λ arms. arms ≡ arms_from first after (case_items (map item_tree items.now))) }
 {
     let mut arms = Vec::new(alloc);
     let mut place = first;
@@ -105,7 +106,8 @@ fn add_arms(arms: &mut Vec<Arm>, to: Goes, labels: &[ExprId]) -> Result<(), NoMe
 
 // Where the branches of a `fork` begin.
 fn branches_from(alloc: Global, first: u32, flows: &[Flow]) -> Result<Places, NoMemory>
-    ensures { IfOk result (λ places. places ≡ branches_from first (Trees.flows (map flow_tree flows.now))) }
+    ensures { IfOk result
+        (λ places. places ≡ branches_from first (Trees.flows (map flow_tree flows.now))) }
 {
     let mut places = Vec::new(alloc);
     let mut place = first;
@@ -291,7 +293,8 @@ fn lay_items(
 #[cycle(lay)]
 fn lay_branches(alloc: Global, so: &mut Laid, flows: &[Flow]) -> Result<(), NoMemory>
     ensures { OnOk result
-        (laid_seen so.new ≡ branches_laid (Trees.flows (map flow_tree flows.now)) (laid_seen so.old)) }
+        (laid_seen so.new ≡
+        branches_laid (Trees.flows (map flow_tree flows.now)) (laid_seen so.old)) }
 {
     for flow in flows {
         let place = place_in(so)?;

@@ -53,7 +53,8 @@ pub(crate) fn add_label(
     inner: Option<u32>,
 ) -> Result<(), NoMemory>
     ensures { OnOk result
-        (laid_seen so.new ≡ with_instruction (label_of operation mark next inner) (laid_seen so.old)) }
+        (laid_seen so.new ≡
+        with_instruction (label_of operation mark next inner) (laid_seen so.old)) }
 {
     so.instructions.push(Instruction {
         operation,

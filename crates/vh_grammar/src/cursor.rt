@@ -101,7 +101,8 @@ impl<'t, T: Token> Cursor<'t, T> {
 
     /// Why a parser stops at the next token, which could not stand there, or at the end.
     pub fn lost(self) -> Stop
-        ensures { Stops (refused {A = Unit {0}} T.word lost (map T.seen self.entry.tokens.now) self.entry.mark) result }
+        ensures { Stops (refused {A = Unit {0}} T.word lost (map T.seen self.entry.tokens.now)
+            self.entry.mark) result }
     {
         let shown = match self.tokens {
             [] => false,
@@ -117,7 +118,9 @@ impl<'t, T: Token> Cursor<'t, T> {
 
     /// The cursor behind a token of the class.
     pub fn take(self, class: T::Class) -> Result<Cursor<'t, T>, Stop>
-        ensures { Passes T.seen tt (marked_token T.word (only_means (T.has class)) (map T.seen self.entry.tokens.now) self.entry.mark) result }
+        ensures { Passes T.seen tt
+            (marked_token T.word (only_means (T.has class)) (map T.seen self.entry.tokens.now)
+            self.entry.mark) result }
     {
         match self.tokens {
             [first, rest @ ..] if first.is(class) => Ok(self.before(rest)),
@@ -127,7 +130,8 @@ impl<'t, T: Token> Cursor<'t, T> {
 
     /// Why a parser stops where no level is left.
     pub fn past(self) -> Stop
-        ensures { Stops (marked_past {A = Unit {0}} T.word (map T.seen self.entry.tokens.now) self.entry.mark) result }
+        ensures { Stops (marked_past {A = Unit {0}} T.word (map T.seen self.entry.tokens.now)
+            self.entry.mark) result }
     {
         let Some(first) = self.tokens.first() else {
             return self.lost();

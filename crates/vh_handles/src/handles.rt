@@ -132,7 +132,8 @@ impl Handles {
     pub fn open_handle(&mut self, _alloc: Global, thing: Thing) -> Result<HandleNo, OpenFault>
         ensures room { IfOk result (λ h. no_handle_more (handles_of self.old) ≡ false) }
         ensures number { IfOk result (λ h. h ≡ (self.old).next) }
-        ensures opens { IfOk result (λ h. handles_of self.new ≡ opened h thing (handles_of self.old)) }
+        ensures opens { IfOk result
+            (λ h. handles_of self.new ≡ opened h thing (handles_of self.old)) }
         // Full handles refuse, and no others but where memory is refused.
         ensures err { IfErr result (HasCause (no_handle_more (handles_of self.old))) }
         ensures kept { OnErr result (handles_of self.new ≡ handles_of self.old) }
@@ -161,7 +162,8 @@ impl Handles {
     /// An iterator goes past its next object. Did it? Not where it is past all, and not where the
     /// handle names no iterator or isn't live.
     pub fn advance_iterator(&mut self, h: HandleNo) -> bool
-        ensures answer { result ≡ is_some (option_and_then past_next (thing_at h (handles_of self.old))) }
+        ensures answer { result ≡ is_some
+            (option_and_then past_next (thing_at h (handles_of self.old))) }
         ensures advances { handles_of self.new ≡ advanced h (handles_of self.old) }
     {
         let Some(thing) = self.thing(h) else {
@@ -177,7 +179,8 @@ impl Handles {
 
 // Puts a thing under a number.
 fn put(live: &mut BTreeMap<u64, Thing, Global>, number: u64, thing: Thing) -> Result<(), Thing>
-    ensures put { OnOk result (live.new.entries ≡ insert_entry nat_cmp live.old.entries number thing) }
+    ensures put { OnOk result
+        (live.new.entries ≡ insert_entry nat_cmp live.old.entries number thing) }
     ensures kept { OnErr result (live.new.entries ≡ live.old.entries) }
 {
     match live.insert(number, thing) {

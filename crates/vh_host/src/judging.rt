@@ -106,7 +106,8 @@ pub fn judge(alloc: Global, files: &[TextFile<'_>]) -> Result<(Design, Vec<Scrip
 fn scripts_of(alloc: Global, files: &[TextFile<'_>]) -> Result<Vec<Script>, Refusal>
     requires few { length files.now ≤ 8 }
     requires short { first_too_long 1 (files_seen files.now) ≡ None }
-    ensures read { IfOk result (λ scripts. scripts_of 1 [] (files_seen files.now) ≡ Ok scripts.items) }
+    ensures read { IfOk result (λ scripts. scripts_of 1 [] (files_seen files.now) ≡
+        Ok scripts.items) }
     ensures few { IfOk result (λ scripts. length scripts.items ≤ 8) }
     ensures refused { IfErr result
         (λ refusal. RefusesScript refusal (scripts_of 1 [] (files_seen files.now))) }

@@ -60,7 +60,8 @@ fn line_with(alloc: Global, before: &str, words: &[String], n: u32) -> Result<St
 fn line_of_design(alloc: Global, fault: &str, place: &Place) -> Result<String, AllocError>
     ensures { IfOk result (λ text. string_bytes text
         ≡ codes "design refused: " ++ fault.now ++ codes " at "
-        ++ decimal place.now.file ++ codes ":" ++ decimal place.now.line ++ codes ":" ++ decimal place.now.column) }
+        ++ decimal place.now.file ++ codes ":" ++ decimal place.now.line ++ codes ":" ++ decimal
+        place.now.column) }
 {
     let file = place.file;
     let line = place.line;

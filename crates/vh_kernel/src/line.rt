@@ -70,7 +70,8 @@ fn push_do(
 ) -> Result<(), AllocError>
     ensures { OnOk result (string_bytes line.new ≡ string_bytes line.old
         ++ decimal time ++ 32 ∷
-        (codes "do " ++ who_text who ++ 32 ∷ order_text order.now ++ codes " => " ++ answer_text answer.now) ++ 10 ∷ []) }
+        (codes "do " ++ who_text who ++ 32 ∷ order_text order.now ++ codes " => " ++ answer_text
+        answer.now) ++ 10 ∷ []) }
 {
     push_front(line, time, "do")?;
     push_who(line, who)?;
@@ -106,7 +107,9 @@ fn push_occurrence(
     object: Option<Object>,
 ) -> Result<(), AllocError>
     ensures { OnOk result (string_bytes line.new ≡ string_bytes line.old
-        ++ stamped (codes "occ " ++ decimal n ++ 32 ∷ reason_text reason ++ 32 ∷ object_text object (state_of k.now)) (state_of k.now)) }
+        ++ stamped
+        (codes "occ " ++ decimal n ++ 32 ∷ reason_text reason ++ 32 ∷ object_text object
+        (state_of k.now)) (state_of k.now)) }
 {
     push_told(line, k.time(), n, reason)?;
     push_object(line, k, object)?;
@@ -153,7 +156,8 @@ fn push_address(line: &mut String, address: u32) -> Result<(), AllocError>
 // The line of a callback that fires.
 fn push_fire(line: &mut String, time: u64, n: u64, c: u64) -> Result<(), AllocError>
     ensures { OnOk result (string_bytes line.new ≡ string_bytes line.old
-        ++ decimal time ++ 32 ∷ (codes "fire " ++ decimal n ++ codes " c" ++ decimal c) ++ 10 ∷ []) }
+        ++ decimal time ++ 32 ∷ (codes "fire " ++ decimal n ++ codes " c" ++ decimal c) ++ 10 ∷
+        []) }
 {
     push_front(line, time, "fire")?;
     push_number(line, n)?;

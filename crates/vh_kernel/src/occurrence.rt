@@ -38,7 +38,13 @@ impl Model for Occurrence {
 
     ghost Value = { Occurring };
 
-    ghost view = { λ o. record { reason = o.reason; object = o.object; value = text_left o.value; index = o.index; only = None } };
+    ghost view = { λ o. record {
+      reason = o.reason;
+      object = o.object;
+      value = text_left o.value;
+      index = o.index;
+      only = None;
+    } };
 }
 
 impl Occurrence {

@@ -99,7 +99,8 @@ impl Reader {
     ) -> Result<usize, Stop>
         requires total { at + length bytes.now ≤ usize.MAX }
         requires inside { named.len ≤ length bytes.now }
-        ensures { Went (Directives.define_name at (named_seen named.entry) bytes.now self.old) result self.new }
+        ensures { Went (Directives.define_name at (named_seen named.entry) bytes.now self.old)
+            result self.new }
     {
         let behind = after(named.len, bytes);
         if is_directive(named.name) {

@@ -32,7 +32,8 @@ pub(crate) fn expand<'a>(
     text: &'a [Part],
     made: &mut Output,
 ) -> Result<(), Halt>
-    ensures { Makes (expanded most_levels (around_seen around.now) text.now made.old) result made.new }
+    ensures { Makes (expanded most_levels (around_seen around.now) text.now made.old) result
+        made.new }
 {
     let mut frames: Vec<&'a [Part]> = Vec::new(alloc);
     let mut next = text;
@@ -61,7 +62,8 @@ fn read_on<'a>(
     made: &mut Output,
 ) -> Result<Option<&'a [Part]>, Halt>
     requires { length frames.old.items ≤ 64 }
-    ensures paused { Pauses (around_seen around.now) (frames_seen frames.old.items) made.old result (frames_seen frames.new.items) made.new }
+    ensures paused { Pauses (around_seen around.now) (frames_seen frames.old.items) made.old result
+        (frames_seen frames.new.items) made.new }
     ensures within { length frames.new.items ≤ length frames.old.items }
     ensures uses { made.new.uses ≡ made.old.uses }
 {

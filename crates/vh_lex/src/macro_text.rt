@@ -34,7 +34,8 @@ pub(crate) fn macro_text(
     made: &mut Output,
     bytes: &[u8],
 ) -> Result<(Sequence<Part>, usize), NoMemory>
-    ensures parts { IfOk result (λ found. found.0 ≡ MacroTexts.parts_of (MacroTexts.macro_text bytes.now)) }
+    ensures parts { IfOk result
+        (λ found. found.0 ≡ MacroTexts.parts_of (MacroTexts.macro_text bytes.now)) }
     ensures len { IfOk result (λ found. found.1 ≡ MacroTexts.macro_len bytes.now) }
     ensures inside { IfOk result (λ found. found.1 ≤ length bytes.now) }
     ensures kept { made.new ≡ made.old }

@@ -65,7 +65,8 @@ fn simple_name(bytes: &[u8]) -> Named<'_>
 // The escaped name whose bytes behind the backslash these are.
 fn escaped_name(bytes: &[u8]) -> Option<Named<'_>>
     requires { length bytes.now < usize.MAX }
-    ensures value { option_map named_seen result ≡ Front.escaped_name (prefix_len is_graphic bytes.now) bytes.now }
+    ensures value { option_map named_seen result ≡ Front.escaped_name
+        (prefix_len is_graphic bytes.now) bytes.now }
     ensures inside { IfSome result (λ named. named.len ≤ length bytes.now + 1) }
 {
     let len = run_len(Class::Graphic, bytes);

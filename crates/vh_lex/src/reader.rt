@@ -130,7 +130,8 @@ impl Reader {
     // Reads the piece that the bytes begin with.
     #[inline(never)]
     fn piece(&mut self, alloc: Global, bytes: &[u8]) -> Result<usize, Stop>
-        ensures { Went (Spelling.piece_read (Front.front bytes.now) bytes.now self.old) result self.new }
+        ensures { Went (Spelling.piece_read (Front.front bytes.now) bytes.now self.old) result
+            self.new }
     {
         match front(alloc, &mut self.made, bytes)? {
             Piece::Blank(len) => Ok(len),
@@ -141,7 +142,8 @@ impl Reader {
 
     // Reads a keyword or a name.
     fn word(&mut self, alloc: Global, bytes: &[u8]) -> Result<usize, Stop>
-        ensures { Went (Spelling.piece_read (Front.word_at bytes.now) bytes.now self.old) result self.new }
+        ensures { Went (Spelling.piece_read (Front.word_at bytes.now) bytes.now self.old) result
+            self.new }
     {
         let word = &bytes[..run_len(Class::Name, bytes)];
         if word == b"module".as_slice() {
@@ -187,7 +189,8 @@ impl Reader {
         behind: &[u8],
     ) -> Result<usize, Stop>
         requires { len + length behind.now ≤ usize.MAX }
-        ensures { Went (Spelling.name_read directive name.now len behind.now self.old) result self.new }
+        ensures { Went (Spelling.name_read directive name.now len behind.now self.old) result
+            self.new }
     {
         match directive {
             Some(directive) => self.directed(alloc, directive, len, behind),
@@ -197,7 +200,9 @@ impl Reader {
 
     // The use of a macro.
     fn used(&mut self, alloc: Global, name: &[u8]) -> Result<(), Halt>
-        ensures { Leaves (Spelling.used (Spelling.expanded Spelling.most_levels (Spelling.around_of self.old)) (Spelling.around_of self.old) name.now self.old.made) result self.old self.new }
+        ensures { Leaves (Spelling.used
+            (Spelling.expanded Spelling.most_levels (Spelling.around_of self.old))
+            (Spelling.around_of self.old) name.now self.old.made) result self.old self.new }
     {
         let around = Around {
             macros: &self.macros,
@@ -230,7 +235,8 @@ impl Reader {
     // A name behind a backquote in skipped text.
     fn use_skipped(&mut self, bytes: &[u8]) -> Result<usize, Stop>
         requires { 1 ≤ length bytes.now }
-        ensures { Went (Spelling.use_skipped (Front.word_name (drop 1 bytes.now)) bytes.now self.old) result self.new }
+        ensures { Went (Spelling.use_skipped (Front.word_name (drop 1 bytes.now)) bytes.now
+            self.old) result self.new }
     {
         let Some(named) = word_name(after(1, bytes)) else {
             return Ok(1);

@@ -61,7 +61,8 @@ fn text_len(bytes: &[u8]) -> Option<usize>
 
 // The bytes after the escapes, up to the first backslash that begins none, and where that stands.
 fn decoded(alloc: Global, text: &[u8]) -> Result<(Bytes, Option<usize>), NoMemory>
-    ensures value { IfOk result (λ found. record { bytes = found.0; wrong = found.1 } ≡ Texts.decoded text.now) }
+    ensures value { IfOk result (λ found. record { bytes = found.0; wrong = found.1 } ≡
+        Texts.decoded text.now) }
     ensures inside { IfOk result (λ found. IfSome found.1 (λ at. at < length text.now)) }
 {
     let mut bytes = Vec::new(alloc);

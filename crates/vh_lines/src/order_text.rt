@@ -76,7 +76,8 @@ pub fn push_order(line: &mut String, order: &Order) -> Result<(), AllocError>
 
 /// Adds an answer as a line shows it.
 pub fn push_answer(line: &mut String, answer: &Answer) -> Result<(), AllocError>
-    ensures { OnOk result (string_bytes line.new ≡ string_bytes line.old ++ answer_text answer.now) }
+    ensures { OnOk result
+        (string_bytes line.new ≡ string_bytes line.old ++ answer_text answer.now) }
 {
     match answer {
         Answer::Done => line.push_str("ok"),
@@ -112,7 +113,10 @@ pub fn push_number(line: &mut String, n: u64) -> Result<(), AllocError>
 
 // Adds `by_name` and its arguments.
 fn push_by_name(line: &mut String, text: &Short, scope: Option<HandleNo>) -> Result<(), AllocError>
-    ensures { OnOk result (string_bytes line.new ≡ string_bytes line.old ++ spaced (routine_text Routine.ByName) (quoted text.now ∷ handle_text scope ∷ [])) }
+    ensures { OnOk result
+        (string_bytes line.new ≡
+        string_bytes line.old ++ spaced (routine_text Routine.ByName)
+        (quoted text.now ∷ handle_text scope ∷ [])) }
 {
     push_word(line, Routine::ByName)?;
     push_quoted(line, text.bytes())?;
@@ -121,7 +125,10 @@ fn push_by_name(line: &mut String, text: &Short, scope: Option<HandleNo>) -> Res
 
 // Adds `by_index` and its arguments.
 fn push_by_index(line: &mut String, h: Option<HandleNo>, n: u64) -> Result<(), AllocError>
-    ensures { OnOk result (string_bytes line.new ≡ string_bytes line.old ++ spaced (routine_text Routine.ByIndex) (handle_text h ∷ decimal n ∷ [])) }
+    ensures { OnOk result
+        (string_bytes line.new ≡
+        string_bytes line.old ++ spaced (routine_text Routine.ByIndex)
+        (handle_text h ∷ decimal n ∷ [])) }
 {
     push_with_handle(line, Routine::ByIndex, h)?;
     line.push_str(" ")?;
@@ -182,7 +189,8 @@ fn push_with_handle(
 
 // Adds a further handle.
 fn push_further(line: &mut String, h: Option<HandleNo>) -> Result<(), AllocError>
-    ensures { OnOk result (string_bytes line.new ≡ string_bytes line.old ++ codes " " ++ handle_text h) }
+    ensures { OnOk result
+        (string_bytes line.new ≡ string_bytes line.old ++ codes " " ++ handle_text h) }
 {
     line.push_str(" ")?;
     push_handle(line, h)
@@ -194,7 +202,10 @@ fn push_compare(
     a: Option<HandleNo>,
     b: Option<HandleNo>,
 ) -> Result<(), AllocError>
-    ensures { OnOk result (string_bytes line.new ≡ string_bytes line.old ++ spaced (routine_text Routine.Compare) (handle_text a ∷ handle_text b ∷ [])) }
+    ensures { OnOk result
+        (string_bytes line.new ≡
+        string_bytes line.old ++ spaced (routine_text Routine.Compare)
+        (handle_text a ∷ handle_text b ∷ [])) }
 {
     push_with_handle(line, Routine::Compare, a)?;
     push_further(line, b)
@@ -202,7 +213,10 @@ fn push_compare(
 
 // Adds `get_value` and its arguments.
 fn push_get_value(line: &mut String, h: Option<HandleNo>, format: Format) -> Result<(), AllocError>
-    ensures { OnOk result (string_bytes line.new ≡ string_bytes line.old ++ spaced (routine_text Routine.GetValue) (handle_text h ∷ format_text format ∷ [])) }
+    ensures { OnOk result
+        (string_bytes line.new ≡
+        string_bytes line.old ++ spaced (routine_text Routine.GetValue)
+        (handle_text h ∷ format_text format ∷ [])) }
 {
     push_with_handle(line, Routine::GetValue, h)?;
     line.push_str(" ")?;
@@ -211,7 +225,10 @@ fn push_get_value(line: &mut String, h: Option<HandleNo>, format: Format) -> Res
 
 // Adds `put_value`, the handle and the format, with the space behind them.
 fn push_put_value(line: &mut String, h: Option<HandleNo>, format: Format) -> Result<(), AllocError>
-    ensures { OnOk result (string_bytes line.new ≡ string_bytes line.old ++ routine_text Routine.PutValue ++ codes " " ++ handle_text h ++ codes " " ++ format_text format ++ codes " ") }
+    ensures { OnOk result
+        (string_bytes line.new ≡
+        string_bytes line.old ++ routine_text Routine.PutValue ++ codes " " ++ handle_text h ++
+        codes " " ++ format_text format ++ codes " ") }
 {
     push_with_handle(line, Routine::PutValue, h)?;
     line.push_str(" ")?;
@@ -227,7 +244,10 @@ fn push_put_text(
     time: u64,
     event: bool,
 ) -> Result<(), AllocError>
-    ensures { OnOk result (string_bytes line.new ≡ string_bytes line.old ++ spaced (quoted text.now) (mode_text mode ∷ decimal time ∷ event_words event)) }
+    ensures { OnOk result
+        (string_bytes line.new ≡
+        string_bytes line.old ++ spaced (quoted text.now)
+        (mode_text mode ∷ decimal time ∷ event_words event)) }
 {
     push_quoted(line, text.bytes())?;
     line.push_str(" ")?;
@@ -238,7 +258,9 @@ fn push_put_text(
 
 // Adds the time of a put, and `event` where its event is wanted.
 fn push_put_time(line: &mut String, time: u64, event: bool) -> Result<(), AllocError>
-    ensures { OnOk result (string_bytes line.new ≡ string_bytes line.old ++ spaced (decimal time) (event_words event)) }
+    ensures { OnOk result
+        (string_bytes line.new ≡
+        string_bytes line.old ++ spaced (decimal time) (event_words event)) }
 {
     push_number(line, time)?;
     if event {
@@ -254,7 +276,10 @@ fn push_register(
     h: Option<HandleNo>,
     time: u64,
 ) -> Result<(), AllocError>
-    ensures { OnOk result (string_bytes line.new ≡ string_bytes line.old ++ routine_text Routine.Register ++ codes " " ++ reason_text reason ++ codes " " ++ handle_text h ++ codes " " ++ decimal time ++ codes " ") }
+    ensures { OnOk result
+        (string_bytes line.new ≡
+        string_bytes line.old ++ routine_text Routine.Register ++ codes " " ++ reason_text reason ++
+        codes " " ++ handle_text h ++ codes " " ++ decimal time ++ codes " ") }
 {
     push_word(line, Routine::Register)?;
     line.push_str(reason.name())?;
@@ -266,7 +291,9 @@ fn push_register(
 
 // Adds what a registration calls, and its number.
 fn push_called(line: &mut String, body: &BodyName, n: u64) -> Result<(), AllocError>
-    ensures { OnOk result (string_bytes line.new ≡ string_bytes line.old ++ spaced (body_text body.now) (decimal n ∷ [])) }
+    ensures { OnOk result
+        (string_bytes line.new ≡
+        string_bytes line.old ++ spaced (body_text body.now) (decimal n ∷ [])) }
 {
     push_body(line, body)?;
     line.push_str(" ")?;
@@ -291,7 +318,8 @@ fn push_body(line: &mut String, body: &BodyName) -> Result<(), AllocError>
 
 // Adds a procedure, as `APP.NAME`.
 fn push_procedure(line: &mut String, procedure: &ProcName) -> Result<(), AllocError>
-    ensures { OnOk result (string_bytes line.new ≡ string_bytes line.old ++ proc_text procedure.now) }
+    ensures { OnOk result
+        (string_bytes line.new ≡ string_bytes line.old ++ proc_text procedure.now) }
 {
     push_name(line, procedure.app.bytes())?;
     line.push_str(".")?;
@@ -365,7 +393,10 @@ fn push_register_systf(
     text: &Short,
     n: u64,
 ) -> Result<(), AllocError>
-    ensures { OnOk result (string_bytes line.new ≡ string_bytes line.old ++ routine_text Routine.RegisterSystf ++ codes " " ++ kind_text kind ++ codes " " ++ quoted text.now ++ codes " " ++ decimal n ++ codes " ") }
+    ensures { OnOk result
+        (string_bytes line.new ≡
+        string_bytes line.old ++ routine_text Routine.RegisterSystf ++ codes " " ++ kind_text
+        kind ++ codes " " ++ quoted text.now ++ codes " " ++ decimal n ++ codes " ") }
 {
     push_word(line, Routine::RegisterSystf)?;
     line.push_str(kind_name(kind))?;
@@ -382,7 +413,10 @@ fn push_systf_calls(
     calltf: &ProcName,
     compiletf: &Option<ProcName>,
 ) -> Result<(), AllocError>
-    ensures { OnOk result (string_bytes line.new ≡ string_bytes line.old ++ spaced (codes "calltf") (proc_text calltf.now ∷ compiletf_words compiletf.now)) }
+    ensures { OnOk result
+        (string_bytes line.new ≡
+        string_bytes line.old ++ spaced (codes "calltf")
+        (proc_text calltf.now ∷ compiletf_words compiletf.now)) }
 {
     line.push_str("calltf ")?;
     push_procedure(line, calltf)?;
@@ -395,7 +429,9 @@ fn push_systf_calls(
 
 // Adds `control` and how the run is to end.
 fn push_control(line: &mut String, stop: bool) -> Result<(), AllocError>
-    ensures { OnOk result (string_bytes line.new ≡ string_bytes line.old ++ spaced (routine_text Routine.Control) (control_text stop ∷ [])) }
+    ensures { OnOk result
+        (string_bytes line.new ≡
+        string_bytes line.old ++ spaced (routine_text Routine.Control) (control_text stop ∷ [])) }
 {
     push_word(line, Routine::Control)?;
     if stop {
@@ -406,7 +442,9 @@ fn push_control(line: &mut String, stop: bool) -> Result<(), AllocError>
 
 // Adds `print` and its text.
 fn push_print(line: &mut String, text: &Short) -> Result<(), AllocError>
-    ensures { OnOk result (string_bytes line.new ≡ string_bytes line.old ++ spaced (routine_text Routine.Print) (quoted text.now ∷ [])) }
+    ensures { OnOk result
+        (string_bytes line.new ≡
+        string_bytes line.old ++ spaced (routine_text Routine.Print) (quoted text.now ∷ [])) }
 {
     push_word(line, Routine::Print)?;
     push_quoted(line, text.bytes())
@@ -414,7 +452,9 @@ fn push_print(line: &mut String, text: &Short) -> Result<(), AllocError>
 
 // Adds `set_data` and its number.
 fn push_set_data(line: &mut String, n: u64) -> Result<(), AllocError>
-    ensures { OnOk result (string_bytes line.new ≡ string_bytes line.old ++ spaced (routine_text Routine.SetData) (decimal n ∷ [])) }
+    ensures { OnOk result
+        (string_bytes line.new ≡
+        string_bytes line.old ++ spaced (routine_text Routine.SetData) (decimal n ∷ [])) }
 {
     push_word(line, Routine::SetData)?;
     push_number(line, n)

@@ -60,7 +60,8 @@ fn push_plain_byte(line: &mut String, byte: u8) -> Result<(), AllocError>
 
 // Adds a text as it stands in quotes: at once where no byte is written otherwise.
 fn push_all_escaped(line: &mut String, text: &[u8]) -> Result<(), AllocError>
-    ensures { OnOk result (string_bytes line.new ≡ string_bytes line.old ++ flat_map escaped text.now) }
+    ensures { OnOk result
+        (string_bytes line.new ≡ string_bytes line.old ++ flat_map escaped text.now) }
 {
     if stands(text)
         && let Ok(text) = std::str::from_utf8(text)
@@ -90,7 +91,8 @@ fn byte_stands(byte: u8) -> bool
 
 // Adds each byte of a text as it stands in quotes.
 fn push_each_escaped(line: &mut String, text: &[u8]) -> Result<(), AllocError>
-    ensures { OnOk result (string_bytes line.new ≡ string_bytes line.old ++ flat_map escaped text.now) }
+    ensures { OnOk result
+        (string_bytes line.new ≡ string_bytes line.old ++ flat_map escaped text.now) }
 {
     for byte in text {
         push_escaped(line, *byte)?;
@@ -114,7 +116,10 @@ fn push_escaped(line: &mut String, byte: u8) -> Result<(), AllocError>
 
 // Adds \x and a byte's two hexadecimal digits.
 fn push_hex(line: &mut String, byte: u8) -> Result<(), AllocError>
-    ensures { OnOk result (string_bytes line.new ≡ string_bytes line.old ++ (codes "\\x" ++ hex_code (byte / 16) ∷ hex_code (byte % 16) ∷ [])) }
+    ensures { OnOk result
+        (string_bytes line.new ≡
+        string_bytes line.old ++
+        (codes "\\x" ++ hex_code (byte / 16) ∷ hex_code (byte % 16) ∷ [])) }
 {
     line.push_str("\\x")?;
     line.push(hex_char(byte / 16))?;

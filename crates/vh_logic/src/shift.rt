@@ -78,7 +78,8 @@ fn moved_down(plane: Plane, width: u32, places: Plane) -> Plane
     requires fits { plane < 2 ^ width }
     requires inside { places < width }
     ensures fits { result < 2 ^ width }
-    ensures bits { (i : ℕ) → i < width → bit_at result i ≡ bit_at plane (min (i + places) (width - 1)) }
+    ensures bits { (i : ℕ) → i < width →
+        bit_at result i ≡ bit_at plane (min (i + places) (width - 1)) }
 {
     let moved = plane >> places;
     if plane >> (width - 1) == 1 {

@@ -36,13 +36,23 @@ impl Model for Vec4 {
 
     ghost view = { λ v. record { digits = digits_of v.width v.aval v.bval; signed = v.signed } };
 
-    ghost invariant = { λ v. (1 ≤ v.width) × (v.width ≤ MAX_WIDTH) × (v.aval < 2 ^ v.width) × (v.bval < 2 ^ v.width) };
+    ghost invariant = { λ v. (1 ≤ v.width) × (v.width ≤ MAX_WIDTH) × (v.aval < 2 ^ v.width) ×
+        (v.bval < 2 ^ v.width) };
 
-    ghost inverse = { λ v. record { aval = plane_of aval_bit v.digits; bval = plane_of bval_bit v.digits; width = length v.digits; signed = v.signed } };
+    ghost inverse = { λ v. record {
+      aval = plane_of aval_bit v.digits;
+      bval = plane_of bval_bit v.digits;
+      width = length v.digits;
+      signed = v.signed;
+    } };
 
     ghost use Rattle.vh_logic.specs.PlanesBack.{length-digits_of, aval-digits_of, bval-digits_of};
 
-    ghost inverse_ok = { λ a h. Prim.rw (aval-digits_of a.width a.aval a.bval h.2, bval-digits_of a.width a.aval a.bval h.3, length-digits_of a.width a.aval a.bval) };
+    ghost inverse_ok = { λ a h. Prim.rw (
+      aval-digits_of a.width a.aval a.bval h.2,
+      bval-digits_of a.width a.aval a.bval h.3,
+      length-digits_of a.width a.aval a.bval,
+    ) };
 }
 
 /// The plane whose lowest `width` bits are 1.
@@ -164,7 +174,10 @@ impl Vec4 {
 
     // The lowest digits of a number, in the width and with the sign mark of `self`.
     pub(crate) fn with_number(&self, number: Plane) -> Vec4
-        ensures value { result ≡ record { digits = binary (width_of self.now) number; signed = self.now.signed } }
+        ensures value { result ≡ record {
+          digits = binary (width_of self.now) number;
+          signed = self.now.signed;
+        } }
         ensures width { width_of result ≡ width_of self.now }
     {
         Vec4 {

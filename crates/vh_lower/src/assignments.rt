@@ -58,7 +58,8 @@ fn delayed(
     delay: Wait,
     targets: Targets,
 ) -> Result<Operations, NoMemory>
-    ensures { IfOk result (λ os. os ≡ delayed_in front.items calls.items value width delay targets) }
+    ensures { IfOk result
+        (λ os. os ≡ delayed_in front.items calls.items value width delay targets) }
 {
     front.push(Operation::Hold {
         value,
@@ -77,11 +78,13 @@ fn set_parts(
     target: &Lv,
     value: &Expr,
 ) -> Result<Operations, LowerFault>
-    requires sound { IsSound mode.Value (surroundings_seen around.now).scope (added_seen added.old).exprs }
+    requires sound { IsSound mode.Value (surroundings_seen around.now).scope
+        (added_seen added.old).exprs }
     requires unit { is_unit (surroundings_seen around.now).scope.precision
         (surroundings_seen around.now).scope.unit ≡ true }
     ensures made { Makes
-        (set_parts (surroundings_seen around.now) (lv_tree target.now) (expr_tree value.now) (added_seen added.old))
+        (set_parts (surroundings_seen around.now) (lv_tree target.now) (expr_tree value.now)
+        (added_seen added.old))
         result (added_seen added.new) }
     ensures sound { OnOk result
         (IsSound mode.Value (surroundings_seen around.now).scope (added_seen added.new).exprs) }
@@ -99,7 +102,8 @@ pub(crate) fn set_of(
     added: &mut Added,
     set: &Set,
 ) -> Result<Operations, LowerFault>
-    requires sound { IsSound mode.Value (surroundings_seen around.now).scope (added_seen added.old).exprs }
+    requires sound { IsSound mode.Value (surroundings_seen around.now).scope
+        (added_seen added.old).exprs }
     requires unit { is_unit (surroundings_seen around.now).scope.precision
         (surroundings_seen around.now).scope.unit ≡ true }
     ensures made { Makes
@@ -120,11 +124,13 @@ fn delayed_parts(
     delay: &Delay,
     value: &Expr,
 ) -> Result<Operations, LowerFault>
-    requires sound { IsSound mode.Value (surroundings_seen around.now).scope (added_seen added.old).exprs }
+    requires sound { IsSound mode.Value (surroundings_seen around.now).scope
+        (added_seen added.old).exprs }
     requires unit { is_unit (surroundings_seen around.now).scope.precision
         (surroundings_seen around.now).scope.unit ≡ true }
     ensures made { Makes
-        (delayed_parts (surroundings_seen around.now) (lv_tree target.now) (delay_tree delay.now) (expr_tree value.now) (added_seen added.old))
+        (delayed_parts (surroundings_seen around.now) (lv_tree target.now) (delay_tree delay.now)
+        (expr_tree value.now) (added_seen added.old))
         result (added_seen added.new) }
     ensures sound { OnOk result
         (IsSound mode.Value (surroundings_seen around.now).scope (added_seen added.new).exprs) }
@@ -146,11 +152,13 @@ fn scheduled_parts(
     target: &Lv,
     value: &Expr,
 ) -> Result<Operations, LowerFault>
-    requires sound { IsSound mode.Value (surroundings_seen around.now).scope (added_seen added.old).exprs }
+    requires sound { IsSound mode.Value (surroundings_seen around.now).scope
+        (added_seen added.old).exprs }
     requires unit { is_unit (surroundings_seen around.now).scope.precision
         (surroundings_seen around.now).scope.unit ≡ true }
     ensures made { Makes
-        (scheduled_parts (surroundings_seen around.now) (lv_tree target.now) (expr_tree value.now) (added_seen added.old))
+        (scheduled_parts (surroundings_seen around.now) (lv_tree target.now) (expr_tree value.now)
+        (added_seen added.old))
         result (added_seen added.new) }
     ensures sound { OnOk result
         (IsSound mode.Value (surroundings_seen around.now).scope (added_seen added.new).exprs) }
@@ -171,11 +179,13 @@ fn scheduled_later(
     delay: &Delay,
     value: &Expr,
 ) -> Result<Operations, LowerFault>
-    requires sound { IsSound mode.Value (surroundings_seen around.now).scope (added_seen added.old).exprs }
+    requires sound { IsSound mode.Value (surroundings_seen around.now).scope
+        (added_seen added.old).exprs }
     requires unit { is_unit (surroundings_seen around.now).scope.precision
         (surroundings_seen around.now).scope.unit ≡ true }
     ensures made { Makes
-        (scheduled_later (surroundings_seen around.now) (lv_tree target.now) (delay_tree delay.now) (expr_tree value.now) (added_seen added.old))
+        (scheduled_later (surroundings_seen around.now) (lv_tree target.now) (delay_tree delay.now)
+        (expr_tree value.now) (added_seen added.old))
         result (added_seen added.new) }
     ensures sound { OnOk result
         (IsSound mode.Value (surroundings_seen around.now).scope (added_seen added.new).exprs) }
@@ -198,11 +208,13 @@ pub(crate) fn assign_labels(
     delay: &Option<TreeBox<Delay>>,
     value: &Expr,
 ) -> Result<Operations, LowerFault>
-    requires sound { IsSound mode.Value (surroundings_seen around.now).scope (added_seen added.old).exprs }
+    requires sound { IsSound mode.Value (surroundings_seen around.now).scope
+        (added_seen added.old).exprs }
     requires unit { is_unit (surroundings_seen around.now).scope.precision
         (surroundings_seen around.now).scope.unit ≡ true }
     ensures made { Makes
-        (assign_labels (surroundings_seen around.now) (lv_tree target.now) word (option_map delay_tree delay.now) (expr_tree value.now) (added_seen added.old))
+        (assign_labels (surroundings_seen around.now) (lv_tree target.now) word
+        (option_map delay_tree delay.now) (expr_tree value.now) (added_seen added.old))
         result (added_seen added.new) }
     ensures sound { OnOk result
         (IsSound mode.Value (surroundings_seen around.now).scope (added_seen added.new).exprs) }

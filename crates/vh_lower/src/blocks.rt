@@ -28,7 +28,8 @@ pub(crate) fn block_number(
     around: &Surroundings,
     place: Place,
 ) -> Result<u32, LowerFault>
-    ensures made { Makes (block_number word (surroundings_seen around.now) place (added_seen added.old))
+    ensures made { Makes (block_number word (surroundings_seen around.now) place
+        (added_seen added.old))
         result (added_seen added.new) }
     ensures exprs { (added_seen added.new).exprs ≡ (added_seen added.old).exprs }
 {

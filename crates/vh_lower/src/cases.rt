@@ -149,7 +149,8 @@ pub(crate) fn case_flow(
 ) -> Result<Flow, NoMemory>
     ensures { IfOk result
         (λ f. flow_tree f ≡
-        case_tree number (case_head word subject (cases_seen cases).labels nodes.now) (cases_seen cases)) }
+        case_tree number (case_head word subject (cases_seen cases).labels nodes.now)
+        (cases_seen cases)) }
 {
     let compared = case_head(word, subject, &cases.labels, nodes);
     case_tree(alloc, number, compared, cases)
@@ -163,11 +164,13 @@ pub(crate) fn values_of(
     calls: &mut Vec<Operation>,
     values: &[Expr],
 ) -> Result<ExprIds, LowerFault>
-    requires sound { IsSound mode.Value (surroundings_seen around.now).scope (added_seen added.old).exprs }
+    requires sound { IsSound mode.Value (surroundings_seen around.now).scope
+        (added_seen added.old).exprs }
     requires unit { is_unit (surroundings_seen around.now).scope.precision
         (surroundings_seen around.now).scope.unit ≡ true }
     ensures made { Performs
-        (values_of (surroundings_seen around.now) [] calls.old.items (map expr_tree values.now) (added_seen added.old))
+        (values_of (surroundings_seen around.now) [] calls.old.items (map expr_tree values.now)
+        (added_seen added.old))
         result calls.new.items (added_seen added.new) }
     ensures sound { OnOk result
         (IsSound mode.Value (surroundings_seen around.now).scope (added_seen added.new).exprs) }
@@ -209,7 +212,8 @@ pub(crate) fn with_item(cases: &mut Cases, labels: ExprIds, body: Flow) -> Resul
 
 /// What is done where no label fits.
 pub(crate) fn with_default(cases: &mut Cases, body: Flow) -> Result<(), NoMemory>
-    ensures { OnOk result (cases_seen cases.new ≡ with_default (cases_seen cases.old) (flow_tree body)) }
+    ensures { OnOk result
+        (cases_seen cases.new ≡ with_default (cases_seen cases.old) (flow_tree body)) }
 {
     cases.default.push(body)?;
     Ok(())

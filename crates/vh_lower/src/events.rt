@@ -33,7 +33,8 @@ fn listed_terms(
     nodes: &[ExprNode],
     event: &Event,
 ) -> Result<Option<Terms>, ElabFault>
-    ensures { Gives (listed_terms (here (scope_seen scope.now) nodes.now) (event_tree event.now)) result }
+    ensures { Gives (listed_terms (here (scope_seen scope.now) nodes.now) (event_tree event.now))
+        result }
 {
     let here = Scope {
         names: scope.names,
@@ -63,7 +64,8 @@ fn waited_terms(
     added: &Added,
     event: &Event,
 ) -> Result<Terms, LowerFault>
-    ensures { Makes (waited_terms (surroundings_seen around.now) (event_tree event.now) (added_seen added.now))
+    ensures { Makes (waited_terms (surroundings_seen around.now) (event_tree event.now)
+        (added_seen added.now))
         result (added_seen added.now) }
 {
     match listed_terms(alloc, around.scope, &added.exprs, event)? {
@@ -80,11 +82,13 @@ pub(crate) fn event_front(
     place: Place,
     event: &Event,
 ) -> Result<Front, LowerFault>
-    requires sound { IsSound mode.Value (surroundings_seen around.now).scope (added_seen added.old).exprs }
+    requires sound { IsSound mode.Value (surroundings_seen around.now).scope
+        (added_seen added.old).exprs }
     requires unit { is_unit (surroundings_seen around.now).scope.precision
         (surroundings_seen around.now).scope.unit ≡ true }
     ensures made { Makes
-        (event_front (surroundings_seen around.now) place (event_tree event.now) (added_seen added.old))
+        (event_front (surroundings_seen around.now) place (event_tree event.now)
+        (added_seen added.old))
         result (added_seen added.new) }
     ensures sound { OnOk result
         (IsSound mode.Value (surroundings_seen around.now).scope (added_seen added.new).exprs) }

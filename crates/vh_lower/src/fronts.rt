@@ -28,11 +28,13 @@ pub(crate) fn headed(
     place: Place,
     test: &Expr,
 ) -> Result<Head, LowerFault>
-    requires sound { IsSound mode.Value (surroundings_seen around.now).scope (added_seen added.old).exprs }
+    requires sound { IsSound mode.Value (surroundings_seen around.now).scope
+        (added_seen added.old).exprs }
     requires unit { is_unit (surroundings_seen around.now).scope.precision
         (surroundings_seen around.now).scope.unit ≡ true }
     ensures made { Makes
-        (headed kind (surroundings_seen around.now) place (expr_tree test.now) (added_seen added.old))
+        (headed kind (surroundings_seen around.now) place (expr_tree test.now)
+        (added_seen added.old))
         result (added_seen added.new) }
     ensures sound { OnOk result
         (IsSound mode.Value (surroundings_seen around.now).scope (added_seen added.new).exprs) }
@@ -55,11 +57,13 @@ pub(crate) fn delay_front(
     place: Place,
     delay: &Delay,
 ) -> Result<Front, LowerFault>
-    requires sound { IsSound mode.Value (surroundings_seen around.now).scope (added_seen added.old).exprs }
+    requires sound { IsSound mode.Value (surroundings_seen around.now).scope
+        (added_seen added.old).exprs }
     requires unit { is_unit (surroundings_seen around.now).scope.precision
         (surroundings_seen around.now).scope.unit ≡ true }
     ensures made { Makes
-        (delay_front (surroundings_seen around.now) place (delay_tree delay.now) (added_seen added.old))
+        (delay_front (surroundings_seen around.now) place (delay_tree delay.now)
+        (added_seen added.old))
         result (added_seen added.new) }
     ensures sound { OnOk result
         (IsSound mode.Value (surroundings_seen around.now).scope (added_seen added.new).exprs) }
@@ -79,11 +83,13 @@ pub(crate) fn wait_front(
     place: Place,
     test: &Expr,
 ) -> Result<Front, LowerFault>
-    requires sound { IsSound mode.Value (surroundings_seen around.now).scope (added_seen added.old).exprs }
+    requires sound { IsSound mode.Value (surroundings_seen around.now).scope
+        (added_seen added.old).exprs }
     requires unit { is_unit (surroundings_seen around.now).scope.precision
         (surroundings_seen around.now).scope.unit ≡ true }
     ensures made { Makes
-        (wait_front (surroundings_seen around.now) place (expr_tree test.now) (added_seen added.old))
+        (wait_front (surroundings_seen around.now) place (expr_tree test.now)
+        (added_seen added.old))
         result (added_seen added.new) }
     ensures sound { OnOk result
         (IsSound mode.Value (surroundings_seen around.now).scope (added_seen added.new).exprs) }
@@ -113,11 +119,13 @@ pub(crate) fn for_head(
     test: &Expr,
     step: &Set,
 ) -> Result<ForHead, LowerFault>
-    requires sound { IsSound mode.Value (surroundings_seen around.now).scope (added_seen added.old).exprs }
+    requires sound { IsSound mode.Value (surroundings_seen around.now).scope
+        (added_seen added.old).exprs }
     requires unit { is_unit (surroundings_seen around.now).scope.precision
         (surroundings_seen around.now).scope.unit ≡ true }
     ensures made { Makes
-        (for_head (surroundings_seen around.now) place (set_tree start.now) (expr_tree test.now) (set_tree step.now) (added_seen added.old))
+        (for_head (surroundings_seen around.now) place (set_tree start.now) (expr_tree test.now)
+        (set_tree step.now) (added_seen added.old))
         result (added_seen added.new) }
     ensures sound { OnOk result
         (IsSound mode.Value (surroundings_seen around.now).scope (added_seen added.new).exprs) }

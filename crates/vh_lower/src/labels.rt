@@ -80,7 +80,8 @@ pub(crate) fn labels(alloc: Global, number: u32, operations: Operations) -> Resu
 
 // A label that goes on in one of two ways.
 fn choice(alloc: Global, gate: Gate, mark: Mark, holds: Flow, fails: Flow) -> Result<Flow, NoMemory>
-    ensures { IfOk result (λ f. flow_tree f ≡ choice_of gate mark (flow_tree holds) (flow_tree fails)) }
+    ensures { IfOk result
+        (λ f. flow_tree f ≡ choice_of gate mark (flow_tree holds) (flow_tree fails)) }
 {
     let holds = Boxed::new(alloc, holds)?;
     let fails = Boxed::new(alloc, fails)?;

@@ -25,11 +25,13 @@ pub fn value_of(
     operations: &mut Vec<Operation>,
     e: &Expr,
 ) -> Result<ExprId, LowerFault>
-    requires sound { IsSound mode.Value (surroundings_seen around.now).scope (added_seen added.old).exprs }
+    requires sound { IsSound mode.Value (surroundings_seen around.now).scope
+        (added_seen added.old).exprs }
     requires unit { is_unit (surroundings_seen around.now).scope.precision
         (surroundings_seen around.now).scope.unit ≡ true }
     ensures made { Performs
-        (value_of (surroundings_seen around.now) operations.old.items (expr_tree e.now) (added_seen added.old))
+        (value_of (surroundings_seen around.now) operations.old.items (expr_tree e.now)
+        (added_seen added.old))
         result operations.new.items (added_seen added.new) }
     ensures sound { OnOk result
         (IsSound mode.Value (surroundings_seen around.now).scope (added_seen added.new).exprs) }
@@ -53,11 +55,13 @@ pub(crate) fn targets_of(
     operations: &mut Vec<Operation>,
     lv: &Lv,
 ) -> Result<Targets, LowerFault>
-    requires sound { IsSound mode.Value (surroundings_seen around.now).scope (added_seen added.old).exprs }
+    requires sound { IsSound mode.Value (surroundings_seen around.now).scope
+        (added_seen added.old).exprs }
     requires unit { is_unit (surroundings_seen around.now).scope.precision
         (surroundings_seen around.now).scope.unit ≡ true }
     ensures made { Performs
-        (targets_of (surroundings_seen around.now) operations.old.items (lv_tree lv.now) (added_seen added.old))
+        (targets_of (surroundings_seen around.now) operations.old.items (lv_tree lv.now)
+        (added_seen added.old))
         result operations.new.items (added_seen added.new) }
     ensures sound { OnOk result
         (IsSound mode.Value (surroundings_seen around.now).scope (added_seen added.new).exprs) }
@@ -78,11 +82,13 @@ pub fn delay_of(
     operations: &mut Vec<Operation>,
     delay: &Delay,
 ) -> Result<Wait, LowerFault>
-    requires sound { IsSound mode.Value (surroundings_seen around.now).scope (added_seen added.old).exprs }
+    requires sound { IsSound mode.Value (surroundings_seen around.now).scope
+        (added_seen added.old).exprs }
     requires unit { is_unit (surroundings_seen around.now).scope.precision
         (surroundings_seen around.now).scope.unit ≡ true }
     ensures made { Performs
-        (delay_of (surroundings_seen around.now) operations.old.items (delay_tree delay.now) (added_seen added.old))
+        (delay_of (surroundings_seen around.now) operations.old.items (delay_tree delay.now)
+        (added_seen added.old))
         result operations.new.items (added_seen added.new) }
     ensures sound { OnOk result
         (IsSound mode.Value (surroundings_seen around.now).scope (added_seen added.new).exprs) }
@@ -103,11 +109,13 @@ pub(crate) fn output_of(
     operations: &mut Vec<Operation>,
     e: &Expr,
 ) -> Result<Targets, LowerFault>
-    requires sound { IsSound mode.Value (surroundings_seen around.now).scope (added_seen added.old).exprs }
+    requires sound { IsSound mode.Value (surroundings_seen around.now).scope
+        (added_seen added.old).exprs }
     requires unit { is_unit (surroundings_seen around.now).scope.precision
         (surroundings_seen around.now).scope.unit ≡ true }
     ensures made { Performs
-        (output_of (surroundings_seen around.now) operations.old.items (expr_tree e.now) (added_seen added.old))
+        (output_of (surroundings_seen around.now) operations.old.items (expr_tree e.now)
+        (added_seen added.old))
         result operations.new.items (added_seen added.new) }
     ensures sound { OnOk result
         (IsSound mode.Value (surroundings_seen around.now).scope (added_seen added.new).exprs) }

@@ -54,7 +54,8 @@ pub(crate) fn named_object(
     name: &Name<Expr>,
 ) -> Result<ObjId, LowerFault>
     ensures { Makes
-        (named_object (surroundings_seen around.now) is_call (name_tree name.now) (added_seen added.now))
+        (named_object (surroundings_seen around.now) is_call (name_tree name.now)
+        (added_seen added.now))
         result (added_seen added.now) }
 {
     let scope = around.scope;
@@ -87,7 +88,8 @@ pub(crate) fn event_of(
     name: &Name<Expr>,
 ) -> Result<ObjId, LowerFault>
     ensures { Makes
-        (object_of (surroundings_seen around.now) (name_tree name.now) is_event (added_seen added.now))
+        (object_of (surroundings_seen around.now) (name_tree name.now) is_event
+        (added_seen added.now))
         result (added_seen added.now) }
 {
     let object = named_object(alloc, around, added, false, name)?;
@@ -105,7 +107,8 @@ pub(crate) fn disable_target_of(
     name: &Name<Expr>,
 ) -> Result<ObjId, LowerFault>
     ensures { Makes
-        (object_of (surroundings_seen around.now) (name_tree name.now) is_disable_target (added_seen added.now))
+        (object_of (surroundings_seen around.now) (name_tree name.now) is_disable_target
+        (added_seen added.now))
         result (added_seen added.now) }
 {
     let object = named_object(alloc, around, added, false, name)?;
@@ -145,7 +148,8 @@ fn whole_parts(
     nodes: &[ExprNode],
     target: &Lv,
 ) -> Result<Option<ObjId>, ElabFault>
-    ensures { Gives (whole_named (here (scope_seen scope.now) nodes.now) (lv_tree target.now)) result }
+    ensures { Gives (whole_named (here (scope_seen scope.now) nodes.now) (lv_tree target.now))
+        result }
 {
     let place = target.place;
     let Some(LvPart::Name(name, sel)) = target.parts.as_slice().first() else {
@@ -201,7 +205,8 @@ pub(crate) fn forced_of(
     target: &Lv,
 ) -> Result<ObjId, LowerFault>
     ensures { Makes
-        (whole_object (surroundings_seen around.now) (lv_tree target.now) (force_kinds word) (added_seen added.now))
+        (whole_object (surroundings_seen around.now) (lv_tree target.now) (force_kinds word)
+        (added_seen added.now))
         result (added_seen added.now) }
 {
     let object = whole_object(alloc, around, added, target)?;
@@ -220,7 +225,8 @@ pub(crate) fn released_of(
     target: &Lv,
 ) -> Result<ObjId, LowerFault>
     ensures { Makes
-        (whole_object (surroundings_seen around.now) (lv_tree target.now) (release_kinds word) (added_seen added.now))
+        (whole_object (surroundings_seen around.now) (lv_tree target.now) (release_kinds word)
+        (added_seen added.now))
         result (added_seen added.now) }
 {
     let object = whole_object(alloc, around, added, target)?;

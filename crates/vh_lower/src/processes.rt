@@ -65,11 +65,13 @@ fn initial_labels(
     object: ObjId,
     value: &Expr,
 ) -> Result<Operations, LowerFault>
-    requires sound { IsSound mode.Value (surroundings_seen around.now).scope (added_seen added.old).exprs }
+    requires sound { IsSound mode.Value (surroundings_seen around.now).scope
+        (added_seen added.old).exprs }
     requires unit { is_unit (surroundings_seen around.now).scope.precision
         (surroundings_seen around.now).scope.unit ≡ true }
     ensures made { Makes
-        (initial_labels (surroundings_seen around.now) object (expr_tree value.now) (added_seen added.old))
+        (initial_labels (surroundings_seen around.now) object (expr_tree value.now)
+        (added_seen added.old))
         result (added_seen added.new) }
     ensures sound { OnOk result
         (IsSound mode.Value (surroundings_seen around.now).scope (added_seen added.new).exprs) }
@@ -87,11 +89,13 @@ fn laid_value(
     object: ObjId,
     value: &Expr,
 ) -> Result<Code, LowerFault>
-    requires sound { IsSound mode.Value (surroundings_seen around.now).scope (added_seen added.old).exprs }
+    requires sound { IsSound mode.Value (surroundings_seen around.now).scope
+        (added_seen added.old).exprs }
     requires unit { is_unit (surroundings_seen around.now).scope.precision
         (surroundings_seen around.now).scope.unit ≡ true }
     ensures made { Makes
-        (initial_code (surroundings_seen around.now) object (expr_tree value.now) (added_seen added.old))
+        (initial_code (surroundings_seen around.now) object (expr_tree value.now)
+        (added_seen added.old))
         result (added_seen added.new) }
     ensures sound { OnOk result
         (IsSound mode.Value (surroundings_seen around.now).scope (added_seen added.new).exprs) }
@@ -108,11 +112,13 @@ pub fn initial_code(
     object: ObjId,
     value: &Expr,
 ) -> Result<Code, LowerFault>
-    requires sound { IsSound mode.Value (surroundings_seen around.now).scope (added_seen added.old).exprs }
+    requires sound { IsSound mode.Value (surroundings_seen around.now).scope
+        (added_seen added.old).exprs }
     requires unit { is_unit (surroundings_seen around.now).scope.precision
         (surroundings_seen around.now).scope.unit ≡ true }
     ensures made { Makes
-        (initial_code (surroundings_seen around.now) object (expr_tree value.now) (added_seen added.old))
+        (initial_code (surroundings_seen around.now) object (expr_tree value.now)
+        (added_seen added.old))
         result (added_seen added.new) }
     ensures sound { OnOk result
         (IsSound mode.Value (surroundings_seen around.now).scope (added_seen added.new).exprs) }
@@ -150,11 +156,13 @@ fn drive_behind(
     delay: Option<Wait>,
     value: &Expr,
 ) -> Result<Operations, LowerFault>
-    requires sound { IsSound mode.Value (surroundings_seen around.now).scope (added_seen added.old).exprs }
+    requires sound { IsSound mode.Value (surroundings_seen around.now).scope
+        (added_seen added.old).exprs }
     requires unit { is_unit (surroundings_seen around.now).scope.precision
         (surroundings_seen around.now).scope.unit ≡ true }
     ensures made { Makes
-        (drive_behind (surroundings_seen around.now) drivers operations.items delay (expr_tree value.now) (added_seen added.old))
+        (drive_behind (surroundings_seen around.now) drivers operations.items delay
+        (expr_tree value.now) (added_seen added.old))
         result (added_seen added.new) }
     ensures sound { OnOk result
         (IsSound mode.Value (surroundings_seen around.now).scope (added_seen added.new).exprs) }
@@ -175,11 +183,13 @@ fn drive_labels(
     delay: &Option<TreeBox<Delay>>,
     value: &Expr,
 ) -> Result<Operations, LowerFault>
-    requires sound { IsSound mode.Value (surroundings_seen around.now).scope (added_seen added.old).exprs }
+    requires sound { IsSound mode.Value (surroundings_seen around.now).scope
+        (added_seen added.old).exprs }
     requires unit { is_unit (surroundings_seen around.now).scope.precision
         (surroundings_seen around.now).scope.unit ≡ true }
     ensures made { Makes
-        (drive_labels (surroundings_seen around.now) drivers (option_map delay_tree delay.now) (expr_tree value.now) (added_seen added.old))
+        (drive_labels (surroundings_seen around.now) drivers (option_map delay_tree delay.now)
+        (expr_tree value.now) (added_seen added.old))
         result (added_seen added.new) }
     ensures sound { OnOk result
         (IsSound mode.Value (surroundings_seen around.now).scope (added_seen added.new).exprs) }
@@ -211,11 +221,13 @@ fn laid_assignment(
     delay: &Option<TreeBox<Delay>>,
     value: &Expr,
 ) -> Result<Code, LowerFault>
-    requires sound { IsSound mode.Value (surroundings_seen around.now).scope (added_seen added.old).exprs }
+    requires sound { IsSound mode.Value (surroundings_seen around.now).scope
+        (added_seen added.old).exprs }
     requires unit { is_unit (surroundings_seen around.now).scope.precision
         (surroundings_seen around.now).scope.unit ≡ true }
     ensures made { Makes
-        (drive_code (surroundings_seen around.now) drivers (option_map delay_tree delay.now) (expr_tree value.now) (added_seen added.old))
+        (drive_code (surroundings_seen around.now) drivers (option_map delay_tree delay.now)
+        (expr_tree value.now) (added_seen added.old))
         result (added_seen added.new) }
     ensures sound { OnOk result
         (IsSound mode.Value (surroundings_seen around.now).scope (added_seen added.new).exprs) }
@@ -233,11 +245,13 @@ pub fn drive_code(
     delay: &Option<TreeBox<Delay>>,
     value: &Expr,
 ) -> Result<Code, LowerFault>
-    requires sound { IsSound mode.Value (surroundings_seen around.now).scope (added_seen added.old).exprs }
+    requires sound { IsSound mode.Value (surroundings_seen around.now).scope
+        (added_seen added.old).exprs }
     requires unit { is_unit (surroundings_seen around.now).scope.precision
         (surroundings_seen around.now).scope.unit ≡ true }
     ensures made { Makes
-        (drive_code (surroundings_seen around.now) drivers (option_map delay_tree delay.now) (expr_tree value.now) (added_seen added.old))
+        (drive_code (surroundings_seen around.now) drivers (option_map delay_tree delay.now)
+        (expr_tree value.now) (added_seen added.old))
         result (added_seen added.new) }
     ensures sound { OnOk result
         (IsSound mode.Value (surroundings_seen around.now).scope (added_seen added.new).exprs) }

@@ -57,7 +57,8 @@ fn lower_stmt(
     added: &mut Added,
     stmt: &Stmt,
 ) -> Result<Flow, LowerFault>
-    requires sound { IsSound mode.Value (surroundings_seen around.now).scope (added_seen added.old).exprs }
+    requires sound { IsSound mode.Value (surroundings_seen around.now).scope
+        (added_seen added.old).exprs }
     requires unit { is_unit (surroundings_seen around.now).scope.precision
         (surroundings_seen around.now).scope.unit ≡ true }
     ensures made { MakesTo flow_tree
@@ -160,11 +161,13 @@ fn lower_event(
     event: &Event,
     body: &Stmt,
 ) -> Result<Flow, LowerFault>
-    requires sound { IsSound mode.Value (surroundings_seen around.now).scope (added_seen added.old).exprs }
+    requires sound { IsSound mode.Value (surroundings_seen around.now).scope
+        (added_seen added.old).exprs }
     requires unit { is_unit (surroundings_seen around.now).scope.precision
         (surroundings_seen around.now).scope.unit ≡ true }
     ensures made { MakesTo flow_tree
-        (event_flow (surroundings_seen around.now) place (event_tree event.now) (stmt_flow (surroundings_seen around.now) (stmt_tree body.now)) (added_seen added.old))
+        (event_flow (surroundings_seen around.now) place (event_tree event.now)
+        (stmt_flow (surroundings_seen around.now) (stmt_tree body.now)) (added_seen added.old))
         result (added_seen added.new) }
     ensures sound { OnOk result
         (IsSound mode.Value (surroundings_seen around.now).scope (added_seen added.new).exprs) }
@@ -190,11 +193,13 @@ fn lower_row(
     added: &mut Added,
     stmts: &[Stmt],
 ) -> Result<Items<Flow>, LowerFault>
-    requires sound { IsSound mode.Value (surroundings_seen around.now).scope (added_seen added.old).exprs }
+    requires sound { IsSound mode.Value (surroundings_seen around.now).scope
+        (added_seen added.old).exprs }
     requires unit { is_unit (surroundings_seen around.now).scope.precision
         (surroundings_seen around.now).scope.unit ≡ true }
     ensures made { MakesTo flows_seen
-        (stmts_flow (surroundings_seen around.now) [] (Statements.stmts (map stmt_tree stmts.now)) (added_seen added.old))
+        (stmts_flow (surroundings_seen around.now) [] (Statements.stmts (map stmt_tree stmts.now))
+        (added_seen added.old))
         result (added_seen added.new) }
     ensures sound { OnOk result
         (IsSound mode.Value (surroundings_seen around.now).scope (added_seen added.new).exprs) }
@@ -218,11 +223,13 @@ fn lower_block(
     id: &Option<Id>,
     stmts: &[Stmt],
 ) -> Result<Flow, LowerFault>
-    requires sound { IsSound mode.Value (surroundings_seen around.now).scope (added_seen added.old).exprs }
+    requires sound { IsSound mode.Value (surroundings_seen around.now).scope
+        (added_seen added.old).exprs }
     requires unit { is_unit (surroundings_seen around.now).scope.precision
         (surroundings_seen around.now).scope.unit ≡ true }
     ensures made { MakesTo flow_tree
-        (block_flow (surroundings_seen around.now) place word id.now (λ u. stmts_flow u [] (Statements.stmts (map stmt_tree stmts.now))) (added_seen added.old))
+        (block_flow (surroundings_seen around.now) place word id.now
+        (λ u. stmts_flow u [] (Statements.stmts (map stmt_tree stmts.now))) (added_seen added.old))
         result (added_seen added.new) }
     ensures sound { OnOk result
         (IsSound mode.Value (surroundings_seen around.now).scope (added_seen added.new).exprs) }
@@ -242,11 +249,13 @@ fn lower_scoped(
     object: Option<ObjId>,
     stmts: &[Stmt],
 ) -> Result<Items<Flow>, LowerFault>
-    requires sound { IsSound mode.Value (surroundings_seen around.now).scope (added_seen added.old).exprs }
+    requires sound { IsSound mode.Value (surroundings_seen around.now).scope
+        (added_seen added.old).exprs }
     requires unit { is_unit (surroundings_seen around.now).scope.precision
         (surroundings_seen around.now).scope.unit ≡ true }
     ensures made { MakesTo flows_seen
-        (stmts_flow (inside_of (surroundings_seen around.now) object) [] (Statements.stmts (map stmt_tree stmts.now)) (added_seen added.old))
+        (stmts_flow (inside_of (surroundings_seen around.now) object) []
+        (Statements.stmts (map stmt_tree stmts.now)) (added_seen added.old))
         result (added_seen added.new) }
     ensures sound { OnOk result
         (IsSound mode.Value (surroundings_seen around.now).scope (added_seen added.new).exprs) }
@@ -266,11 +275,13 @@ fn lower_inside(
     object: ObjId,
     stmts: &[Stmt],
 ) -> Result<Items<Flow>, LowerFault>
-    requires sound { IsSound mode.Value (surroundings_seen around.now).scope (added_seen added.old).exprs }
+    requires sound { IsSound mode.Value (surroundings_seen around.now).scope
+        (added_seen added.old).exprs }
     requires unit { is_unit (surroundings_seen around.now).scope.precision
         (surroundings_seen around.now).scope.unit ≡ true }
     ensures made { MakesTo flows_seen
-        (stmts_flow (inside (surroundings_seen around.now) object) [] (Statements.stmts (map stmt_tree stmts.now)) (added_seen added.old))
+        (stmts_flow (inside (surroundings_seen around.now) object) []
+        (Statements.stmts (map stmt_tree stmts.now)) (added_seen added.old))
         result (added_seen added.new) }
     ensures sound { OnOk result
         (IsSound mode.Value (surroundings_seen around.now).scope (added_seen added.new).exprs) }
@@ -307,11 +318,13 @@ fn lower_items(
     cases: &mut Cases,
     citems: &[Citem<Stmt>],
 ) -> Result<(), LowerFault>
-    requires sound { IsSound mode.Value (surroundings_seen around.now).scope (added_seen added.old).exprs }
+    requires sound { IsSound mode.Value (surroundings_seen around.now).scope
+        (added_seen added.old).exprs }
     requires unit { is_unit (surroundings_seen around.now).scope.precision
         (surroundings_seen around.now).scope.unit ≡ true }
     ensures made { MakesCases
-        (items_flow (surroundings_seen around.now) (cases_seen cases.old) (Statements.citems (map citem_tree citems.now)) (added_seen added.old))
+        (items_flow (surroundings_seen around.now) (cases_seen cases.old)
+        (Statements.citems (map citem_tree citems.now)) (added_seen added.old))
         result (cases_seen cases.new) (added_seen added.new) }
     ensures sound { OnOk result
         (IsSound mode.Value (surroundings_seen around.now).scope (added_seen added.new).exprs) }
@@ -332,11 +345,13 @@ fn lower_item(
     labels: &Labels,
     body: &Stmt,
 ) -> Result<(), LowerFault>
-    requires sound { IsSound mode.Value (surroundings_seen around.now).scope (added_seen added.old).exprs }
+    requires sound { IsSound mode.Value (surroundings_seen around.now).scope
+        (added_seen added.old).exprs }
     requires unit { is_unit (surroundings_seen around.now).scope.precision
         (surroundings_seen around.now).scope.unit ≡ true }
     ensures made { MakesCases
-        (item_with (surroundings_seen around.now) (cases_seen cases.old) (labels_tree labels.now) (stmt_flow (surroundings_seen around.now) (stmt_tree body.now)) (added_seen added.old))
+        (item_with (surroundings_seen around.now) (cases_seen cases.old) (labels_tree labels.now)
+        (stmt_flow (surroundings_seen around.now) (stmt_tree body.now)) (added_seen added.old))
         result (cases_seen cases.new) (added_seen added.new) }
     ensures sound { OnOk result
         (IsSound mode.Value (surroundings_seen around.now).scope (added_seen added.new).exprs) }
@@ -374,7 +389,8 @@ fn laid_statement(
     kind: CodeKind,
     stmt: &Stmt,
 ) -> Result<Code, LowerFault>
-    requires sound { IsSound mode.Value (surroundings_seen around.now).scope (added_seen added.old).exprs }
+    requires sound { IsSound mode.Value (surroundings_seen around.now).scope
+        (added_seen added.old).exprs }
     requires unit { is_unit (surroundings_seen around.now).scope.precision
         (surroundings_seen around.now).scope.unit ≡ true }
     ensures made { Makes
@@ -395,7 +411,8 @@ pub fn lower(
     kind: CodeKind,
     stmt: &Stmt,
 ) -> Result<Code, LowerFault>
-    requires sound { IsSound mode.Value (surroundings_seen around.now).scope (added_seen added.old).exprs }
+    requires sound { IsSound mode.Value (surroundings_seen around.now).scope
+        (added_seen added.old).exprs }
     requires unit { is_unit (surroundings_seen around.now).scope.precision
         (surroundings_seen around.now).scope.unit ≡ true }
     ensures made { Makes

@@ -33,11 +33,13 @@ fn arguments_of_show(
     operations: &mut Vec<Operation>,
     values: &[Option<Expr>],
 ) -> Result<ShowArgs, LowerFault>
-    requires sound { IsSound mode.Value (surroundings_seen around.now).scope (added_seen added.old).exprs }
+    requires sound { IsSound mode.Value (surroundings_seen around.now).scope
+        (added_seen added.old).exprs }
     requires unit { is_unit (surroundings_seen around.now).scope.precision
         (surroundings_seen around.now).scope.unit ≡ true }
     ensures made { Performs
-        (arguments_of_show (surroundings_seen around.now) operations.old.items (map (option_map expr_tree) values.now) (added_seen added.old))
+        (arguments_of_show (surroundings_seen around.now) operations.old.items
+        (map (option_map expr_tree) values.now) (added_seen added.old))
         result operations.new.items (added_seen added.new) }
     ensures sound { OnOk result
         (IsSound mode.Value (surroundings_seen around.now).scope (added_seen added.new).exprs) }
@@ -59,11 +61,13 @@ fn show_labels(
     values: &[Option<Expr>],
     task: ShowTask,
 ) -> Result<Operations, LowerFault>
-    requires sound { IsSound mode.Value (surroundings_seen around.now).scope (added_seen added.old).exprs }
+    requires sound { IsSound mode.Value (surroundings_seen around.now).scope
+        (added_seen added.old).exprs }
     requires unit { is_unit (surroundings_seen around.now).scope.precision
         (surroundings_seen around.now).scope.unit ≡ true }
     ensures made { Makes
-        (show_labels (surroundings_seen around.now) place (map (option_map expr_tree) values.now) task (added_seen added.old))
+        (show_labels (surroundings_seen around.now) place (map (option_map expr_tree) values.now)
+        task (added_seen added.old))
         result (added_seen added.new) }
     ensures sound { OnOk result
         (IsSound mode.Value (surroundings_seen around.now).scope (added_seen added.new).exprs) }
@@ -130,11 +134,13 @@ pub(crate) fn system_labels(
     id: &Id,
     values: &Items<Option<Expr>>,
 ) -> Result<Operations, LowerFault>
-    requires sound { IsSound mode.Value (surroundings_seen around.now).scope (added_seen added.old).exprs }
+    requires sound { IsSound mode.Value (surroundings_seen around.now).scope
+        (added_seen added.old).exprs }
     requires unit { is_unit (surroundings_seen around.now).scope.precision
         (surroundings_seen around.now).scope.unit ≡ true }
     ensures made { Makes
-        (system_labels (surroundings_seen around.now) id.now (map (option_map expr_tree) values.now) (show_task id.now.name) (added_seen added.old))
+        (system_labels (surroundings_seen around.now) id.now (map (option_map expr_tree) values.now)
+        (show_task id.now.name) (added_seen added.old))
         result (added_seen added.new) }
     ensures sound { OnOk result
         (IsSound mode.Value (surroundings_seen around.now).scope (added_seen added.new).exprs) }

@@ -46,7 +46,8 @@ fn no_call(alloc: Global) -> Calling
 // One input more.
 fn add_input(inputs: &mut Vec<Input>, variable: ObjId, value: ExprId) -> Result<(), NoMemory>
     ensures { OnOk result
-        (inputs.new.items ≡ inputs.old.items ++ record { variable = variable; value = value } ∷ []) }
+        (inputs.new.items ≡ inputs.old.items ++ record { variable = variable; value = value } ∷
+        []) }
 {
     inputs.push(Input { variable, value })?;
     Ok(())
@@ -55,7 +56,10 @@ fn add_input(inputs: &mut Vec<Input>, variable: ObjId, value: ExprId) -> Result<
 // One output more.
 fn add_output(outputs: &mut Vec<Output>, targets: Targets, variable: ObjId) -> Result<(), NoMemory>
     ensures { OnOk result
-        (outputs.new.items ≡ outputs.old.items ++ record { targets = targets; variable = variable } ∷ []) }
+        (outputs.new.items ≡ outputs.old.items ++ record {
+          targets = targets;
+          variable = variable;
+        } ∷ []) }
 {
     outputs.push(Output { targets, variable })?;
     Ok(())
@@ -70,11 +74,13 @@ fn with_input(
     variable: ObjId,
     value: &Expr,
 ) -> Result<(), LowerFault>
-    requires sound { IsSound mode.Value (surroundings_seen around.now).scope (added_seen added.old).exprs }
+    requires sound { IsSound mode.Value (surroundings_seen around.now).scope
+        (added_seen added.old).exprs }
     requires unit { is_unit (surroundings_seen around.now).scope.precision
         (surroundings_seen around.now).scope.unit ≡ true }
     ensures made { Calls
-        (with_input (surroundings_seen around.now) (calling_seen call.old) variable (expr_tree value.now) (added_seen added.old))
+        (with_input (surroundings_seen around.now) (calling_seen call.old) variable
+        (expr_tree value.now) (added_seen added.old))
         result (calling_seen call.new) (added_seen added.new) }
     ensures sound { OnOk result
         (IsSound mode.Value (surroundings_seen around.now).scope (added_seen added.new).exprs) }
@@ -93,11 +99,13 @@ fn with_output(
     variable: ObjId,
     target: &Expr,
 ) -> Result<(), LowerFault>
-    requires sound { IsSound mode.Value (surroundings_seen around.now).scope (added_seen added.old).exprs }
+    requires sound { IsSound mode.Value (surroundings_seen around.now).scope
+        (added_seen added.old).exprs }
     requires unit { is_unit (surroundings_seen around.now).scope.precision
         (surroundings_seen around.now).scope.unit ≡ true }
     ensures made { Calls
-        (with_output (surroundings_seen around.now) (calling_seen call.old) variable (expr_tree target.now) (added_seen added.old))
+        (with_output (surroundings_seen around.now) (calling_seen call.old) variable
+        (expr_tree target.now) (added_seen added.old))
         result (calling_seen call.new) (added_seen added.new) }
     ensures sound { OnOk result
         (IsSound mode.Value (surroundings_seen around.now).scope (added_seen added.new).exprs) }
@@ -117,11 +125,13 @@ fn with_argument(
     variable: ObjId,
     e: &Expr,
 ) -> Result<(), LowerFault>
-    requires sound { IsSound mode.Value (surroundings_seen around.now).scope (added_seen added.old).exprs }
+    requires sound { IsSound mode.Value (surroundings_seen around.now).scope
+        (added_seen added.old).exprs }
     requires unit { is_unit (surroundings_seen around.now).scope.precision
         (surroundings_seen around.now).scope.unit ≡ true }
     ensures made { Calls
-        (with_argument (surroundings_seen around.now) (calling_seen call.old) direction variable (expr_tree e.now) (added_seen added.old))
+        (with_argument (surroundings_seen around.now) (calling_seen call.old) direction variable
+        (expr_tree e.now) (added_seen added.old))
         result (calling_seen call.new) (added_seen added.new) }
     ensures sound { OnOk result
         (IsSound mode.Value (surroundings_seen around.now).scope (added_seen added.new).exprs) }
@@ -145,11 +155,13 @@ fn with_arguments(
     arguments: &[Argument],
     values: &[Expr],
 ) -> Result<(), LowerFault>
-    requires sound { IsSound mode.Value (surroundings_seen around.now).scope (added_seen added.old).exprs }
+    requires sound { IsSound mode.Value (surroundings_seen around.now).scope
+        (added_seen added.old).exprs }
     requires unit { is_unit (surroundings_seen around.now).scope.precision
         (surroundings_seen around.now).scope.unit ≡ true }
     ensures made { Calls
-        (with_arguments (surroundings_seen around.now) (calling_seen call.old) arguments.now (map expr_tree values.now) (added_seen added.old))
+        (with_arguments (surroundings_seen around.now) (calling_seen call.old) arguments.now
+        (map expr_tree values.now) (added_seen added.old))
         result (calling_seen call.new) (added_seen added.new) }
     ensures sound { OnOk result
         (IsSound mode.Value (surroundings_seen around.now).scope (added_seen added.new).exprs) }
@@ -201,11 +213,13 @@ pub(crate) fn task_labels(
     name: &Name<Expr>,
     values: &Items<Expr>,
 ) -> Result<Operations, LowerFault>
-    requires sound { IsSound mode.Value (surroundings_seen around.now).scope (added_seen added.old).exprs }
+    requires sound { IsSound mode.Value (surroundings_seen around.now).scope
+        (added_seen added.old).exprs }
     requires unit { is_unit (surroundings_seen around.now).scope.precision
         (surroundings_seen around.now).scope.unit ≡ true }
     ensures made { Makes
-        (task_labels (surroundings_seen around.now) (name_tree name.now) (map expr_tree values.now) (added_seen added.old))
+        (task_labels (surroundings_seen around.now) (name_tree name.now) (map expr_tree values.now)
+        (added_seen added.old))
         result (added_seen added.new) }
     ensures sound { OnOk result
         (IsSound mode.Value (surroundings_seen around.now).scope (added_seen added.new).exprs) }

@@ -129,7 +129,8 @@ pub fn selected_width(objects: &[ObjectInfo], selected: &Selected) -> u32
 
 // Whether it is signed: a select of digits isn't.
 fn selected_signed(objects: &[ObjectInfo], selected: &Selected) -> bool
-    ensures { result ≡ (is_whole selected.now.select && object_signed objects.now selected.now.of.object) }
+    ensures { result ≡ (is_whole selected.now.select && object_signed objects.now
+        selected.now.of.object) }
 {
     matches!(selected.select, Select::Whole) && object_signed(objects, selected.of.object)
 }

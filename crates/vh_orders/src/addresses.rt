@@ -16,7 +16,8 @@ fn is_canonical(digits: &[u8]) -> bool
 
 // The number that canonical decimal digits write.
 fn number_of(digits: &[u8]) -> Option<u64>
-    ensures { MatchOption result (IsNoNumber digits.now) (λ a. (a < 2 ^ 64) × (digits.now ≡ decimal a)) }
+    ensures { MatchOption result (IsNoNumber digits.now) (λ a. (a < 2 ^ 64) ×
+        (digits.now ≡ decimal a)) }
 {
     if !is_canonical(digits) {
         return None;

@@ -178,7 +178,8 @@ fn dotted<'t>(
     index: Option<Boxed<Expr>>,
     at: At<'t>,
 ) -> Read<'t, Path>
-    ensures { let part = names.dotted (expr_at standing calls) (index_by expr_tree index) (stem_tree stem) in
+    ensures { let part = names.dotted (expr_at standing calls) (index_by expr_tree index)
+        (stem_tree stem) in
         Reads path_tree depth part at.entry result }
 {
     let behind = at.take(Class::Is(Sign::Dot))?;
@@ -214,7 +215,8 @@ fn esel_bracket<'t>(
     calls: bool,
     at: At<'t>,
 ) -> Read<'t, (Place, Part<Expr>)>
-    ensures { Reads placed_part depth (bracket (names.esel (expr_at standing calls))) at.entry result }
+    ensures { Reads placed_part depth (bracket (names.esel (expr_at standing calls))) at.entry
+        result }
 {
     let (place, opened) = sign(Sign::LeftBracket, at)?;
     let (part, closing) = esel(alloc, depth, standing, calls, opened)?;
@@ -224,7 +226,8 @@ fn esel_bracket<'t>(
 
 // Whether a path goes on.
 fn path_goes(sel: bool, last: &Last, at: At<'_>) -> bool
-    ensures { result ≡ next_is (path_goes sel (last_tree last.now)) (tokens_seen at.entry.tokens.now) }
+    ensures { result ≡ next_is (path_goes sel (last_tree last.now))
+        (tokens_seen at.entry.tokens.now) }
 {
     match last {
         Last::Plain => {
@@ -249,7 +252,8 @@ fn plain_turn<'t>(
     stem: Stem,
     at: At<'t>,
 ) -> Read<'t, Path>
-    ensures { let part = names.path_turn (expr_at standing calls) sel names.plain (stem_tree stem) in
+    ensures { let part = names.path_turn (expr_at standing calls) sel names.plain (stem_tree stem)
+        in
         Reads path_tree depth part at.entry result }
 {
     if at.next_is(Class::Is(Sign::Dot)) {
@@ -301,7 +305,8 @@ fn path_turn<'t>(
     path: Path,
     at: At<'t>,
 ) -> Read<'t, Path>
-    ensures { let part = names.path_turn (expr_at standing calls) sel (last_tree path.last) (path_tree path) in
+    ensures { let part = names.path_turn (expr_at standing calls) sel (last_tree path.last)
+        (path_tree path) in
         Reads path_tree depth part at.entry result }
 {
     let Path { stem, last } = path;
@@ -529,7 +534,8 @@ fn braces_end<'t>(
     first: Boxed<Expr>,
     at: At<'t>,
 ) -> Read<'t, Boxed<Expr>>
-    ensures { Reads expr_tree depth (parts.braces_end calls place (expr_tree first)) at.entry result }
+    ensures { Reads expr_tree depth (parts.braces_end calls place (expr_tree first)) at.entry
+        result }
 {
     if at.next_is(Class::Is(Sign::LeftBrace)) {
         let (parts, rest) = repeated(alloc, depth, calls, at)?;
@@ -629,7 +635,8 @@ fn chain<'t>(
     first: Boxed<Expr>,
     at: At<'t>,
 ) -> Read<'t, Boxed<Expr>>
-    ensures { Reads expr_tree depth (parts.chain_tail level calls (expr_tree first)) at.entry result }
+    ensures { Reads expr_tree depth (parts.chain_tail level calls (expr_tree first)) at.entry
+        result }
 {
     let mut head = first;
     let mut rest = at;

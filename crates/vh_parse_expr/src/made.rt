@@ -33,7 +33,8 @@ pub fn then_sign<'t, T: Drop>(tree: T, sign: Sign, at: At<'t>) -> Read<'t, T>
 
 // The path with an index behind its last `ID`.
 pub(crate) fn indexed(stem: Stem, place: Place, index: Boxed<Expr>) -> Path
-    ensures { path_tree result ≡ names.with_bracket (stem_tree stem) place (trees.at (expr_tree index)) }
+    ensures { path_tree result ≡ names.with_bracket (stem_tree stem) place
+        (trees.at (expr_tree index)) }
 {
     let last = Last::Indexed(place, index);
     Path { stem, last }
@@ -55,7 +56,8 @@ pub(crate) fn reselected(
     second: Place,
     part: Part<Expr>,
 ) -> Path
-    ensures { path_tree result ≡ names.with_second (stem_tree stem) place (expr_tree index) second (part_tree part) }
+    ensures { path_tree result ≡ names.with_second (stem_tree stem) place (expr_tree index) second
+        (part_tree part) }
 {
     let last = Esel {
         place: second,

@@ -80,7 +80,8 @@ impl Last {
 
     // The select where there is one, in a box.
     fn into_sel(self, alloc: Global) -> Result<Option<Boxed<Sel<Expr>>>, Stop>
-        ensures { MatchResult result (λ s. sel_tree s ≡ sel_of (last_tree self)) (λ stop. stop ≡ Memory) }
+        ensures { MatchResult result (λ s. sel_tree s ≡ sel_of (last_tree self))
+            (λ stop. stop ≡ Memory) }
     {
         match self {
             Last::Plain => Ok(None),
@@ -95,7 +96,9 @@ impl Last {
 impl Stem {
     // The stem with another `ID`, the index staying with the one before it.
     pub(crate) fn then(self, index: Option<Boxed<Expr>>, id: Id) -> Result<Stem, Stop>
-        ensures { MatchResult result (λ s. stem_tree s ≡ with_step (stem_tree self) (index_by expr_tree index) id) (λ stop. stop ≡ Memory) }
+        ensures { MatchResult result
+            (λ s. stem_tree s ≡ with_step (stem_tree self) (index_by expr_tree index) id)
+            (λ stop. stop ≡ Memory) }
     {
         let Stem {
             mut front,
@@ -107,7 +110,10 @@ impl Stem {
 
     // A name of its steps, the index of the last one apart.
     fn into_name(self, alloc: Global, index: Option<Boxed<Expr>>) -> Result<Name<Expr>, Stop>
-        ensures { MatchResult result (λ n. name_tree n ≡ name_by (map step_tree self.front) self.id (index_by expr_tree index)) (λ stop. stop ≡ Memory) }
+        ensures { MatchResult result
+            (λ n. name_tree n ≡
+            name_by (map step_tree self.front) self.id (index_by expr_tree index))
+            (λ stop. stop ≡ Memory) }
     {
         let Stem { mut front, id } = self;
         let last = Step { id, index };
@@ -145,7 +151,8 @@ impl Path {
     /// The path as a name: an index behind the last `ID` is the name's, and a select is dropped. It
     /// takes time in the number of steps.
     pub fn into_name(self, alloc: Global) -> Result<Name<Expr>, Stop>
-        ensures { MatchResult result (λ n. name_tree n ≡ whole_name (path_tree self)) (λ stop. stop ≡ Memory) }
+        ensures { MatchResult result (λ n. name_tree n ≡ whole_name (path_tree self))
+            (λ stop. stop ≡ Memory) }
     {
         self.stem.into_name(alloc, self.last.into_index())
     }

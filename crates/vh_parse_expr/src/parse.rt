@@ -61,7 +61,9 @@ pub fn parse_expr(
     // and it is an expression of them exactly by the grammar's cases.
     ensures spelled { let levels = suc (MOST_LEVELS - depth) in
         let ts = map token_seen (drop from tokens.now.items) in
-        IfOk result (λ e. ReadsAt grammar levels (expr calls) (expr_tree e.0) ts (map token_seen (drop e.1 tokens.now.items))) }
+        IfOk result
+        (λ e. ReadsAt grammar levels (expr calls) (expr_tree e.0) ts
+        (map token_seen (drop e.1 tokens.now.items))) }
 {
     syntax_laws();
     let all = tokens.as_slice();

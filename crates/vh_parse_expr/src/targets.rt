@@ -143,7 +143,8 @@ pub fn braced<'t>(alloc: Global, depth: usize, calls: bool, at: At<'t>) -> Read<
 
 /// A single target: the path with what could be its select.
 pub fn single(alloc: Global, path: Path) -> Result<Lv, Stop>
-    ensures { MatchResult result (λ l. lv_tree l ≡ names.single (path_tree path)) (λ stop. stop ≡ Memory) }
+    ensures { MatchResult result (λ l. lv_tree l ≡ names.single (path_tree path))
+        (λ stop. stop ≡ Memory) }
 {
     let (name, sel) = path.into_selected(alloc)?;
     let place = name.get().first.id.place;

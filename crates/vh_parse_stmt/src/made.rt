@@ -38,7 +38,8 @@ pub(crate) fn assign(
     delay: Option<Boxed<Delay>>,
     value: Expr,
 ) -> Result<Boxed<Stmt>, Stop>
-    ensures { let made = parts.assign_stmt (lv_tree target) word (option_map delay_tree delay, expr_tree value) in
+    ensures { let made = parts.assign_stmt (lv_tree target) word
+        (option_map delay_tree delay, expr_tree value) in
         MatchResult result (λ s. stmt_tree s ≡ made) (λ stop. stop ≡ Memory) }
 {
     let place = target.place;
@@ -133,7 +134,8 @@ pub(crate) fn chosen(
     holds: Boxed<Stmt>,
     fails: Option<Boxed<Stmt>>,
 ) -> Result<Boxed<Stmt>, Stop>
-    ensures { let made = parts.if_of place (expr_tree test, (stmt_tree holds, option_map stmt_tree fails)) in
+    ensures { let made = parts.if_of place
+        (expr_tree test, (stmt_tree holds, option_map stmt_tree fails)) in
         MatchResult result (λ s. stmt_tree s ≡ made) (λ stop. stop ≡ Memory) }
 {
     let form = match fails {

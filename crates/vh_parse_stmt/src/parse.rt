@@ -45,7 +45,8 @@ pub fn parse_stmt(
 ) -> Result<(Boxed<Stmt>, usize), ParseFault>
     requires levels { depth ≤ MOST_LEVELS }
     // The answer is the table's for the tokens, with the levels that are left.
-    ensures answer { let answer = statement_answer (MOST_LEVELS - depth) inside (map token_seen tokens.now) in
+    ensures answer { let answer = statement_answer (MOST_LEVELS - depth) inside
+        (map token_seen tokens.now) in
         IsParsed tokens.now after answer result }
 {
     let words = words(alloc, tokens)?;

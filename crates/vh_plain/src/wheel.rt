@@ -98,7 +98,8 @@ impl PlainWheel {
         requires later { self.old.present ≤ time }
         requires least { IfSome (least_time self.old.entries) (λ t. time ≤ t) }
         ensures taken { Takes time result self.old self.new }
-        ensures held { IfSome result (λ _. held_in self.new.entries + 1 ≡ held_in self.old.entries) }
+        ensures held { IfSome result
+            (λ _. held_in self.new.entries + 1 ≡ held_in self.old.entries) }
     {
         let due = self.first_due(time);
         self.present = time;

@@ -121,8 +121,10 @@ impl Index {
 // How many start entries of a time stand up to a serial, with those without a time that have got it. It goes
 // over them.
 pub(crate) fn count_start(index: &Index, time: u64, own: u64, marks: &Marks) -> usize
-    requires { count_start time own marks.now (index.now).plain (index.now).updates (index.now).untimed < 2 ^ 32 }
-    ensures { result ≡ count_start time own marks.now (index.now).plain (index.now).updates (index.now).untimed }
+    requires { count_start time own marks.now (index.now).plain (index.now).updates
+        (index.now).untimed < 2 ^ 32 }
+    ensures { result ≡ count_start time own marks.now (index.now).plain (index.now).updates
+        (index.now).untimed }
 {
     let plain = count_of(&index.plain, time, Region::Start as u8, 0, own);
     let updates = count_of(&index.updates, time, Region::Start as u8, 0, own);

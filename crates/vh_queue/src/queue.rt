@@ -42,7 +42,11 @@ impl Model for Queue {
 
     ghost Value = { Events };
 
-    ghost view = { λ q. record { entries = all_seen q.time q.marks (values_of q.entries); next = q.next; time = q.time } };
+    ghost view = { λ q. record {
+      entries = all_seen q.time q.marks (values_of q.entries);
+      next = q.next;
+      time = q.time;
+    } };
 
     ghost invariant = { λ q. Holds q.next q.time q.marks q.starts q.ready q.entries q.index };
 }
@@ -162,7 +166,8 @@ impl Queue {
 
     // The first start entry that is due.
     fn first_start(&self) -> Option<u64>
-        ensures { result ≡ least_serial (filter (is_due Region.Start self.now.time) self.now.entries) }
+        ensures { result ≡ least_serial
+            (filter (is_due Region.Start self.now.time) self.now.entries) }
     {
         let rank = Region::Start as u8;
         let plain = first_of(&self.index.plain, self.time, rank, 0, self.next);
@@ -173,7 +178,8 @@ impl Queue {
 
     // The last one.
     fn last_start(&self) -> Option<u64>
-        ensures { result ≡ greatest_serial (filter (is_due Region.Start self.now.time) self.now.entries) }
+        ensures { result ≡ greatest_serial
+            (filter (is_due Region.Start self.now.time) self.now.entries) }
     {
         let rank = Region::Start as u8;
         let plain = last_of(&self.index.plain, self.time, rank, 0, self.next);

@@ -62,7 +62,8 @@ impl Names {
         name: &[u8],
         meaning: Meaning,
     ) -> Result<bool, NoMemory>
-        ensures fresh { IfOk result (λ fresh. fresh ≡ not (is_some (meaning_in self.old scope name.now))) }
+        ensures fresh { IfOk result
+            (λ fresh. fresh ≡ not (is_some (meaning_in self.old scope name.now))) }
         ensures names { IfOk result (λ fresh. self.new ≡ declared scope name.now meaning self.old) }
         ensures kept { OnErr result (self.new ≡ self.old) }
     {

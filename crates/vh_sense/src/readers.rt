@@ -238,7 +238,8 @@ fn note_code(d: &Design, code: &Code, readers: &mut [Readers]) -> Result<(), NoM
 // Those of the body of an object, where it is a task or function with one.
 fn note_body(d: &Design, o: ObjId, readers: &mut [Readers]) -> Result<(), NoMemory>
     requires { o < length d.now.objects }
-    ensures { OnOk result (Gathers d.now.exprs (statements_of_body (body_at d.now o)) readers.old readers.new) }
+    ensures { OnOk result
+        (Gathers d.now.exprs (statements_of_body (body_at d.now o)) readers.old readers.new) }
 {
     if d.object(o).detail.body().is_some() {
         note_code(d, d.body(o), readers)?;
@@ -260,7 +261,8 @@ fn note_processes(d: &Design, readers: &mut [Readers]) -> Result<(), NoMemory>
 // Those of all tasks and functions.
 fn note_bodies(d: &Design, readers: &mut [Readers]) -> Result<(), NoMemory>
     ensures { OnOk result (Gathers d.now.exprs
-        (flat_map (λ o. statements_of_body (body_at d.now o)) (range_with_len 0 (length d.now.objects)))
+        (flat_map (λ o. statements_of_body (body_at d.now o))
+        (range_with_len 0 (length d.now.objects)))
         readers.old readers.new) }
 {
     for o in 0..d.counts().objects {
@@ -271,7 +273,8 @@ fn note_bodies(d: &Design, readers: &mut [Readers]) -> Result<(), NoMemory>
 
 /// For each object the force and assign statements that read it. It goes once over the design.
 pub(crate) fn readers_of(alloc: Global, d: &Design) -> Result<Vec<Readers>, NoMemory>
-    ensures { IfOk result (λ rs. (o : ℕ) → o < length d.now.objects → follows_at rs.items o ≡ followers d.now o) }
+    ensures { IfOk result (λ rs. (o : ℕ) → o < length d.now.objects →
+        follows_at rs.items o ≡ followers d.now o) }
 {
     let mut readers = empty_sets(alloc, d.counts().objects)?;
     note_processes(d, &mut readers)?;

@@ -34,7 +34,11 @@ impl Model for Sense {
 
     ghost Value = { Sensitivity };
 
-    ghost view = { λ s. record { waits = s.waits.items; readers = map follows_in s.readers.items; waiting = s.waiting.entries } };
+    ghost view = { λ s. record {
+      waits = s.waits.items;
+      readers = map follows_in s.readers.items;
+      waiting = s.waiting.entries;
+    } };
 
     ghost invariant = { λ s. Holds s.waits.items s.watchers.items s.waiting.entries };
 }

@@ -155,7 +155,8 @@ pub(crate) fn enter(
     requires holds { Holds waits.now watchers.old waiting.old.entries }
     requires free { get nat_cmp waiting.old p ≡ None }
     ensures holds { Holds waits.now watchers.new waiting.new.entries }
-    ensures added { OnOk result (waiting.new.entries ≡ insert_entry nat_cmp waiting.old.entries p number) }
+    ensures added { OnOk result
+        (waiting.new.entries ≡ insert_entry nat_cmp waiting.old.entries p number) }
     ensures kept { OnErr result (waiting.new.entries ≡ waiting.old.entries) }
 {
     let terms = waits[number as usize].terms.as_slice();

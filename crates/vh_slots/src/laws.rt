@@ -14,6 +14,7 @@ pub fn slots_laws<T>()
     ensures bounded { (limit first most : ℕ) (ms : List (Call T × Table T)) → first < GENERATIONS
         → IsRun (empty limit first) ms → HoldAtMost most ms
         → IsBounded first most (given_count ms) (end_of (empty limit first) ms) }
-    ensures room { (limit : ℕ) (ms : List (Call T × Table T)) → limit < 2 ^ 31 → IsRun (empty limit 0) ms
+    ensures room { (limit : ℕ) (ms : List (Call T × Table T)) → limit < 2 ^ 31 →
+        IsRun (empty limit 0) ms
         → given_count ms < 2 ^ 63 → length (end_of (empty limit 0) ms).cells < 2 ^ 32 - 1 }
 {}

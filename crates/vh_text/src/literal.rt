@@ -216,7 +216,8 @@ fn are_underscores(bytes: &[u8]) -> bool
 // A decimal number behind a base.
 fn number_value(size: Size, signed: bool, number: Option<Number>) -> Result<Vec4, LiteralFault>
     requires { HasWidth size }
-    ensures { (n : Option ℕ) → number ≡ option_map number_kept n → result ≡ number_value size signed n }
+    ensures { (n : Option ℕ) → number ≡ option_map number_kept n →
+        result ≡ number_value size signed n }
 {
     let Some(number) = number else {
         return Err(LiteralFault::Malformed);

@@ -138,7 +138,8 @@ fn letter(alloc: Global, v: &Vec4) -> Result<String, NoMemory>
 // `n` itself.
 fn negative_size(v: &Vec4, n: Plane) -> Option<Plane>
     requires { known_number v.now.digits ≡ Some n }
-    ensures value { integer_of v.now ≡ Some (option_map_or (λ size. neg_ℤ (pos size)) result (pos n)) }
+    ensures value { integer_of v.now ≡
+        Some (option_map_or (λ size. neg_ℤ (pos size)) result (pos n)) }
     ensures positive { IfSome result (λ size. 0 < size) }
 {
     let width = v.width();

@@ -27,7 +27,12 @@ impl Model for Thread {
 
     ghost Value = { Control };
 
-    ghost view = { λ t. record { root = t.root; outer = t.outer; calls = reverse t.calls.items; repeats = reverse t.repeats.items } };
+    ghost view = { λ t. record {
+      root = t.root;
+      outer = t.outer;
+      calls = reverse t.calls.items;
+      repeats = reverse t.repeats.items;
+    } };
 
     ghost invariant = { λ t. (t.outer ≤ 256) × (t.outer + length t.calls.items ≤ 257) };
 }

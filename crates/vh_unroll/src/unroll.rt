@@ -290,7 +290,8 @@ fn open_turn(
 ) -> Result<u32, NoMemory>
     ensures number { IfOk result (λ n. n ≡ length (unrolling_seen state.old).known.objects) }
     ensures opened { OnOk result (unrolling_seen state.new
-        ≡ Constructs.opened (home_of instance.entry) (tree_of instance.entry) looping.now.scope place
+        ≡ Constructs.opened (home_of instance.entry) (tree_of instance.entry) looping.now.scope
+        place
         (block_name_seen name.entry)
         (Constructs.genvar_of looping.now.declaring id.now value.now ∷ [])
         (Items.items (map item_tree items.now)) (unrolling_seen state.old)) }

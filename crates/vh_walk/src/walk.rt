@@ -146,7 +146,8 @@ fn add_waiting<'a, 'b>(
     children: &mut Children<'a, 'b>,
 ) -> Result<(), NoMemory>
     ensures { OnOk result (children_seen children.new
-        ≡ Order.with_child (children_seen children.old) (Order.waiting_for scope (inst_tree inst.now)
+        ≡ Order.with_child (children_seen children.old)
+        (Order.waiting_for scope (inst_tree inst.now)
         (module_tree ports.now) (overrides (scope_at (home_seen home.entry)
         (known_seen known.now) scope) place (module_tree ports.now)
         (map conn_tree parameters.now)))) }
@@ -249,7 +250,8 @@ fn children_of<'a, 'b>(
 ) -> Result<Children<'a, 'b>, NoMemory>
     requires { IsSource modules }
     ensures { IfOk result (λ cs. children_seen cs
-        ≡ Order.children_of (source_seen modules.entry) (home_seen home.entry) (known_seen known.now)
+        ≡ Order.children_of (source_seen modules.entry) (home_seen home.entry)
+        (known_seen known.now)
         (all_seen sites.now) fault) }
 {
     let mut children = Children {
@@ -379,7 +381,8 @@ fn check_instance<'a>(
     words: u64,
 ) -> Result<Checked, NoMemory>
     ensures { IfOk result (λ c. checked_seen c
-        ≡ checked (home_seen home.entry) (instance_object (module_tree next.now.ports.now) next.now.name.now
+        ≡ checked (home_seen home.entry)
+        (instance_object (module_tree next.now.ports.now) next.now.name.now
         next.now.place next.now.scope) (all_seen sites.now)
         (with_instance (waiting_seen next.now) (known_seen known)) words) }
 {

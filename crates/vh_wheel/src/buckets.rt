@@ -84,8 +84,10 @@ impl Buckets {
     // The first node of a bucket; `None` where it is empty.
     pub fn first(&self, bucket: u32) -> Option<u32>
         requires { bucket < 2049 }
-        ensures some { IfSome result (λ x. (x < length self.now) × (bucket_at self.now x ≡ bucket)) }
-        ensures none { result ≡ None → (x : ℕ) → x < length self.now → bucket_at self.now x ≢ bucket }
+        ensures some { IfSome result (λ x. (x < length self.now) ×
+            (bucket_at self.now x ≡ bucket)) }
+        ensures none { result ≡ None → (x : ℕ) → x < length self.now →
+            bucket_at self.now x ≢ bucket }
     {
         self.links.first(bucket)
     }

@@ -96,7 +96,8 @@ impl Wheel {
         requires later { self.old.present ≤ time }
         requires least { IfSome (least_time self.old.entries) (λ t. time ≤ t) }
         ensures taken { Takes time result self.old self.new }
-        ensures held { IfSome result (λ _. held_in self.new.entries + 1 ≡ held_in self.old.entries) }
+        ensures held { IfSome result
+            (λ _. held_in self.new.entries + 1 ≡ held_in self.old.entries) }
         ensures steps { steps.new + moves_left self.new ≤ steps.old + 2048 + moves_left self.old }
         ensures each { (t : ℕ) → time ≤ t → moves_of time t ≤ moves_of self.old.present t }
     {
@@ -112,7 +113,8 @@ impl Wheel {
 fn free(buckets: &mut Buckets, number: u32) -> u64
     requires { number < length buckets.old }
     ensures payload { result ≡ (node_at buckets.old number).payload }
-    ensures freed { buckets.new ≡ slice_set buckets.old number (with_bucket 2048 (node_at buckets.old number)) }
+    ensures freed { buckets.new ≡
+        slice_set buckets.old number (with_bucket 2048 (node_at buckets.old number)) }
 {
     let node = buckets.get(number);
     buckets.put(
@@ -133,7 +135,8 @@ fn advance<L: Ledger>(buckets: &mut Buckets, now: u64, time: u64, steps: &mut St
     requires placed { ArePlaced now buckets.old }
     ensures entries { entries_of buckets.new ≡ entries_of buckets.old }
     ensures placed { ArePlaced time buckets.new }
-    ensures steps { steps.new + moves_of_all buckets.new ≤ steps.old + 1 + moves_of_all buckets.old }
+    ensures steps { steps.new + moves_of_all buckets.new ≤ steps.old + 1 + moves_of_all
+        buckets.old }
 {
     steps.tick();
     let bucket = bucket_of(now, time);
