@@ -2,7 +2,7 @@
 use Rattle.std.specs.Prelude.{ℕ, List, [], ◌∷◌}
 use Rattle.vh_base.specs.declared.place.Place.{Place}
 use Rattle.vh_ast.specs.declared.token.Id.{Id}
-use Rattle.vh_ast.specs.declared.token.Number.{Number}
+use Rattle.vh_lex.specs.declared.token.Number.{Number}
 use Rattle.vh_ast.specs.declared.operator.Unary.{Unary}
 use Rattle.vh_ast.specs.declared.operator.Binary.{Binary}
 

@@ -2,10 +2,11 @@ ghost use Rattle.std.specs.Prelude.{◌≡◌, IfOk};
 
 use crate::name::{Name, Sel};
 use crate::operator::{Binary, Unary};
-use crate::token::{Id, Number};
+use crate::token::Id;
 use sqlite_items::{Boxed, Items};
 use std::alloc::Global;
 use vh_base::{NoMemory, Place};
+use vh_lex::Number;
 use vh_shared::SharedBytes;
 
 /// `prim`, over expressions `E` (IEEE 1364-2005, 5.2 and Annex A.8.4). A name and a select stand in boxes,

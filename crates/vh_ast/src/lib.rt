@@ -7,9 +7,9 @@
 //! [`held`] looks into a box that may be absent. A chain of operators, a target's braces and `generate`
 //! regions are flat: a tree is as deep as what the depth limit counts.
 //!
-//! It stands on `vh_base` for texts and places, on `vh_logic` for the values of numbers, on `vh_lex`
-//! for what the directives before a module set, and on `sqlite_items` for lists and boxes that a type
-//! may hold itself in.
+//! It stands on `vh_base` for places, on `vh_shared` for names and texts, on `vh_lex` for numbers and for
+//! what the directives before a module set, and on `sqlite_items` for lists and boxes that a type may
+//! hold itself in.
 #![tactic(auto)]
 
 mod boxed;
@@ -47,4 +47,5 @@ pub use stmt::{
 };
 pub use target::{Lv, LvPart, Set};
 pub use timing::{Delay, DelayValue, Edge, Ev, Event};
-pub use token::{Id, Ids, Number};
+pub use token::{Id, Ids};
+pub use vh_lex::Number;

@@ -1,8 +1,9 @@
 use crate::expr::Expr;
 use crate::name::Name;
-use crate::token::{Id, Number};
+use crate::token::Id;
 use sqlite_items::Items;
 use vh_base::Place;
+use vh_lex::Number;
 
 /// What stands behind the `#` of a delay.
 #[derive(Drop)]

@@ -1,6 +1,5 @@
 use sqlite_items::Items;
 use vh_base::Place;
-use vh_logic::Vec4;
 use vh_shared::SharedBytes;
 
 /// `ID` or `SYS`: a name or a system name (IEEE 1364-2005, 3.7).
@@ -12,11 +11,3 @@ pub struct Id {
 
 /// `ids = ID { "," ID }`
 pub type Ids = Items<Id>;
-
-/// `NUMBER` (IEEE 1364-2005, 3.5.1).
-#[derive(Clone, Copy)]
-pub struct Number {
-    pub value: Vec4,
-    /// Whether a size was written.
-    pub sized: bool,
-}

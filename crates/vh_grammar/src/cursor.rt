@@ -8,12 +8,12 @@ ghost use Rattle.vh_grammar.specs.Says.{Passes, Stops};
 
 use crate::Stop;
 use std::alloc::AllocError;
+use std::marker::PhantomData;
 
-/// A token of a parser: it may hold what it borrows, since the grammar's table sees it by `seen`.
-pub trait Token {
-    /// The classes by which choices are made, as the grammar's terminals.
-    type Class: Copy;
-
+/// A token of a parser: it may hold what it borrows, since the grammar's table sees it by `seen`. `C` are
+/// the classes by which choices are made, as the grammar's terminals; a parser that reads the tokens of
+/// another crate brings its own.
+pub trait Token<C: Copy> {
     /// The tokens of the grammar's table.
     ghost Seen: { Type 0 };
     /// The token, as the table sees it.
@@ -21,10 +21,10 @@ pub trait Token {
     /// The words that stand in no production.
     ghost word: { Seen → Bool };
     /// The tokens of a class.
-    ghost has: { Self.Class → Seen → Bool };
+    ghost has: { C → Seen → Bool };
 
     /// Whether the token is of the class.
-    fn is(&self, class: Self::Class) -> bool
+    fn is(&self, class: C) -> bool
         ensures { result ≡ has class (seen self.now) };
 
     /// Whether the token is a word that stands in no production.
@@ -32,49 +32,55 @@ pub trait Token {
         ensures { result ≡ word (seen self.now) };
 }
 
-/// The tokens that a parser has still to read, and the first place of what was shown to be left out, as
-/// the number of tokens that were left there: 0 where nothing was.
-pub struct Cursor<'t, T> {
+/// The tokens that a parser has still to read, by classes `C`, and the first place of what was shown to be
+/// left out, as the number of tokens that were left there: 0 where nothing was.
+pub struct Cursor<'t, T, C> {
     pub tokens: &'t [T],
     pub mark: usize,
+    classes: PhantomData<C>,
 }
 
-impl<'t, T> Clone for Cursor<'t, T> {
+impl<'t, T, C> Clone for Cursor<'t, T, C> {
     ghost is_clone = { λ x y. y ≡ x };
 
     ghost is_infallible = { λ _. ⊤ };
 
-    fn clone(&self) -> Result<Cursor<'t, T>, AllocError> {
+    fn clone(&self) -> Result<Cursor<'t, T, C>, AllocError> {
         Ok(*self)
     }
 }
 
-impl<'t, T> Copy for Cursor<'t, T> {}
+impl<'t, T, C> Copy for Cursor<'t, T, C> {}
 
-impl<'t, T> Cursor<'t, T> {
+impl<'t, T, C> Cursor<'t, T, C> {
     /// The cursor before all tokens.
-    pub fn new(tokens: &'t [T]) -> Cursor<'t, T>
+    pub fn new(tokens: &'t [T]) -> Cursor<'t, T, C>
         ensures tokens { result.tokens.now ≡ tokens.now }
         ensures mark { result.mark ≡ 0 }
     {
-        Cursor { tokens, mark: 0 }
+        Cursor {
+            tokens,
+            mark: 0,
+            classes: PhantomData,
+        }
     }
 
     /// The cursor behind these tokens.
-    pub fn before(self, tokens: &'t [T]) -> Cursor<'t, T>
+    pub fn before(self, tokens: &'t [T]) -> Cursor<'t, T, C>
         ensures tokens { result.tokens.now ≡ tokens.now }
         ensures mark { result.mark ≡ self.entry.mark }
     {
         Cursor {
             tokens,
             mark: self.mark,
+            classes: PhantomData,
         }
     }
 }
 
-impl<'t, T: Token> Cursor<'t, T> {
+impl<'t, T: Token<C>, C: Copy> Cursor<'t, T, C> {
     /// The cursor, where a token was or wasn't seen that shows what begins at `start` to be left out.
-    pub fn marked(self, start: &[T], shown: bool) -> Cursor<'t, T>
+    pub fn marked(self, start: &[T], shown: bool) -> Cursor<'t, T, C>
         ensures tokens { result.tokens.now ≡ self.entry.tokens.now }
         ensures mark { result.mark ≡ mark_at (map T.seen start.now) shown self.entry.mark }
     {
@@ -86,11 +92,12 @@ impl<'t, T: Token> Cursor<'t, T> {
         Cursor {
             tokens: self.tokens,
             mark,
+            classes: PhantomData,
         }
     }
 
     /// Whether a token of the class is next.
-    pub fn next_is(self, class: T::Class) -> bool
+    pub fn next_is(self, class: C) -> bool
         ensures { result ≡ next_is (T.has class) (map T.seen self.entry.tokens.now) }
     {
         match self.tokens {
@@ -117,7 +124,7 @@ impl<'t, T: Token> Cursor<'t, T> {
     }
 
     /// The cursor behind a token of the class.
-    pub fn take(self, class: T::Class) -> Result<Cursor<'t, T>, Stop>
+    pub fn take(self, class: C) -> Result<Cursor<'t, T, C>, Stop>
         ensures { Passes T.seen tt
             (marked_token T.word (only_means (T.has class)) (map T.seen self.entry.tokens.now)
             self.entry.mark) result }

@@ -1,5 +1,5 @@
 -- The operators and marks, and the longest of them with which bytes begin.
-use Rattle.std.specs.Prelude.{ℕ, List, [], ◌∷◌, Option, codes, nat_eq}
+use Rattle.std.specs.Prelude.{ℕ, List, [], ◌∷◌, Option, codes, ◌==◌}
 use Rattle.std.specs.List.{find, starts_with}
 use Rattle.vh_lex.specs.declared.mark.Mark.{Mark}
 use Rattle.vh_lex.specs.declared.mark.Mark.TheVariants as mark
@@ -57,4 +57,4 @@ mark_rows =
 
 -- the longest mark with which bytes begin, and how many bytes it has (3.4)
 abbrev pub mark_at : List ℕ → Option (List ℕ × Mark)
-mark_at bytes = find (λ row. starts_with nat_eq bytes row.0) mark_rows
+mark_at bytes = find (λ row. starts_with ◌==◌ bytes row.0) mark_rows

@@ -53,7 +53,7 @@ based_len bytes = based_len_by (base_len bytes) bytes
 
 -- a number by its value, or L4 at its first byte (3.5.1)
 abbrev pub valued : Result Vector LiteralFault → Bool → ℕ → Piece
-valued (Ok value) is_sized len = Kept (Token (Number value is_sized)) len
+valued (Ok value) is_sized len = Kept (Token (Number (record { value = value; sized = is_sized }))) len
 valued (Err fault) is_sized len = Fault L4 0
 
 -- a number of so many bytes

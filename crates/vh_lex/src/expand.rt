@@ -107,8 +107,6 @@ fn copied_kind(alloc: Global, kind: &Kind) -> Result<Kind, NoMemory>
         Kind::Name(name) => Ok(Kind::Name(name.share()?)),
         Kind::SysName(name) => Ok(Kind::SysName(name.share()?)),
         Kind::Text(text) => Ok(Kind::Text(text.share()?)),
-        Kind::Number(value, is_sized) => {
-            Ok(Kind::Number(Boxed::new(alloc, *value.get())?, *is_sized))
-        },
+        Kind::Number(number) => Ok(Kind::Number(Boxed::new(alloc, *number.get())?)),
     }
 }

@@ -45,4 +45,4 @@ pub use laws::{lex_laws, text_laws};
 pub use lexer::Lexer;
 pub use mark::Mark;
 pub use setting::{DefaultNet, Setting};
-pub use token::{Kind, Token};
+pub use token::{Kind, Number, Token};

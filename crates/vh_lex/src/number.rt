@@ -6,7 +6,7 @@ ghost use Rattle.vh_lex.specs.Numbers;
 
 use crate::bytes::{Class, after, begins, begins_digit, run_len};
 use crate::piece::{Part, Piece};
-use crate::token::Kind;
+use crate::token::{Kind, Number};
 use std::alloc::Global;
 use vh_base::{Boxed, DesignFault, NoMemory};
 use vh_text::read_literal;
@@ -40,8 +40,9 @@ fn number_of(alloc: Global, bytes: &[u8], is_sized: bool, len: usize) -> Result<
 {
     match read_literal(&bytes[..len]) {
         Ok(value) => {
-            let value = Boxed::new(alloc, value)?;
-            Ok(Piece::Kept(Part::Token(Kind::Number(value, is_sized)), len))
+            let sized = is_sized;
+            let number = Boxed::new(alloc, Number { value, sized })?;
+            Ok(Piece::Kept(Part::Token(Kind::Number(number)), len))
         }
         Err(_) => Ok(Piece::Fault(DesignFault::L4, 0)),
     }

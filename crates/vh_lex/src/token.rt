@@ -5,6 +5,14 @@ use vh_base::{Boxed, Place};
 use vh_logic::Vec4;
 use vh_shared::SharedBytes;
 
+/// A number (IEEE 1364-2005, 3.5.1).
+#[derive(Clone, Copy)]
+pub struct Number {
+    pub value: Vec4,
+    /// Whether a size was written.
+    pub sized: bool,
+}
+
 /// What a token is (IEEE 1364-2005, 3.1).
 #[derive(Drop)]
 pub enum Kind {
@@ -20,8 +28,8 @@ pub enum Kind {
     SysName(SharedBytes),
     /// A string, after its escapes.
     Text(SharedBytes),
-    /// A number, and whether a size was written.
-    Number(Boxed<Vec4>, bool),
+    /// A number, in a box, so that tokens are small.
+    Number(Boxed<Number>),
 }
 
 /// A token and where it stands. One that a macro gives stands where the outermost use does.

@@ -3,7 +3,7 @@ use std::fmt::Write;
 use std::process::Abort;
 use std::test::Fail;
 use vh_base::{DesignFault, Place};
-use vh_lex::{DefaultNet, Kind, LexFault, Lexer, Token};
+use vh_lex::{DefaultNet, Kind, LexFault, Lexer, Number, Token};
 
 // What the files come to, in one line: each token behind its line and column, or the fault and its
 // place, behind the number of its file where that is not 1.
@@ -75,12 +75,10 @@ fn push_kind(line: &mut String, kind: &Kind) -> Result<(), Fail> {
         Kind::Name(name) => push_bytes(line, name.as_slice())?,
         Kind::SysName(name) => push_bytes(line, name.as_slice())?,
         Kind::Text(text) => push_text(line, text.as_slice())?,
-        Kind::Number(value, is_sized) => push_number(
-            line,
-            value.get().number(),
-            value.get().width(),
-            *is_sized,
-        )?,
+        Kind::Number(number) => {
+            let Number { value, sized } = *number.get();
+            push_number(line, value.number(), value.width(), sized)?;
+        }
     }
     Ok(())
 }

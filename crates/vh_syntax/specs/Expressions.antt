@@ -9,7 +9,7 @@ use Rattle.std.specs.Prelude.{ℕ, zero, suc, Bool, true, false, not, ◌&&◌, 
 use Rattle.vh_base.specs.declared.place.Place.{Place}
 use Rattle.vh_grammar.specs.Part.{done, tok, seq, bind, act, alt, rep, unless, barred, opt, two, after, before}
 use Rattle.vh_ast.specs.declared.token.Id.{Id}
-use Rattle.vh_ast.specs.declared.token.Number.{Number}
+use Rattle.vh_lex.specs.declared.token.Number.{Number}
 use Rattle.vh_ast.specs.Expressions.{ExprTree, expr, number, text, system, paren, concat, repeat, exprs, unary_at, chained, chosen, named_at, called}
 use Rattle.vh_syntax.specs.declared.sign.Sign.TheVariants as sign
 use Rattle.vh_syntax.specs.Tokens.{is, is_name, is_system, is_text, is_number, in_rows, unary_rows, operator_at, shows_call, calls_in}

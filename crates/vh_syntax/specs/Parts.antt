@@ -3,7 +3,7 @@ use Rattle.std.specs.Prelude.{ℕ, Bool, List, None}
 use Rattle.vh_base.specs.declared.place.Place.{Place}
 use Rattle.vh_grammar.specs.Part.{Part, tok, only, rep, nested, unless, after, before, listed}
 use Rattle.vh_ast.specs.declared.token.Id.{Id}
-use Rattle.vh_ast.specs.declared.token.Number.{Number}
+use Rattle.vh_lex.specs.declared.token.Number.{Number}
 use Rattle.vh_ast.specs.Expressions.{ExprTree}
 use Rattle.vh_ast.specs.Statements.{StmtTree}
 use Rattle.vh_ast.specs.Items.{GblockTree}

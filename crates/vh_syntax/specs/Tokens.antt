@@ -8,7 +8,7 @@ use Rattle.vh_lex.specs.declared.token.Kind as lexed
 use Rattle.vh_lex.specs.declared.token.Kind.TheVariants as lexed_kind
 use Rattle.vh_lex.specs.declared.token.Token as lexed_token
 use Rattle.vh_ast.specs.declared.token.Id.{Id}
-use Rattle.vh_ast.specs.declared.token.Number.{Number}
+use Rattle.vh_lex.specs.declared.token.Number.{Number}
 use Rattle.vh_ast.specs.declared.operator.Unary.{Unary}
 use Rattle.vh_ast.specs.declared.operator.Unary.TheVariants as unary
 use Rattle.vh_ast.specs.declared.operator.Binary.{Binary}
@@ -42,7 +42,7 @@ terminal_of (lexed_kind.Mark mark) = fixed (mark_sign mark)
 terminal_of (lexed_kind.Name bytes) = name bytes
 terminal_of (lexed_kind.SysName bytes) = system bytes
 terminal_of (lexed_kind.Text bytes) = text bytes
-terminal_of (lexed_kind.Number value sized) = number value sized
+terminal_of (lexed_kind.Number n) = number n.value n.sized
 
 -- A token of the lexer, as the grammar sees it (own).
 abbrev pub token_seen : lexed_token.Token → Token
