@@ -5,7 +5,7 @@ ghost use Rattle.vh_grammar.specs.Part.{after};
 ghost use Rattle.vh_grammar.specs.Conditions.{Advances};
 ghost use Rattle.vh_grammar.specs.Marking.{joined_marks};
 ghost use Rattle.vh_grammar.specs.Says.{Says};
-ghost use Rattle.vh_syntax.specs.Classes.{word_seen};
+ghost use Rattle.vh_syntax.specs.Tokens.{token_seen};
 ghost use Rattle.vh_syntax.specs.declared.sign.Sign.TheVariants as sign;
 ghost use Rattle.vh_syntax.specs.Parts.{G, the, comma_list, comma_more};
 ghost use Rattle.vh_parse_expr.specs.Views.{Reads, read_from};
@@ -55,7 +55,7 @@ pub fn further<'t, T: Listed>(
     at: At<'t>,
 ) -> Read<'t, Items<T::Item>>
     ensures { let read = read_from depth (comma_more (T.part form)) at.entry in
-        Says word_seen (map T.view) (joined_marks (map T.view first) read) result }
+        Says token_seen (map T.view) (joined_marks (map T.view first) read) result }
 {
     let mut all = first;
     let mut rest = at;

@@ -11,6 +11,7 @@ use vh_ast::{DelayValue, Edge, Number};
 use vh_base::Place;
 use vh_lex::Kind;
 use vh_parse_expr::{At, Read};
+use vh_syntax::Word;
 
 // `NUMBER`, as that of a delay.
 pub(crate) fn delay_number<'t>(at: At<'t>) -> Read<'t, DelayValue>
@@ -19,7 +20,7 @@ pub(crate) fn delay_number<'t>(at: At<'t>) -> Read<'t, DelayValue>
     let [first, rest @ ..] = at.tokens else {
         return Err(at.lost());
     };
-    match &first.token.kind {
+    match &first.kind {
         Kind::Number(value, sized) => {
             let number = Number {
                 value: *value.get(),
@@ -38,8 +39,8 @@ pub(crate) fn edge<'t>(at: At<'t>) -> Read<'t, (Place, Edge)>
     let [first, rest @ ..] = at.tokens else {
         return Err(at.lost());
     };
-    match first.edge() {
-        Some(edge) => Ok(((first.token.place, edge), at.before(rest))),
+    match (Word { token: first }).edge() {
+        Some(edge) => Ok(((first.place, edge), at.before(rest))),
         None => Err(at.lost()),
     }
 }

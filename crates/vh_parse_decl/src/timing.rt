@@ -5,7 +5,7 @@ ghost use Rattle.vh_grammar.specs.Part.{only, after, listed};
 ghost use Rattle.vh_grammar.specs.Marking.{joined_marks};
 ghost use Rattle.vh_grammar.specs.Says.{Says};
 ghost use Rattle.vh_ast.specs.Views.{delay_value_tree, delay_tree, ev_tree, event_tree};
-ghost use Rattle.vh_syntax.specs.Classes.{word_seen};
+ghost use Rattle.vh_syntax.specs.Tokens.{token_seen};
 ghost use Rattle.vh_syntax.specs.Statements as parts;
 ghost use Rattle.vh_syntax.specs.Statements.{is_expr, is_or, ev};
 ghost use Rattle.vh_parse_expr.specs.Views.{Reads, read_from};
@@ -126,7 +126,7 @@ fn next_ev<'t>(alloc: Global, depth: usize, at: At<'t>) -> Read<'t, Ev>
 // `{ ( "or" | "," ) ev }`
 fn further_evs<'t>(alloc: Global, depth: usize, first: Items<Ev>, at: At<'t>) -> Read<'t, Items<Ev>>
     ensures { let read = read_from depth more_evs at.entry in
-        Says word_seen (map ev_tree) (joined_marks (map ev_tree first) read) result }
+        Says token_seen (map ev_tree) (joined_marks (map ev_tree first) read) result }
 {
     let mut all = first;
     let mut rest = at;

@@ -14,9 +14,8 @@ use Rattle.vh_grammar.proofs.MarkTurns.{marks_less, marks_end, joined_marks_turn
 use Rattle.vh_ast.specs.declared.operator.Binary.{Binary}
 use Rattle.vh_ast.specs.Expressions.{ExprTree, chained}
 use Rattle.vh_syntax.specs.declared.sign.Sign.TheVariants as sign
-use Rattle.vh_syntax.specs.declared.token.Word.{Word}
-use Rattle.vh_syntax.specs.Tokens.{Token, is, is_unused, operator_at}
-use Rattle.vh_syntax.specs.Classes.{word_seen}
+use Rattle.vh_lex.specs.declared.token.Token as lexed
+use Rattle.vh_syntax.specs.Tokens.{Token, token_seen, is, is_unused, operator_at}
 use Rattle.vh_syntax.specs.Parts.{the, comma_more}
 use Rattle.vh_syntax.specs.Names.{Path, Target, path_goes, path_turn, row_goes, row_turn}
 use Rattle.vh_syntax.specs.Expressions.{chain_tail, expression}
@@ -29,9 +28,9 @@ use Rattle.vh_parse_expr.specs.declared.expr.Standing.TheVariants as standing
 use Rattle.vh_parse_expr.specs.Pieces.{expr_at, steps_of, link_part, links_part, rows_of}
 use Rattle.vh_parse_expr.specs.Views.{tokens_seen}
 
--- with the code's words
-pub fewer : (us vs : List Word) → length (tokens_seen vs) < length (tokens_seen us) → length vs < length us
-fewer us vs l = omega (arith, length-map us word_seen, length-map vs word_seen)
+-- with the tokens before the code
+pub fewer : (us vs : List lexed.Token) → length (tokens_seen vs) < length (tokens_seen us) → length vs < length us
+fewer us vs l = omega (arith, length-map us token_seen, length-map vs token_seen)
 
 -- each repetition in an expression takes a token
 pub expr_at_advances : (s : Standing) (calls : Bool) → Advances (expr_at s calls)

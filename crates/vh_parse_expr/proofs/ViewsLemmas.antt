@@ -16,9 +16,8 @@ use Rattle.vh_ast.specs.Statements.{LvPartTree, LvTree}
 use Rattle.vh_base.specs.declared.place.Place.{Place}
 use Rattle.vh_ast.specs.Expressions.{name, steps}
 use Rattle.vh_ast.specs.Views.{expr_tree, name_tree, sel_tree, index_by, lv_part_tree}
-use Rattle.vh_syntax.specs.declared.token.Word.{Word}
-use Rattle.vh_syntax.specs.Tokens.{Token}
-use Rattle.vh_syntax.specs.Classes.{word_seen}
+use Rattle.vh_lex.specs.declared.token.Token as lexed
+use Rattle.vh_syntax.specs.Tokens.{Token, token_seen}
 use Rattle.vh_syntax.specs.Names.{name_by, lv_part, lv_of}
 use Rattle.vh_parse_expr.specs.Views.{step_tree, tokens_seen, pieces_seen}
 
@@ -46,12 +45,12 @@ stops_any A B fault left (suc mark) (stops.LeftOut n) e = cc
 stops_any A B fault left (suc mark) stops.Memory e = tt
 
 -- a word that doesn't mean it is refused
-pub stops_at : {A : Type 0} (word : Token → Bool) (meaning : Token → Option A) (all : List Word) (w : Word) (mark : ℕ) (s : Stop) → 1 ≤ length all → w ≡ get_or all 0 w → None ≡ meaning (word_seen w) →
+pub stops_at : {A : Type 0} (word : Token → Bool) (meaning : Token → Option A) (all : List lexed.Token) (w : lexed.Token) (mark : ℕ) (s : Stop) → 1 ≤ length all → w ≡ get_or all 0 w → None ≡ meaning (token_seen w) →
     Stops (refused {A = Unit {0}} word lost (tokens_seen all) mark) s → Stops (marked_token word meaning (tokens_seen all) mark) s
 stops_at word meaning [] w mark s h is none e = absurd (omega arith)
 stops_at {A} word meaning (u ∷ all) w mark s h is none e =
-    let n : None ≡ meaning (word_seen u) = none ∙ ap (λ x. meaning (word_seen x)) is in
-    subst (λ (o : Option A). Stops (taken_from word o (word_seen u) (tokens_seen all) mark) s) n
+    let n : None ≡ meaning (token_seen u) = none ∙ ap (λ x. meaning (token_seen x)) is in
+    subst (λ (o : Option A). Stops (taken_from word o (token_seen u) (tokens_seen all) mark) s) n
     (stops_any (Unit {0}) (A × ℕ) lost (length (tokens_seen (u ∷ all))) (mark_at (tokens_seen (u ∷ all)) (next_is word (tokens_seen (u ∷ all))) mark) s e)
 
 -- what stands in a row of targets

@@ -20,9 +20,9 @@ use Rattle.vh_ast.specs.declared.expr.Link.{Link}
 use Rattle.vh_ast.specs.declared.operator.Binary.{Binary}
 use Rattle.vh_ast.specs.Expressions.{ExprTree, IndexTree, PartTree}
 use Rattle.vh_ast.specs.Views.{expr_tree, link_tree, name_tree, sel_tree, step_by, part_by}
-use Rattle.vh_syntax.specs.declared.token.Word.{Word}
-use Rattle.vh_syntax.specs.Tokens.{Token, is_unused}
-use Rattle.vh_syntax.specs.Classes.{word_seen}
+use Rattle.vh_lex.specs.declared.token.Token as lexed
+use Rattle.vh_syntax.specs.declared.token.Class.{Class}
+use Rattle.vh_syntax.specs.Tokens.{Token, token_seen, is_unused}
 use Rattle.vh_syntax.specs.Parts.{G}
 use Rattle.vh_syntax.specs.Grammar.{grammar}
 use Rattle.vh_syntax.specs.Names as names
@@ -32,17 +32,21 @@ use Rattle.vh_parse_expr.specs.declared.name.Stem.{Stem}
 use Rattle.vh_parse_expr.specs.declared.name.Path.{Path}
 use Rattle.vh_parse_expr.specs.declared.targets.Row.{Row}
 
--- The words of a parser (own).
-abbrev pub tokens_seen : List Word → List Token
-tokens_seen = map word_seen
+-- The tokens before a parser (own).
+abbrev pub tokens_seen : List lexed.Token → List Token
+tokens_seen = map token_seen
+
+-- The cursor of a parser (own).
+abbrev pub At : Type 0
+At = Cursor lexed.Token Class
 
 -- What reading the part from the cursor on gives, with so many levels left (own).
-abbrev pub read_from : {A : Type 0} → ℕ → G A → Cursor Word → Out Token (A × ℕ)
+abbrev pub read_from : {A : Type 0} → ℕ → G A → At → Out Token (A × ℕ)
 read_from levels part at = marks is_unused grammar levels part (tokens_seen at.tokens.now) at.mark
 
 -- Reading the part from the cursor on, with so many levels left, gives what the code returns (own).
-abbrev pub Reads : {A X : Type 0} → (X → A) → ℕ → G A → Cursor Word → Result (X × Cursor Word) Stop → Type 0
-Reads view levels part at result = Says word_seen view (read_from levels part at) result
+abbrev pub Reads : {A X : Type 0} → (X → A) → ℕ → G A → At → Result (X × At) Stop → Type 0
+Reads view levels part at result = Says token_seen view (read_from levels part at) result
 
 -- It is a name of these bytes, where it stands (IEEE 1364-2005, 3.7).
 abbrev pub IsId : Id → Place → List ℕ → Type 0

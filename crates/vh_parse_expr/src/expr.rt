@@ -8,7 +8,7 @@ ghost use Rattle.vh_grammar.specs.Reading.{next_is};
 ghost use Rattle.vh_grammar.specs.Marking.{mark_at, joined_marks};
 ghost use Rattle.vh_grammar.specs.Says.{Says};
 ghost use Rattle.vh_ast.specs.Views.{expr_tree, index_by};
-ghost use Rattle.vh_syntax.specs.Classes.{word_seen};
+ghost use Rattle.vh_syntax.specs.Tokens.{token_seen};
 ghost use Rattle.vh_syntax.specs.Tokens.{shows_call, calls_in, named_in, open_systems};
 ghost use Rattle.vh_syntax.specs.Parts.{inner_expr, inner_operand, the, comma_list, comma_more};
 ghost use Rattle.vh_syntax.specs.Names as names;
@@ -381,7 +381,7 @@ fn more<'t>(
     at: At<'t>,
 ) -> Read<'t, Items<Expr>>
     ensures { let read = read_from depth (comma_more (expr_at standing calls)) at.entry in
-        Says word_seen exprs_seen (joined_marks (exprs_seen first) read) result }
+        Says token_seen exprs_seen (joined_marks (exprs_seen first) read) result }
 {
     let mut all = first;
     let mut rest = at;

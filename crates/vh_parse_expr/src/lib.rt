@@ -4,7 +4,7 @@
 //! The contract that the layer above uses: [`parse_expr`] answers what the table does for the tokens
 //! from one on, both ways, as a tree with the number of the token behind it, or as `S1`, `S2` or `S3`
 //! at its place. So it has the laws of `vh_syntax::syntax_laws`. Want of memory is the one free
-//! answer. A parser of statements reads by the functions beside it, over a `Cursor` of [`words`]: each
+//! answer. A parser of statements reads by the functions beside it, over a `Cursor` of tokens: each
 //! ensures one equation with the reading of its part (`Reads` of specs/Views.antt).
 //!
 //! It stands on `vh_lex` for its tokens, on `vh_ast` for the trees and on `vh_syntax` and `vh_grammar`
@@ -25,4 +25,4 @@ pub use made::then_sign;
 pub use name::{Last, Path, Stem};
 pub use parse::{MOST_LEVELS, parse_expr};
 pub use targets::{braced, single, target};
-pub use word::{At, Read, id, kept, sign, system_name, words};
+pub use word::{At, Read, id, kept, sign, system_name};

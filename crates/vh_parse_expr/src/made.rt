@@ -7,7 +7,7 @@ ghost use Rattle.vh_grammar.specs.Says.{Says};
 ghost use Rattle.vh_ast.specs.Views.{expr_tree, link_tree, name_tree};
 ghost use Rattle.vh_ast.specs.Expressions as trees;
 ghost use Rattle.vh_ast.specs.Expressions.{chosen, unary_at};
-ghost use Rattle.vh_syntax.specs.Classes.{word_seen};
+ghost use Rattle.vh_syntax.specs.Tokens.{token_seen};
 ghost use Rattle.vh_syntax.specs.Expressions.{paren_expr, repeat_expr, system_expr, named_expr};
 ghost use Rattle.vh_syntax.specs.Names as names;
 ghost use Rattle.vh_syntax.specs.Parts.{the};
@@ -25,7 +25,7 @@ use vh_syntax::{Class, Sign};
 /// What was read, where the sign stands behind it.
 pub fn then_sign<'t, T: Drop>(tree: T, sign: Sign, at: At<'t>) -> Read<'t, T>
     ensures tree { IfOk result (λ read. read.0 ≡ tree) }
-    ensures sign { Says word_seen (λ _. tt) (read_from 0 (the sign) at.entry) result }
+    ensures sign { Says token_seen (λ _. tt) (read_from 0 (the sign) at.entry) result }
 {
     let rest = at.take(Class::Is(sign))?;
     Ok((tree, rest))

@@ -11,28 +11,22 @@ ghost use Rattle.vh_parse_expr.specs.Views.{tokens_seen};
 
 use crate::expr::expression;
 use crate::fault::{ParseFault, fault_at};
-use crate::word::words;
 use std::alloc::Global;
 use vh_ast::Expr;
 use vh_base::Place;
 use vh_grammar::{Cursor, Stop};
 use vh_lex::Token;
-use vh_syntax::{Word, syntax_laws};
+use vh_syntax::syntax_laws;
 
 /// How many levels statements, blocks and expressions nest at most (own).
 pub const MOST_LEVELS: u32 = 200;
 
-// An expression of a front of the words, unless a construct is left out in it; and how many words
+// An expression of a front of the tokens, unless a construct is left out in it; and how many tokens
 // are left.
-fn read(
-    alloc: Global,
-    levels: usize,
-    calls: bool,
-    words: &[Word<'_>],
-) -> Result<(Expr, usize), Stop>
-    ensures { Answered (expression_answer levels calls (tokens_seen words.now)) result }
+fn read(alloc: Global, levels: usize, calls: bool, tokens: &[Token]) -> Result<(Expr, usize), Stop>
+    ensures { Answered (expression_answer levels calls (tokens_seen tokens.now)) result }
 {
-    let (expr, rest) = expression(alloc, levels, calls, Cursor::new(words))?;
+    let (expr, rest) = expression(alloc, levels, calls, Cursor::new(tokens))?;
     if rest.mark > 0 {
         return Err(Stop::LeftOut(rest.mark));
     }
@@ -68,9 +62,8 @@ pub fn parse_expr(
     syntax_laws();
     let all = tokens.as_slice();
     let rest = &all[from..];
-    let words = words(alloc, rest)?;
     let levels = (MOST_LEVELS - depth) as usize;
-    match read(alloc, levels, calls, words.as_slice()) {
+    match read(alloc, levels, calls, rest) {
         Ok((expr, left)) => Ok((expr, all.len() - left)),
         Err(stop) => Err(fault_at(rest, stop, after)),
     }

@@ -1,14 +1,14 @@
-//! The words that a parser reads, one at a time.
+//! The tokens that a parser reads, one at a time.
 
-ghost use Rattle.std.specs.Prelude.{◌≡◌, IfOk, MatchResult, map};
+ghost use Rattle.std.specs.Prelude.{◌≡◌, MatchResult};
 ghost use Rattle.vh_base.specs.declared.place.Place.{Place};
 ghost use Rattle.vh_grammar.specs.declared.stop.Stop.TheVariants.{Memory};
 ghost use Rattle.vh_grammar.specs.Part.{act, tok};
-ghost use Rattle.vh_syntax.specs.Tokens.{token_seen, operator_at, unary_rows};
+ghost use Rattle.vh_syntax.specs.Tokens.{operator_at, unary_rows};
 ghost use Rattle.vh_syntax.specs.Parts.{an_id, a_system, a_text, a_number, at_the, placed_row};
 ghost use Rattle.vh_ast.specs.Views.{expr_tree};
 ghost use Rattle.vh_syntax.specs.Expressions.{number_expr, text_expr};
-ghost use Rattle.vh_parse_expr.specs.Views.{Reads, IsId, tokens_seen};
+ghost use Rattle.vh_parse_expr.specs.Views.{Reads, IsId};
 
 use sqlite_items::Boxed;
 use std::alloc::Global;
@@ -19,22 +19,11 @@ use vh_lex::{Kind, Token};
 use vh_shared::SharedBytes;
 use vh_syntax::{Class, Sign, Word};
 
-/// The words before a parser, and what was shown to be left out.
-pub type At<'t> = Cursor<'t, Word<'t>>;
+/// The tokens before a parser, and what was shown to be left out.
+pub type At<'t> = Cursor<'t, Token, Class>;
 
 /// What a parser reads, and where it goes on.
 pub type Read<'t, T> = Result<(T, At<'t>), Stop>;
-
-/// The tokens as a parser reads them. It takes time and memory in their number.
-pub fn words(alloc: Global, tokens: &[Token]) -> Result<Vec<Word<'_>>, NoMemory>
-    ensures { IfOk result (λ all. tokens_seen all.items ≡ map token_seen tokens.now) }
-{
-    let mut all = Vec::new(alloc);
-    for token in tokens {
-        all.push(Word { token })?;
-    }
-    Ok(all)
-}
 
 /// What was made, where memory was had for it.
 pub fn kept<T>(made: Result<T, NoMemory>) -> Result<T, Stop>
@@ -61,8 +50,8 @@ pub fn id<'t>(at: At<'t>) -> Read<'t, Id>
     let [first, rest @ ..] = at.tokens else {
         return Err(at.lost());
     };
-    match &first.token.kind {
-        Kind::Name(name) => Ok((named(first.token.place, name)?, at.before(rest))),
+    match &first.kind {
+        Kind::Name(name) => Ok((named(first.place, name)?, at.before(rest))),
         _ => Err(at.lost()),
     }
 }
@@ -74,8 +63,8 @@ pub fn system_name<'t>(at: At<'t>) -> Read<'t, Id>
     let [first, rest @ ..] = at.tokens else {
         return Err(at.lost());
     };
-    match &first.token.kind {
-        Kind::SysName(name) => Ok((named(first.token.place, name)?, at.before(rest))),
+    match &first.kind {
+        Kind::SysName(name) => Ok((named(first.place, name)?, at.before(rest))),
         _ => Err(at.lost()),
     }
 }
@@ -87,10 +76,10 @@ pub(crate) fn text<'t>(alloc: Global, at: At<'t>) -> Read<'t, Boxed<Expr>>
     let [first, rest @ ..] = at.tokens else {
         return Err(at.lost());
     };
-    match &first.token.kind {
+    match &first.kind {
         Kind::Text(text) => {
             let text = kept(text.share())?;
-            let place = first.token.place;
+            let place = first.place;
             let form = ExprForm::Primary(Primary::Text(text));
             Ok((Boxed::new(alloc, Expr { place, form })?, at.before(rest)))
         }
@@ -105,9 +94,9 @@ pub(crate) fn number<'t>(alloc: Global, at: At<'t>) -> Read<'t, Boxed<Expr>>
     let [first, rest @ ..] = at.tokens else {
         return Err(at.lost());
     };
-    match &first.token.kind {
+    match &first.kind {
         Kind::Number(value, sized) => {
-            let place = first.token.place;
+            let place = first.place;
             let number = Number {
                 value: *value.get(),
                 sized: *sized,
@@ -127,7 +116,7 @@ pub fn sign<'t>(sign: Sign, at: At<'t>) -> Read<'t, Place>
     let [first, ..] = at.tokens else {
         return Err(at.lost());
     };
-    Ok((first.token.place, behind))
+    Ok((first.place, behind))
 }
 
 // A unary operator, and where it stands.
@@ -137,8 +126,8 @@ pub(crate) fn unary_sign<'t>(at: At<'t>) -> Read<'t, (Place, Unary)>
     let [first, rest @ ..] = at.tokens else {
         return Err(at.lost());
     };
-    match first.unary() {
-        Some(operator) => Ok(((first.token.place, operator), at.before(rest))),
+    match (Word { token: first }).unary() {
+        Some(operator) => Ok(((first.place, operator), at.before(rest))),
         None => Err(at.lost()),
     }
 }
@@ -150,7 +139,7 @@ pub(crate) fn operator<'t>(level: usize, at: At<'t>) -> Read<'t, Binary>
     let [first, rest @ ..] = at.tokens else {
         return Err(at.lost());
     };
-    match first.operator(level) {
+    match (Word { token: first }).operator(level) {
         Some(operator) => Ok((operator, at.before(rest))),
         None => Err(at.lost()),
     }

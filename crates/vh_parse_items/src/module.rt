@@ -26,8 +26,8 @@ fn module_word<'t>(at: At<'t>) -> Read<'t, (Place, Setting)>
     let [first, rest @ ..] = at.tokens else {
         return Err(at.lost());
     };
-    match first.token.kind {
-        Kind::Module(setting) => Ok(((first.token.place, setting), at.before(rest))),
+    match first.kind {
+        Kind::Module(setting) => Ok(((first.place, setting), at.before(rest))),
         _ => Err(at.lost()),
     }
 }

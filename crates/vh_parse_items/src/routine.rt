@@ -17,7 +17,7 @@ use vh_parse_decl::data_type;
 use vh_parse_expr::{At, Read, id, sign, then_sign};
 use vh_parse_parts::{locals, maybe_targs};
 use vh_parse_stmt::inner_statement;
-use vh_syntax::{Class, Group, Sign};
+use vh_syntax::{Class, Group, Sign, Word};
 
 // A task or function, but for the words around it.
 #[derive(Drop)]
@@ -102,8 +102,8 @@ fn process_word<'t>(at: At<'t>) -> Read<'t, (Place, ProcessWord)>
     let [first, rest @ ..] = at.tokens else {
         return Err(at.lost());
     };
-    match first.process_word() {
-        Some(word) => Ok(((first.token.place, word), at.before(rest))),
+    match (Word { token: first }).process_word() {
+        Some(word) => Ok(((first.place, word), at.before(rest))),
         None => Err(at.lost()),
     }
 }

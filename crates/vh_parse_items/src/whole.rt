@@ -15,14 +15,14 @@ use vh_ast::Source;
 use vh_base::Place;
 use vh_grammar::{Cursor, Stop};
 use vh_lex::Token;
-use vh_parse_expr::{MOST_LEVELS, ParseFault, fault_at, words};
-use vh_syntax::{Word, syntax_laws};
+use vh_parse_expr::{MOST_LEVELS, ParseFault, fault_at};
+use vh_syntax::syntax_laws;
 
-// The source that the words are, unless a construct is left out in it or they go on behind it.
-fn read(alloc: Global, words: &[Word<'_>]) -> Result<Source, Stop>
-    ensures { Accepts source_tree (source_answer (tokens_seen words.now)) result }
+// The source that the tokens are, unless a construct is left out in it or they go on behind it.
+fn read(alloc: Global, tokens: &[Token]) -> Result<Source, Stop>
+    ensures { Accepts source_tree (source_answer (tokens_seen tokens.now)) result }
 {
-    let (modules, rest) = modules(alloc, MOST_LEVELS as usize, Cursor::new(words))?;
+    let (modules, rest) = modules(alloc, MOST_LEVELS as usize, Cursor::new(tokens))?;
     let [] = rest.tokens else {
         return Err(rest.lost());
     };
@@ -43,8 +43,7 @@ pub fn parse(alloc: Global, tokens: &[Token], after: Place) -> Result<Source, Pa
         IfOk result (λ s. IsSource syntax_table MOST_LEVELS (source_tree s) ts) }
 {
     syntax_laws();
-    let words = words(alloc, tokens)?;
-    match read(alloc, words.as_slice()) {
+    match read(alloc, tokens) {
         Ok(source) => Ok(source),
         Err(stop) => Err(fault_at(tokens, stop, after)),
     }

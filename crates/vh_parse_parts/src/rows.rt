@@ -10,6 +10,7 @@ ghost use Rattle.vh_parse_expr.specs.Views.{Reads};
 use vh_ast::{Direction, GateType, NetType, ParameterWord, PortType, TaskDirection, Variable};
 use vh_base::Place;
 use vh_parse_expr::{At, Read};
+use vh_syntax::Word;
 
 // `"input" | "output"`
 pub(crate) fn direction<'t>(at: At<'t>) -> Read<'t, (Place, Direction)>
@@ -18,8 +19,8 @@ pub(crate) fn direction<'t>(at: At<'t>) -> Read<'t, (Place, Direction)>
     let [first, rest @ ..] = at.tokens else {
         return Err(at.lost());
     };
-    match first.direction() {
-        Some(direction) => Ok(((first.token.place, direction), at.before(rest))),
+    match (Word { token: first }).direction() {
+        Some(direction) => Ok(((first.place, direction), at.before(rest))),
         None => Err(at.lost()),
     }
 }
@@ -32,7 +33,7 @@ pub(crate) fn port_type<'t>(at: At<'t>) -> Read<'t, Option<PortType>>
     let [first, rest @ ..] = at.tokens else {
         return Ok((None, at));
     };
-    match first.port_type() {
+    match (Word { token: first }).port_type() {
         Some(port_type) => Ok((Some(port_type), at.before(rest))),
         None => Ok((None, at)),
     }
@@ -45,8 +46,8 @@ pub(crate) fn net_type<'t>(at: At<'t>) -> Read<'t, (Place, NetType)>
     let [first, rest @ ..] = at.tokens else {
         return Err(at.lost());
     };
-    match first.net_type() {
-        Some(net_type) => Ok(((first.token.place, net_type), at.before(rest))),
+    match (Word { token: first }).net_type() {
+        Some(net_type) => Ok(((first.place, net_type), at.before(rest))),
         None => Err(at.lost()),
     }
 }
@@ -58,8 +59,8 @@ pub(crate) fn task_direction<'t>(at: At<'t>) -> Read<'t, (Place, TaskDirection)>
     let [first, rest @ ..] = at.tokens else {
         return Err(at.lost());
     };
-    match first.task_direction() {
-        Some(direction) => Ok(((first.token.place, direction), at.before(rest))),
+    match (Word { token: first }).task_direction() {
+        Some(direction) => Ok(((first.place, direction), at.before(rest))),
         None => Err(at.lost()),
     }
 }
@@ -72,7 +73,7 @@ pub(crate) fn variable<'t>(at: At<'t>) -> Read<'t, Option<Variable>>
     let [first, rest @ ..] = at.tokens else {
         return Ok((None, at));
     };
-    match first.variable() {
+    match (Word { token: first }).variable() {
         Some(variable) => Ok((Some(variable), at.before(rest))),
         None => Ok((None, at)),
     }
@@ -85,8 +86,8 @@ pub(crate) fn gate_type<'t>(at: At<'t>) -> Read<'t, (Place, GateType)>
     let [first, rest @ ..] = at.tokens else {
         return Err(at.lost());
     };
-    match first.gate_type() {
-        Some(gate_type) => Ok(((first.token.place, gate_type), at.before(rest))),
+    match (Word { token: first }).gate_type() {
+        Some(gate_type) => Ok(((first.place, gate_type), at.before(rest))),
         None => Err(at.lost()),
     }
 }
@@ -98,8 +99,8 @@ pub(crate) fn parameter_word<'t>(at: At<'t>) -> Read<'t, (Place, ParameterWord)>
     let [first, rest @ ..] = at.tokens else {
         return Err(at.lost());
     };
-    match first.parameter_word() {
-        Some(word) => Ok(((first.token.place, word), at.before(rest))),
+    match (Word { token: first }).parameter_word() {
+        Some(word) => Ok(((first.place, word), at.before(rest))),
         None => Err(at.lost()),
     }
 }

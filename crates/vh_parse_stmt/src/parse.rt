@@ -12,20 +12,19 @@ use vh_ast::Stmt;
 use vh_base::Place;
 use vh_grammar::{Cursor, Stop};
 use vh_lex::Token;
-use vh_parse_expr::{MOST_LEVELS, ParseFault, fault_at, words};
-use vh_syntax::Word;
+use vh_parse_expr::{MOST_LEVELS, ParseFault, fault_at};
 
-// A statement of a front of the words, unless a construct is left out in it; and how many words are
+// A statement of a front of the tokens, unless a construct is left out in it; and how many tokens are
 // left.
 fn read(
     alloc: Global,
     levels: usize,
     inside: bool,
-    words: &[Word<'_>],
+    tokens: &[Token],
 ) -> Result<(Boxed<Stmt>, usize), Stop>
-    ensures { Answered (statement_answer levels inside (tokens_seen words.now)) result }
+    ensures { Answered (statement_answer levels inside (tokens_seen tokens.now)) result }
 {
-    let (stmt, rest) = inner_statement(alloc, levels, inside, Cursor::new(words))?;
+    let (stmt, rest) = inner_statement(alloc, levels, inside, Cursor::new(tokens))?;
     if rest.mark > 0 {
         return Err(Stop::LeftOut(rest.mark));
     }
@@ -49,9 +48,8 @@ pub fn parse_stmt(
         (map token_seen tokens.now) in
         IsParsed tokens.now after answer result }
 {
-    let words = words(alloc, tokens)?;
     let levels = (MOST_LEVELS - depth) as usize;
-    match read(alloc, levels, inside, words.as_slice()) {
+    match read(alloc, levels, inside, tokens) {
         Ok(read) => Ok(read),
         Err(stop) => Err(fault_at(tokens, stop, after)),
     }

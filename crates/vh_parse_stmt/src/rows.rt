@@ -7,6 +7,7 @@ ghost use Rattle.vh_parse_expr.specs.Views.{Reads};
 use vh_ast::{AssignWord, CaseWord, ForceWord, LoopWord, ReleaseWord};
 use vh_base::Place;
 use vh_parse_expr::{At, Read};
+use vh_syntax::Word;
 
 // `"=" | "<="`
 pub(crate) fn assign_word<'t>(at: At<'t>) -> Read<'t, AssignWord>
@@ -15,7 +16,7 @@ pub(crate) fn assign_word<'t>(at: At<'t>) -> Read<'t, AssignWord>
     let [first, rest @ ..] = at.tokens else {
         return Err(at.lost());
     };
-    match first.assign_word() {
+    match (Word { token: first }).assign_word() {
         Some(word) => Ok((word, at.before(rest))),
         None => Err(at.lost()),
     }
@@ -28,8 +29,8 @@ pub(crate) fn case_word<'t>(at: At<'t>) -> Read<'t, (Place, CaseWord)>
     let [first, rest @ ..] = at.tokens else {
         return Err(at.lost());
     };
-    match first.case_word() {
-        Some(word) => Ok(((first.token.place, word), at.before(rest))),
+    match (Word { token: first }).case_word() {
+        Some(word) => Ok(((first.place, word), at.before(rest))),
         None => Err(at.lost()),
     }
 }
@@ -41,8 +42,8 @@ pub(crate) fn loop_word<'t>(at: At<'t>) -> Read<'t, (Place, LoopWord)>
     let [first, rest @ ..] = at.tokens else {
         return Err(at.lost());
     };
-    match first.loop_word() {
-        Some(word) => Ok(((first.token.place, word), at.before(rest))),
+    match (Word { token: first }).loop_word() {
+        Some(word) => Ok(((first.place, word), at.before(rest))),
         None => Err(at.lost()),
     }
 }
@@ -54,8 +55,8 @@ pub(crate) fn force_word<'t>(at: At<'t>) -> Read<'t, (Place, ForceWord)>
     let [first, rest @ ..] = at.tokens else {
         return Err(at.lost());
     };
-    match first.force_word() {
-        Some(word) => Ok(((first.token.place, word), at.before(rest))),
+    match (Word { token: first }).force_word() {
+        Some(word) => Ok(((first.place, word), at.before(rest))),
         None => Err(at.lost()),
     }
 }
@@ -67,8 +68,8 @@ pub(crate) fn release_word<'t>(at: At<'t>) -> Read<'t, (Place, ReleaseWord)>
     let [first, rest @ ..] = at.tokens else {
         return Err(at.lost());
     };
-    match first.release_word() {
-        Some(word) => Ok(((first.token.place, word), at.before(rest))),
+    match (Word { token: first }).release_word() {
+        Some(word) => Ok(((first.place, word), at.before(rest))),
         None => Err(at.lost()),
     }
 }

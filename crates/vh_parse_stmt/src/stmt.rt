@@ -6,7 +6,7 @@ ghost use Rattle.vh_grammar.specs.Reading.{next_is};
 ghost use Rattle.vh_grammar.specs.Marking.{mark_at, joined_marks};
 ghost use Rattle.vh_grammar.specs.Says.{Says};
 ghost use Rattle.vh_ast.specs.Views.{stmt_tree, citem_tree};
-ghost use Rattle.vh_syntax.specs.Classes.{word_seen};
+ghost use Rattle.vh_syntax.specs.Tokens.{token_seen};
 ghost use Rattle.vh_syntax.specs.Statements as parts;
 ghost use Rattle.vh_syntax.specs.Statements.{shows_timing, inner_stmt, statement};
 ghost use Rattle.vh_parse_expr.specs.Views.{Reads, read_from, tokens_seen};

@@ -3,7 +3,8 @@
 ghost use Rattle.std.specs.Prelude.{◌≡◌};
 ghost use Rattle.vh_syntax.specs.Signs;
 ghost use Rattle.vh_syntax.specs.Signs.{one_of};
-ghost use Rattle.vh_syntax.specs.Tokens.{Token, sign_of, row_at, operator_at, is, is_any, is_name, is_system, is_text, is_number, is_call, is_unused, named_in, plain_systems, unary_rows, begins_expression};
+ghost use Rattle.vh_syntax.specs.Tokens;
+ghost use Rattle.vh_syntax.specs.Tokens.{token_seen, sign_of, row_at, operator_at, is, is_any, is_name, is_system, is_text, is_number, is_call, is_unused, named_in, plain_systems, unary_rows, begins_expression};
 ghost use Rattle.vh_syntax.specs.Declarations.{variable_rows};
 ghost use Rattle.vh_syntax.specs.Statements.{assign_rows, edge_rows, case_rows, loop_rows, force_rows, release_rows};
 ghost use Rattle.vh_syntax.specs.Items.{direction_rows, net_rows, port_type_rows, targ_rows, gate_rows, parameter_rows, process_rows};
@@ -91,7 +92,7 @@ pub enum Class {
     Call,
 }
 
-/// A token of the lexer, as a parser reads it.
+/// A token of the lexer, as a parser asks what it means.
 #[derive(Clone, Copy)]
 pub struct Word<'t> {
     pub token: &'t Token,
@@ -620,34 +621,33 @@ impl<'t> Word<'t> {
     }
 }
 
-impl<'t> vh_grammar::Token for Word<'t> {
-    type Class = Class;
+impl vh_grammar::Token<Class> for Token {
+    ghost Seen = { Tokens.Token };
 
-    ghost Seen = { Token };
-
-    ghost seen = { word_seen };
+    ghost seen = { token_seen };
 
     ghost word = { is_unused };
 
     ghost has = { has };
 
     fn is(&self, class: Class) -> bool {
+        let word = Word { token: self };
         match class {
-            Class::Is(sign) => self.is_sign(sign),
-            Class::Row(rows) => self.is_in(rows),
-            Class::Among(group) => self.is_any(signs_of(group)),
-            Class::Begins(start) => self.begins(start),
-            Class::Operator(level) => self.operator(level).is_some(),
-            Class::Name => self.is_name(),
-            Class::System => self.is_system(),
-            Class::Text => self.is_text(),
-            Class::Number => self.is_number(),
-            Class::Module => matches!(self.token.kind, Kind::Module(_)),
-            Class::Call => self.is_call(),
+            Class::Is(sign) => word.is_sign(sign),
+            Class::Row(rows) => word.is_in(rows),
+            Class::Among(group) => word.is_any(signs_of(group)),
+            Class::Begins(start) => word.begins(start),
+            Class::Operator(level) => word.operator(level).is_some(),
+            Class::Name => word.is_name(),
+            Class::System => word.is_system(),
+            Class::Text => word.is_text(),
+            Class::Number => word.is_number(),
+            Class::Module => matches!(self.kind, Kind::Module(_)),
+            Class::Call => word.is_call(),
         }
     }
 
     fn is_left_out(&self) -> bool {
-        self.is_sign(Sign::Unused)
+        Word { token: self }.is_sign(Sign::Unused)
     }
 }

@@ -3,7 +3,7 @@ use Rattle.std.proofs.Common.{◌≡◌, subst, suc, ◌-◌, sym, ◌∙◌, ar
 use Rattle.std.proofs.lemmas.List.{map-append}
 use Rattle.vh_grammar.specs.Says.{Says}
 use Rattle.vh_ast.specs.Views.{stmt_tree, citem_tree}
-use Rattle.vh_syntax.specs.Classes.{word_seen}
+use Rattle.vh_syntax.specs.Tokens.{token_seen}
 use Rattle.vh_parse_expr.specs.Views.{tokens_seen}
 use Rattle.vh_parse_expr.proofs.Loops.{fewer}
 use Rattle.vh_parse_stmt.proofs.Pieces.{values-listed, case-listed}
@@ -14,10 +14,10 @@ pub inner_statement-returns : goal.inner_statement-returns
 inner_statement-returns t c = let e : c.args.depth ≡ suc (c.args.depth - 1) = omega arith in rw e (rw (c.no_timing-at.ensures.tokens, c.no_timing-at.ensures.mark) at c.statement.ensures)
 
 pub values_item-returns : goal.values_item-returns
-values_item-returns t c = subst (λ o. Says word_seen citem_tree o c.listed_item.result) (values-listed _ _ _ _) c.listed_item.ensures
+values_item-returns t c = subst (λ o. Says token_seen citem_tree o c.listed_item.result) (values-listed _ _ _ _) c.listed_item.ensures
 
 pub case_stmt-returns : goal.case_stmt-returns
-case_stmt-returns t c = subst (λ o. Says word_seen stmt_tree o c.listed_case.result) (case-listed _ _ _ _) c.listed_case.ensures
+case_stmt-returns t c = subst (λ o. Says token_seen stmt_tree o c.listed_case.result) (case-listed _ _ _ _) c.listed_case.ensures
 
 pub citems-all-smaller : goal.citems-all-smaller
 citems-all-smaller t c = fewer _ _ (citem_less _ _ _ _ _ _ c.in_ok-next.ensures)
