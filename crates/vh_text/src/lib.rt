@@ -25,5 +25,5 @@ mod value;
 pub use laws::text_laws;
 pub use literal::{LiteralFault, read_literal};
 pub use radix::Radix;
-pub use text::{text_of, vector_text_of};
+pub use text::{text_of, vector_text_of, write_binary};
 pub use value::read_value;

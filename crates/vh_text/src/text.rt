@@ -59,22 +59,42 @@ pub(crate) fn group_count(width: u32, group: u32) -> u32
     (width + (group - 1)) / group
 }
 
+/// The text of a value in base two, in place of what stood there: so it takes no memory where that
+/// has room for a digit a bit.
+pub fn write_binary(out: &mut String, v: &Vec4) -> Result<(), NoMemory>
+    ensures { OnOk result (string_bytes out.new ≡ text Radix.Binary v.now) }
+{
+    write_grouped(out, v, 1)
+}
+
 // The digits in groups of `group`, one character each.
 fn grouped(alloc: Global, v: &Vec4, group: u32) -> Result<String, NoMemory>
     requires least { 1 ≤ group }
     requires most { group ≤ 4 }
     ensures { IfOk result (λ t. string_bytes t ≡ digits_text group v.now) }
 {
+    let mut text = String::new(alloc);
+    write_grouped(&mut text, v, group)?;
+    Ok(text)
+}
+
+// The same in place of what stood there.
+fn write_grouped(out: &mut String, v: &Vec4, group: u32) -> Result<(), NoMemory>
+    requires least { 1 ≤ group }
+    requires most { group ≤ 4 }
+    ensures { OnOk result (string_bytes out.new ≡ digits_text group v.now) }
+{
     let width = v.width();
     let mut left = group_count(width, group);
-    let mut text = String::with_capacity(alloc, left as usize)?;
+    out.clear();
+    out.reserve(left as usize)?;
     while left > 0 {
         left -= 1;
         let low = left * group;
         let part = select(v, low, group.min(width - low));
-        text.push(character(&part))?;
+        out.push(character(&part))?;
     }
-    Ok(text)
+    Ok(())
 }
 
 // The character of a group of digits.
