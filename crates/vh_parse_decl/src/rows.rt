@@ -7,7 +7,7 @@ ghost use Rattle.vh_syntax.specs.Parts.{a_number, placed_row};
 ghost use Rattle.vh_syntax.specs.Statements.{edge_rows};
 ghost use Rattle.vh_parse_expr.specs.Views.{Reads};
 
-use vh_ast::{DelayValue, Edge, Number};
+use vh_ast::{DelayValue, Edge};
 use vh_base::Place;
 use vh_lex::Kind;
 use vh_parse_expr::{At, Read};
@@ -21,13 +21,7 @@ pub(crate) fn delay_number<'t>(at: At<'t>) -> Read<'t, DelayValue>
         return Err(at.lost());
     };
     match &first.kind {
-        Kind::Number(value, sized) => {
-            let number = Number {
-                value: *value.get(),
-                sized: *sized,
-            };
-            Ok((DelayValue::Number(number), at.before(rest)))
-        }
+        Kind::Number(number) => Ok((DelayValue::Number(*number.get()), at.before(rest))),
         _ => Err(at.lost()),
     }
 }

@@ -12,7 +12,7 @@ ghost use Rattle.vh_parse_expr.specs.Views.{Reads, IsId};
 
 use sqlite_items::Boxed;
 use std::alloc::Global;
-use vh_ast::{Binary, Expr, ExprForm, Id, Number, Primary, Unary};
+use vh_ast::{Binary, Expr, ExprForm, Id, Primary, Unary};
 use vh_base::{NoMemory, Place};
 use vh_grammar::{Cursor, Stop};
 use vh_lex::{Kind, Token};
@@ -95,13 +95,9 @@ pub(crate) fn number<'t>(alloc: Global, at: At<'t>) -> Read<'t, Boxed<Expr>>
         return Err(at.lost());
     };
     match &first.kind {
-        Kind::Number(value, sized) => {
+        Kind::Number(number) => {
             let place = first.place;
-            let number = Number {
-                value: *value.get(),
-                sized: *sized,
-            };
-            let form = ExprForm::Primary(Primary::Number(number));
+            let form = ExprForm::Primary(Primary::Number(*number.get()));
             Ok((Boxed::new(alloc, Expr { place, form })?, at.before(rest)))
         }
         _ => Err(at.lost()),
