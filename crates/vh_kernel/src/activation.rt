@@ -57,9 +57,11 @@ impl Activation {
         })
     }
 
-    /// It is over; the memory of what it saw is left.
+    /// It is over; the memory of what it saw is left, without the value, whose text others have.
     pub fn into_memory(self) -> Box<Seen> {
-        self.seen
+        let mut memory = self.seen;
+        memory.value = None;
+        memory
     }
 
     /// How far it is.

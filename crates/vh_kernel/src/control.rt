@@ -80,6 +80,7 @@ impl Stack {
     }
 
     /// Puts a process on top.
+    #[inline(always)]
     pub fn push_process(&mut self, p: u64) -> Result<(), NoMemory>
         ensures { OnOk result (self.new ≡ Control.Process p ∷ self.old) }
     {

@@ -19,6 +19,7 @@ mod line;
 mod occurrence;
 mod ordered;
 mod phase;
+mod texts;
 
 pub use kernel::Kernel;
 pub use label::{Ending, Label};

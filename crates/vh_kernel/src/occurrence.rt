@@ -1,9 +1,8 @@
 ghost use Rattle.std.specs.Prelude.{◌≡◌, ◌<◌, ◌∷◌, not, length, IfOk, OnOk};
 ghost use Rattle.vh_dispatch.specs.Frames.{stack_of};
-ghost use Rattle.vh_text.specs.declared.radix.Radix.TheVariants.{Binary};
-ghost use Rattle.vh_text.specs.Texts.{text};
 ghost use Rattle.vh_kernel.specs.Occurrences.{occurrence_of, value_change, set_of, is_empty};
 
+use crate::texts::Texts;
 use std::alloc::Global;
 use std::marker::Model;
 use vh_base::{MOST_FRAMES, NoMemory, Object, Reason, Short};
@@ -11,7 +10,6 @@ use vh_callbacks::Registry;
 use vh_dispatch::Dispatch;
 use vh_logic::Vec4;
 use vh_orders::Body;
-use vh_text::{Radix, text_of};
 
 /// Something has happened that callbacks may watch: why, to which object, and the value that
 /// it left there (IEEE 1364-2005, 27.33). Contracts see the value as its text, which is made once, when the
@@ -75,17 +73,26 @@ impl Occurrence {
     }
 
     /// The same occurrence, with the text of its value made.
-    pub fn with_text(self, alloc: Global) -> Result<Occurrence, NoMemory>
+    pub(crate) fn with_text(self, alloc: Global, texts: &mut Texts) -> Result<Occurrence, NoMemory>
         ensures { IfOk result (λ occurrence. occurrence ≡ self) }
     {
-        match self.value(alloc)? {
-            Some(text) => Ok(Occurrence {
-                reason: self.reason,
-                object: self.object,
-                value: Left::Text(text),
-                index: self.index,
-            }),
-            None => Ok(self),
+        let Left::Digits(value) = &self.value else {
+            return Ok(self);
+        };
+        let text = texts.of(alloc, value)?;
+        Ok(Occurrence {
+            reason: self.reason,
+            object: self.object,
+            value: Left::Text(text),
+            index: self.index,
+        })
+    }
+
+    /// It is over; the text of its value is left.
+    pub(crate) fn into_text(self) -> Option<Short> {
+        match self.value {
+            Left::Text(text) => Some(text),
+            Left::Nothing | Left::Digits(_) => None,
         }
     }
 
@@ -141,23 +148,10 @@ impl Occurrence {
     {
         match &self.value {
             Left::Nothing => Ok(None),
-            Left::Digits(value) => Ok(Some(binary_text(alloc, value)?)),
+            Left::Digits(value) => Ok(Some(Texts::new(alloc).of(alloc, value)?)),
             Left::Text(text) => Ok(Some(text.copy()?)),
         }
     }
-}
-
-// A value's digits as text, of which there are 64 at most.
-fn binary_text(alloc: Global, value: &Vec4) -> Result<Short, NoMemory>
-    ensures { IfOk result (λ t. t ≡ text Binary value.now) }
-{
-    let _digits = value.width();
-    let text = text_of(alloc, value, Radix::Binary)?;
-    let made = Short::new(alloc, text.as_bytes())?;
-    let Some(short) = made else {
-        unreachable!();
-    };
-    Ok(short)
 }
 
 /// An occurrence that was told, under its number. Which callbacks are still to fire for it,

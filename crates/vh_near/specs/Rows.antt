@@ -1,5 +1,5 @@
 -- Keys in their order, and which of them stand before another. (own)
-use Rattle.std.specs.Prelude.{ℕ, zero, suc, cond, List, [], ◌∷◌, Bool, true, Option, Some, None}
+use Rattle.std.specs.Prelude.{ℕ, zero, suc, if◌then◌else◌, List, [], ◌∷◌, Bool, true, Option, Some, None}
 use Rattle.std.specs.BTreeSet.{BTreeSet, keys_between}
 use Rattle.std.specs.Ordering.{is_lt, is_gt}
 use Rattle.std.specs.declared.cmp.Ordering.{Ordering}
@@ -13,7 +13,7 @@ module _ {K : Type 0} (cmp : K → K → Ordering) where
   -- How many of some in their order are before a key.
   abbrev pub before_len : K → List K → ℕ
   before_len k [] = zero
-  before_len k (x ∷ xs) = cond (is_before k x) (suc (before_len k xs)) zero
+  before_len k (x ∷ xs) = if is_before k x then suc (before_len k xs) else zero
 
   -- Is a key before the first of some, if there is one?
   abbrev pub leads : K → List K → Bool

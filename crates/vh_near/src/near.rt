@@ -233,6 +233,9 @@ impl<K: Ord + Copy + Drop> Near<K> {
         ensures { result ≡ length (from_to K.cmp first.now end.now self.now) }
     {
         let near = row_from(&self.near, end).saturating_sub(row_from(&self.near, first));
+        if self.far.is_empty() {
+            return near;
+        }
         let bounds = (Bound::Included(*first), Bound::Excluded(*end));
         near + self.far.range(bounds).count()
     }

@@ -201,6 +201,7 @@ impl Threads {
     }
 
     // Callers of whom nobody is in a call any more are forgotten.
+    #[inline(never)]
     pub(crate) fn forget_idle(
         &mut self,
         alloc: Global,
@@ -362,6 +363,7 @@ impl Threads {
     }
 
     // A process disables a named block or task; answers what it does next.
+    #[inline(never)]
     pub(crate) fn disable(
         &mut self,
         alloc: Global,

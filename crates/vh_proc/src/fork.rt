@@ -75,6 +75,7 @@ impl Threads {
     }
 
     // A process begins branches and waits for them; without a branch it goes on.
+    #[inline(never)]
     pub(crate) fn fork(
         &mut self,
         alloc: Global,
@@ -129,6 +130,7 @@ impl Threads {
     }
 
     // The end of an `initial` or of a branch.
+    #[inline(never)]
     pub(crate) fn end(&mut self, d: &Design, q: &mut Queue, p: ProcId) -> Result<(), StepFault>
         requires runs { AllRun d.now self.old }
         ensures done { IfSome (process_at p self.old) (λ t.

@@ -30,6 +30,7 @@ fn are_later(places: &Places, time: u64) -> bool
 }
 
 // The first serial of a time and region from one on and below another.
+#[inline(always)]
 pub(crate) fn first_of(places: &Places, time: u64, rank: u8, from: u64, below: u64) -> Option<u64>
     requires { from ≤ below }
     ensures { result ≡ slice_get (serials_of time rank from below places.now) 0 }
@@ -82,6 +83,7 @@ pub(crate) fn last_of(places: &Places, time: u64, rank: u8, from: u64, below: u6
 }
 
 // How many there are. It goes over them.
+#[inline(always)]
 pub(crate) fn count_of(places: &Places, time: u64, rank: u8, from: u64, below: u64) -> usize
     requires { from ≤ below }
     ensures { result ≡ length (serials_of time rank from below places.now) }

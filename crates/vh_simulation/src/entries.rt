@@ -106,6 +106,7 @@ fn enter(
 }
 
 /// The entries that changes add, in order.
+#[inline(always)]
 #[tactic(auto, unfolding(crate::specs::Entries::all_entered))]
 pub(crate) fn enter_all(
     d: &Design,

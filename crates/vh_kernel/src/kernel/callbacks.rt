@@ -57,7 +57,7 @@ impl Kernel {
             (state_of self.old)) result self.new }
     {
         let number = self.occurrence;
-        let what = what.with_text(alloc)?;
+        let what = what.with_text(alloc, &mut self.texts)?;
         self.open_frame(alloc, number, &what)?;
         let label = Label::Occ(number, what.reason(), what.object());
         self.occurrence = number + 1;
@@ -66,6 +66,7 @@ impl Kernel {
     }
 
     // The frame on top of control fires the callback that was chosen, or is done.
+    #[inline(never)]
     pub(crate) fn fire(&mut self, alloc: Global, k: u32) -> Result<Label, NoMemory>
         requires { is_some (frame_of (slice_get (state_of self.old).control 0)) ≡ true }
         ensures { Moves (top_move (slice_get (state_of self.old).control 0) (state_of self.old) k
@@ -77,7 +78,9 @@ impl Kernel {
         };
         let number = told.number;
         let Some(c) = self.take_left(k) else {
-            let _ = self.control.pop();
+            if let Some(Control::Frame(told)) = self.control.pop() {
+                self.texts.keep(told.what.into_text());
+            }
             self.close_frame();
             return Ok(Label::Done(number));
         };

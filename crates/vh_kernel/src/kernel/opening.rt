@@ -8,6 +8,7 @@ use crate::control::Stack;
 use crate::kernel::Kernel;
 use crate::occurrence::Agendum;
 use crate::phase::Phase;
+use crate::texts::Texts;
 use std::alloc::Global;
 use std::collections::VecDeque;
 use vh_app::{Script, Vars};
@@ -115,6 +116,7 @@ impl Kernel {
             phase: Phase::Running,
             spare: None,
             spare_order: None,
+            texts: Texts::new(alloc),
         })
     }
 }

@@ -58,6 +58,7 @@ fn is_event(d: &Design, id: ObjId) -> bool
 }
 
 // Those of all changes, the first of them on top.
+#[inline(always)]
 fn pend_all(control: &mut Stack, d: &Design, made: &[Made]) -> Result<(), NoMemory>
     ensures { OnOk result (control.new
         ≡ map Control.Pending (all_by (d.now).objects made.now) ++ control.old) }
@@ -94,6 +95,7 @@ impl Kernel {
     ghost use Rattle.vh_kernel.specs.Views.{state_of, given_by, Moves};
 
     // A process that was on top of control performs its next label.
+    #[inline(never)]
     pub(crate) fn perform_next(&mut self, alloc: Global, p: u64) -> Result<Label, NoMemory>
         ensures { Moves (item_move (Control.Process p) (state_of self.old) 0
             (given_by self.old)) result self.new }
@@ -138,6 +140,7 @@ impl Kernel {
     }
 
     // One that changes or shows something.
+    #[inline(never)]
     fn simulate(&mut self, alloc: Global, entry: &Entry) -> Result<Label, NoMemory>
         ensures { Moves (move_of (λ shown. Label.Pick (entry.now).serial shown) (state_of self.old)
             (worked_outcome (worked (entry.now).work (state_of self.old).activity)

@@ -2,7 +2,7 @@ use Rattle.std.proofs.Common.{◌≡◌, ◌∙◌, ◌<◌, ℕ, List, Option, 
 use Rattle.std.specs.Option.{IsNone}
 use Rattle.vh_logic.specs.Vector.{width_of}
 use Rattle.vh_kernel.proofs.OccurrencesLemmas.{short-text}
-use Rattle.vh_kernel.proofs.occurrence.binary_text.Goals as goal
+use Rattle.vh_kernel.proofs.texts.Texts.of.Goals as goal
 
 pub unreachable-requires : goal.unreachable-requires
 unreachable-requires c =
