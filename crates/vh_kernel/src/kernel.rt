@@ -165,7 +165,6 @@ impl Kernel {
         }
     }
 
-    #[inline(always)]
     fn make_label(&mut self, alloc: Global, k: u32) -> Result<Label, NoMemory>
         requires { k < choices_of (state_of self.old) }
         ensures { Moves (crowded_move (is_crowded (state_of self.old)) (state_of self.old) k
@@ -178,7 +177,6 @@ impl Kernel {
         self.go_on(alloc, k)
     }
 
-    #[inline(always)]
     fn go_on(&mut self, alloc: Global, k: u32) -> Result<Label, NoMemory>
         requires { k < top_choices (slice_get (state_of self.old).control 0) (state_of self.old) }
         ensures { Moves (top_move (slice_get (state_of self.old).control 0) (state_of self.old) k
@@ -198,7 +196,6 @@ impl Kernel {
     }
 
     // What was on top of control goes on: no occurrence that was told, which goes on in its place.
-    #[inline(never)]
     fn go_on_by(&mut self, alloc: Global, item: Control, k: u32) -> Result<Label, NoMemory>
         requires { is_some (frame_of (Some item)) ≡ false }
         ensures { Moves (item_move item (state_of self.old) k (given_by self.old)) result self.new }
@@ -242,7 +239,6 @@ impl Kernel {
     }
 
     // With nothing on control.
-    #[inline(never)]
     fn go_idle(&mut self, alloc: Global, k: u32) -> Result<Label, NoMemory>
         requires { k < idle_choices (state_of self.old).phase (state_of self.old) }
         ensures { Moves (idle_move (state_of self.old).phase

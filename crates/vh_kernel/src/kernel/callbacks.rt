@@ -66,7 +66,6 @@ impl Kernel {
     }
 
     // The frame on top of control fires the callback that was chosen, or is done.
-    #[inline(never)]
     pub(crate) fn fire(&mut self, alloc: Global, k: u32) -> Result<Label, NoMemory>
         requires { is_some (frame_of (slice_get (state_of self.old).control 0)) ≡ true }
         ensures { Moves (top_move (slice_get (state_of self.old).control 0) (state_of self.old) k

@@ -50,7 +50,6 @@ fn top_is_void(callbacks: &Registry<Body>, control: &Stack) -> bool
 }
 
 // Drops void occurrences from the front of the agenda.
-#[inline(never)]
 fn settle_agenda(callbacks: &Registry<Body>, agenda: &mut VecDeque<Agendum>)
     ensures { agenda.new.items
         ≡ without_front (is_void_item callbacks.now.callbacks) agenda.old.items }
@@ -75,7 +74,6 @@ impl Kernel {
     ghost use Rattle.vh_kernel.specs.Views.{state_of};
 
     // Drops what no callback watches.
-    #[inline(always)]
     pub(crate) fn settle(&mut self)
         ensures { state_of self.new ≡ settled (state_of self.old) }
     {
