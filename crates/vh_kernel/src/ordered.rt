@@ -36,6 +36,13 @@ impl Ordered {
         Ok(memory)
     }
 
+    /// The memory of an order that is shown no more, without its texts, which others may have.
+    pub(crate) fn into_memory(self) -> Ordered {
+        let mut inner = self.inner;
+        *inner = Order::Return;
+        Ordered { inner }
+    }
+
     /// The order.
     pub fn get(&self) -> &Order
         ensures { result.now ≡ self.now }

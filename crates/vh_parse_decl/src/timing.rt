@@ -1,14 +1,16 @@
 //! Delays and events.
 
-ghost use Rattle.std.specs.Prelude.{◌≡◌, Bool, Option, option_map, map};
+ghost use Rattle.std.specs.Prelude.{◌≡◌, ◌&&◌, Bool, Option, option_map, map};
 ghost use Rattle.vh_grammar.specs.Part.{only, after, listed};
+ghost use Rattle.vh_grammar.specs.Reading.{next_is};
 ghost use Rattle.vh_grammar.specs.Marking.{joined_marks};
 ghost use Rattle.vh_grammar.specs.Says.{Says};
 ghost use Rattle.vh_ast.specs.Views.{delay_value_tree, delay_tree, ev_tree, event_tree};
-ghost use Rattle.vh_syntax.specs.Tokens.{token_seen};
+ghost use Rattle.vh_syntax.specs.declared.sign.Sign.TheVariants as signs;
+ghost use Rattle.vh_syntax.specs.Tokens.{token_seen, is};
 ghost use Rattle.vh_syntax.specs.Statements as parts;
 ghost use Rattle.vh_syntax.specs.Statements.{is_expr, is_or, ev};
-ghost use Rattle.vh_parse_expr.specs.Views.{Reads, read_from};
+ghost use Rattle.vh_parse_expr.specs.Views.{Reads, read_from, tokens_seen};
 ghost use Rattle.vh_parse_decl.specs.Pieces.{delay_front, delay_behind, more_evs, ev_list};
 
 use crate::rows::{delay_number, edge};
@@ -59,13 +61,21 @@ fn delay_end<'t>(depth: usize, delay: Delay, at: At<'t>) -> Read<'t, Delay>
     Ok((delay, rest))
 }
 
+// Does what stands behind the value show a delay with more expressions?
+fn shows_more<'t>(value: &DelayValue, behind: At<'t>) -> bool
+    ensures { result ≡ (is_expr (delay_value_tree value.now)
+        && next_is (is signs.Comma) (tokens_seen behind.entry.tokens.now)) }
+{
+    is_expr(value) && behind.next_is(Class::Is(Sign::Comma))
+}
+
 // A delay up to the bracket that ends it: a comma there shows one with more expressions.
 fn delay_front<'t>(alloc: Global, depth: usize, at: At<'t>) -> Read<'t, Delay>
     ensures { Reads delay_tree depth delay_front at.entry result }
 {
     let (place, more) = sign(Sign::Hash, at)?;
     let (value, rest) = delay_value(alloc, depth, more)?;
-    let shown = is_expr(&value) && rest.next_is(Class::Is(Sign::Comma));
+    let shown = shows_more(&value, rest);
     let delay = Delay { place, value };
     Ok((delay, rest.marked(at.tokens, shown)))
 }
