@@ -1,5 +1,5 @@
 -- The words of the command line: the mode, its options and its files. (own)
-use Rattle.std.specs.Prelude.{ℕ, zero, suc, ◌^◌, List, [], ◌∷◌, ◌++◌, Bool, true, false, ◌&&◌, ◌||◌, not, if◌then◌else◌, Option, Some, None, is_some, unwrap_or, bytes_eq, nat_eq, nat_le, nat_lt, codes, length, drop, map, slice_get, string_bytes, String}
+use Rattle.std.specs.Prelude.{ℕ, zero, suc, ◌^◌, List, [], ◌∷◌, ◌++◌, Bool, true, false, ◌&&◌, ◌||◌, not, if◌then◌else◌, Option, Some, None, is_some, unwrap_or, bytes_eq, ◌==◌, nat_le, nat_lt, codes, length, drop, map, slice_get, string_bytes, String}
 use Rattle.std.specs.Option.{option_map, option_and_then}
 use Rattle.std.specs.List.{ends_with, starts_with, list_all, list_any}
 use Rattle.std.specs.Str.Parse.{digits_value}
@@ -19,10 +19,10 @@ pub record Reading : Type 0 where
 
 -- A word that names a Verilog file, and one that names an application's script.
 abbrev pub is_design_word : List ℕ → Bool
-is_design_word word = ends_with nat_eq word (codes ".v")
+is_design_word word = ends_with ◌==◌ word (codes ".v")
 
 abbrev pub is_script_word : List ℕ → Bool
-is_script_word word = ends_with nat_eq word (codes ".app")
+is_script_word word = ends_with ◌==◌ word (codes ".app")
 
 abbrev pub is_file_word : List ℕ → Bool
 is_file_word word = is_design_word word || is_script_word word
@@ -38,7 +38,7 @@ is_digit byte = nat_le 48 byte && nat_le byte 57
 
 abbrev pub is_numeral : List ℕ → Bool
 is_numeral word =
-    nat_lt 0 (length word) && list_all is_digit word && (nat_le (length word) 1 || not (starts_with nat_eq word (codes "0")))
+    nat_lt 0 (length word) && list_all is_digit word && (nat_le (length word) 1 || not (starts_with ◌==◌ word (codes "0")))
 
 abbrev pub below : ℕ → ℕ → Option ℕ
 below limit n = if nat_lt n limit then Some n else None
@@ -53,7 +53,7 @@ seed_named word = option_map (λ n. chooser.Seeded n) (number_named word)
 abbrev pub order_named : List ℕ → Option Chooser
 order_named word =
     if bytes_eq word (codes "fifo") then Some chooser.Fifo else (if bytes_eq word (codes "lifo") then Some chooser.Lifo
-    else (if starts_with nat_eq word (codes "seeded:") then seed_named (drop 7 word) else None))
+    else (if starts_with ◌==◌ word (codes "seeded:") then seed_named (drop 7 word) else None))
 
 abbrev pub budget_in : ℕ → Option ℕ
 budget_in n = if nat_lt 0 n then below (2 ^ 63) n else None
@@ -101,12 +101,12 @@ abbrev pub expecting : Expects → Saying → Option Saying
 expecting e s = Some (record s { expects = e })
 
 abbrev pub is_option : List ℕ → Bool
-is_option word = starts_with nat_eq word (codes "-") && not (bytes_eq word (codes "-"))
+is_option word = starts_with ◌==◌ word (codes "-") && not (bytes_eq word (codes "-"))
 
 abbrev pub with_valued : List ℕ → Saying → Option Saying
 with_valued word s =
-    if starts_with nat_eq word (codes "--order=") then with_order (order_named (drop 8 word)) s
-    else (if starts_with nat_eq word (codes "--budget=") then with_budget (budget_named (drop 9 word)) s else None)
+    if starts_with ◌==◌ word (codes "--order=") then with_order (order_named (drop 8 word)) s
+    else (if starts_with ◌==◌ word (codes "--budget=") then with_budget (budget_named (drop 9 word)) s else None)
 
 abbrev pub with_option : List ℕ → Saying → Option Saying
 with_option word s =
