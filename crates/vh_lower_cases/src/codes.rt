@@ -1,10 +1,11 @@
 //! The codes of trees, by hand: a letter and its places for each label.
 
+use crate::texts::{show_operation, show_place};
 use sqlite_items::{Boxed, Items};
 use std::alloc::Global;
 use std::test::Fail;
 use vh_base::{ExprId, NoMemory, ObjId, Sequence};
-use vh_code::{Arm, CaseKind, Code, Goes, Instruction, Loop, Operation, Single};
+use vh_code::{CaseKind, Code, Instruction, Operation, Single};
 use vh_flow::{CaseHead, CaseItem, CodeKind, Flow, FlowForm, Gate, Mark, Step, code_of};
 
 const PLAIN: Mark = Mark {
@@ -62,54 +63,13 @@ fn test(number: u32) -> Gate {
     Gate::Test(ExprId::new(number))
 }
 
-fn show_place(text: &mut String, goes: Goes) -> Result<(), NoMemory> {
-    match goes {
-        Goes::Back => text.push_str("b")?,
-        Goes::To(place) => write!(text, "{place}")?,
-    }
-    Ok(())
-}
-
-fn show_case(text: &mut String, arms: &[Arm]) -> Result<(), NoMemory> {
-    text.push_str("c")?;
-    for arm in arms {
-        text.push_str("/")?;
-        show_place(text, arm.to)?;
-    }
-    Ok(())
-}
-
-fn show_operation(text: &mut String, operation: &Operation) -> Result<(), NoMemory> {
-    match operation {
-        Operation::Test { otherwise, .. } => {
-            text.push_str("t/")?;
-            show_place(text, *otherwise)
-        }
-        Operation::Case(case) => show_case(text, case.get().arms.as_slice()),
-        Operation::Loop(Loop::Repeat { done, .. }) => {
-            text.push_str("r/")?;
-            show_place(text, *done)
-        }
-        Operation::Loop(Loop::Again { done }) => {
-            text.push_str("a/")?;
-            show_place(text, *done)
-        }
-        Operation::Loop(Loop::Turn) => Ok(text.push_str("u")?),
-        Operation::Fork(places) => {
-            text.push_str("f")?;
-            for place in places.as_slice() {
-                write!(text, "/{place}")?;
-            }
-            Ok(())
-        }
-        Operation::End => Ok(text.push_str("e")?),
-        _ => Ok(text.push_str("s")?),
-    }
-}
-
 fn show_instruction(text: &mut String, instruction: &Instruction) -> Result<(), NoMemory> {
     text.push_str(" ")?;
-    show_operation(text, &instruction.operation)?;
+    let letter = match instruction.operation {
+        Operation::End => "e",
+        _ => "s",
+    };
+    show_operation(text, &instruction.operation, letter)?;
     text.push_str(">")?;
     show_place(text, instruction.next)?;
     if let Some(block) = instruction.block {

@@ -5,3 +5,5 @@
 mod codes;
 #[cfg(test)]
 mod tests;
+#[cfg(test)]
+mod texts;

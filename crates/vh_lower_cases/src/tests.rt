@@ -9,6 +9,7 @@ ghost use Rattle.vh_bind.specs.Views.{scope_seen};
 ghost use Rattle.vh_bind_stmt.specs.Views.{surroundings_seen};
 ghost use Rattle.vh_lower.specs.Views.{added_seen};
 
+use crate::texts::{show_operation, show_place};
 use sqlite_items::Boxed;
 use std::alloc::Global;
 use std::process::Abort;
@@ -17,7 +18,7 @@ use vh_ast::{Delay, Expr, Simple, Stmt, StmtForm, TaskDirection};
 use vh_base::{ExprId, NoMemory, ObjId, Place, Sequence};
 use vh_bind::{Genvar, Mode, Routine, Scope, push};
 use vh_bind_stmt::{Argument, Arguments, Surroundings};
-use vh_code::{Arm, Code, Edge, Goes, Instruction, Loop, Operation, Pause, Single, Term, WaitInfo};
+use vh_code::{Code, Edge, Instruction, Operation, Pause, Single, Term, WaitInfo};
 use vh_flow::CodeKind;
 use vh_lex::Lexer;
 use vh_logic::Vec4;
@@ -333,23 +334,6 @@ fn lowered(
     lowered_in(alloc, &scope, &world.arguments, wanted, stmt)
 }
 
-fn show_place(text: &mut String, goes: Goes) -> Result<(), NoMemory> {
-    match goes {
-        Goes::Back => text.push_str("b")?,
-        Goes::To(place) => write!(text, "{place}")?,
-    }
-    Ok(())
-}
-
-fn show_case(text: &mut String, arms: &[Arm]) -> Result<(), NoMemory> {
-    text.push_str("c")?;
-    for arm in arms {
-        text.push_str("/")?;
-        show_place(text, arm.to)?;
-    }
-    Ok(())
-}
-
 fn single_letter(single: Single) -> &'static str {
     match single {
         Single::Show(_) => "$",
@@ -383,38 +367,11 @@ fn letter(operation: &Operation) -> &'static str {
     }
 }
 
-fn show_operation(text: &mut String, operation: &Operation) -> Result<(), NoMemory> {
-    match operation {
-        Operation::Test { otherwise, .. } => {
-            text.push_str("t/")?;
-            show_place(text, *otherwise)
-        }
-        Operation::Case(case) => show_case(text, case.get().arms.as_slice()),
-        Operation::Loop(Loop::Repeat { done, .. }) => {
-            text.push_str("r/")?;
-            show_place(text, *done)
-        }
-        Operation::Loop(Loop::Again { done }) => {
-            text.push_str("a/")?;
-            show_place(text, *done)
-        }
-        Operation::Loop(Loop::Turn) => Ok(text.push_str("u")?),
-        Operation::Fork(places) => {
-            text.push_str("f")?;
-            for place in places.as_slice() {
-                write!(text, "/{place}")?;
-            }
-            Ok(())
-        }
-        _ => Ok(text.push_str(letter(operation))?),
-    }
-}
-
 fn show_instruction(text: &mut String, instruction: &Instruction) -> Result<(), NoMemory> {
     if instruction.first {
         text.push_str("!")?;
     }
-    show_operation(text, &instruction.operation)?;
+    show_operation(text, &instruction.operation, letter(&instruction.operation))?;
     if let Some(stmt) = instruction.stmt {
         write!(text, "{{{stmt}}}")?;
     }
