@@ -1,6 +1,4 @@
 use Rattle.std.proofs.Common.{◌≡◌, ◌∙◌, Err, Some, ap, subst, rules}
-use Rattle.vh_kernel.specs.Outcome.{fault_move}
-use Rattle.vh_kernel.specs.State.{with_top}
 use Rattle.vh_kernel.specs.Statements.{performed_outcome, statement_outcome}
 use Rattle.vh_kernel.specs.Views.{state_of}
 use Rattle.vh_simulation.specs.Labels.{performed, IsOver}
