@@ -24,15 +24,12 @@ fn words(rt: HostRuntime) -> Result<(), Fail> {
         token(Kind::Mark(Mark::Semicolon)),
         token(Kind::Word(Keyword::Specify)),
     ];
-    let words = [
-        Word { token: &tokens[0] },
-        Word { token: &tokens[1] },
-        Word { token: &tokens[2] },
-    ];
-    assert!(rt; words[0].net_type() == Some(NetType::Wire));
-    assert!(rt; words[0].port_type() == Some(PortType::Net(NetType::Wire)));
-    assert!(rt; words[1].operator(1).is_none());
-    let at = Cursor::new(&words);
+    let wire = Word { token: &tokens[0] };
+    let semicolon = Word { token: &tokens[1] };
+    assert!(rt; wire.net_type() == Some(NetType::Wire));
+    assert!(rt; wire.port_type() == Some(PortType::Net(NetType::Wire)));
+    assert!(rt; semicolon.operator(1).is_none());
+    let at: Cursor<'_, Token, Class> = Cursor::new(&tokens);
     assert!(rt; at.next_is(Class::Begins(Start::Item)));
     assert!(rt; at.next_is(Class::Row(Rows::Net)));
     assert!(rt; !at.next_is(Class::Among(Group::Hidden)));
