@@ -57,11 +57,9 @@ impl Activation {
         })
     }
 
-    /// It is over; the memory of what it saw is left, without the value, whose text others have.
+    /// It is over; the memory of what it saw is left.
     pub fn into_memory(self) -> Box<Seen> {
-        let mut memory = self.seen;
-        memory.value = None;
-        memory
+        self.seen
     }
 
     /// How far it is.

@@ -161,7 +161,7 @@ impl Kernel {
         ensures { state_of self.new ≡ state_of self.old }
     {
         if let Label::Do(_, order, _) = label {
-            self.spare_order = Some(order.into_memory());
+            self.spare_order = Some(order);
         }
     }
 

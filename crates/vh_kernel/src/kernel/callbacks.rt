@@ -78,13 +78,26 @@ impl Kernel {
         let number = told.number;
         let Some(c) = self.take_left(k) else {
             if let Some(Control::Frame(told)) = self.control.pop() {
-                self.texts.keep(told.what.into_text());
+                self.leave_text(told.what);
             }
             self.close_frame();
             return Ok(Label::Done(number));
         };
         self.call(alloc, c)?;
         Ok(Label::Fire(number, c))
+    }
+
+    // An occurrence that is done leaves the text of its value, which is no more in the memory that is kept here.
+    fn leave_text(&mut self, what: Occurrence)
+        ensures { state_of self.new ≡ state_of self.old }
+    {
+        if let Some(seen) = &mut self.spare {
+            seen.value = None;
+        }
+        if let Some(order) = self.spare_order.take() {
+            self.spare_order = Some(order.into_memory());
+        }
+        self.texts.keep(what.into_text());
     }
 
     // What a callback calls for the occurrence on top of control begins.

@@ -74,6 +74,7 @@ impl Kernel {
     ghost use Rattle.vh_kernel.specs.Views.{state_of};
 
     // Drops what no callback watches.
+    #[inline(always)]
     pub(crate) fn settle(&mut self)
         ensures { state_of self.new ≡ settled (state_of self.old) }
     {
