@@ -82,7 +82,8 @@ impl Model for Handles {
 
     ghost view = { λ h. record { live = h.live.entries; next = h.next } };
 
-    ghost invariant = { λ h. IsSound (handles_of (record { live = h.live.entries; next = h.next })) };
+    ghost invariant = { λ h.
+        IsSound (handles_of (record { live = h.live.entries; next = h.next })) };
 }
 
 impl Handles {

@@ -79,7 +79,7 @@ impl Stack {
         Ok(())
     }
 
-    /// Puts a process on top.
+    /// Puts a process on top. It is inlined, since nearly each statement does so.
     #[inline(always)]
     pub fn push_process(&mut self, p: u64) -> Result<(), NoMemory>
         ensures { OnOk result (self.new ≡ Control.Process p ∷ self.old) }

@@ -1,4 +1,4 @@
-ghost use Rattle.std.specs.Prelude.{◌≡◌, ◌<◌, ◌∷◌, not, length, IfOk, OnOk};
+ghost use Rattle.std.specs.Prelude.{◌≡◌, ◌<◌, ◌∷◌, not, length, Some, IfOk, IfSome, OnOk};
 ghost use Rattle.vh_dispatch.specs.Frames.{stack_of};
 ghost use Rattle.vh_kernel.specs.Occurrences.{occurrence_of, value_change, set_of, is_empty};
 
@@ -89,7 +89,9 @@ impl Occurrence {
     }
 
     /// It is over; the text of its value is left.
-    pub(crate) fn into_text(self) -> Option<Short> {
+    pub(crate) fn into_text(self) -> Option<Short>
+        ensures { IfSome result (λ text. self.value ≡ Some text) }
+    {
         match self.value {
             Left::Text(text) => Some(text),
             Left::Nothing | Left::Digits(_) => None,

@@ -1,4 +1,4 @@
-ghost use Rattle.std.specs.Prelude.{◌≡◌, IfOk};
+ghost use Rattle.std.specs.Prelude.{◌≡◌, [], IfOk};
 ghost use Rattle.vh_text.specs.declared.radix.Radix.TheVariants.{Binary};
 ghost use Rattle.vh_text.specs.Texts.{text};
 
@@ -29,11 +29,10 @@ impl Texts {
     {
         let _digits = value.width();
         write_binary(&mut self.digits, value)?;
-        let spare = match self.spare.take() {
+        let mut made = match self.spare.take() {
             Some(spare) => spare,
             None => empty(alloc)?,
         };
-        let mut made = spare;
         if !made.set(alloc, self.digits.as_bytes())? {
             unreachable!();
         }
@@ -49,7 +48,9 @@ impl Texts {
 }
 
 // The text without a byte.
-fn empty(alloc: Global) -> Result<Short, NoMemory> {
+fn empty(alloc: Global) -> Result<Short, NoMemory>
+    ensures { IfOk result (λ t. t ≡ []) }
+{
     match Short::new(alloc, b"")? {
         Some(text) => Ok(text),
         None => unreachable!(),

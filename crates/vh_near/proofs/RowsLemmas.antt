@@ -521,6 +521,21 @@ module _ {K : Type 0} (R : K → K → Ordering) (o : IsTotalOrder R) where
       by true at rest = rw (between-is first end y, at, past at) (omega (arith, rest))
       by false at rest = rw (between-is first end y, at) (ends (is_gt (R end y)) refl at rest)
 
+  -- with so many in the row and behind it
+  pub counts-are : (first end : K) (xs ys : List K) (n : ℕ) → is_gt (R first end) ≡ false → Rises (xs ++ ys)
+      → n ≡ (before_len R end xs - before_len R first xs) + length (filter (between first end) ys)
+      → n ≡ length (filter (between first end) (xs ++ ys))
+  counts-are first end xs ys n forward rises is =
+      let near = count-is first end xs forward (rises-front xs ys rises) in
+      let both = length-append (filter (between first end) xs) (filter (between first end) ys) in
+      (let sum : n ≡ length (filter (between first end) xs ++ filter (between first end) ys) = omega (arith, is, near, both) in sum)
+      ∙ ap length (sym (filter-append (between first end) xs ys))
+
+  -- none of no keys
+  pub none-of : (first end : K) (ys : List K) → length ys ≡ 0 → length (filter (between first end) ys) ≡ 0
+  none-of first end [] is = refl
+  none-of first end (y ∷ ys) is = absurd (omega (arith, is))
+
   -- ---- the first, and the last of a row
   pub all-from : (x : K) (ks : List K) → Rises ks → slice_get ks 0 ≡ Some x → All (IsLeBy R x) ks
   all-from x [] rises is k d within = absurd (omega (arith, within))

@@ -200,7 +200,7 @@ impl Threads {
         Ok(Some(family))
     }
 
-    // Callers of whom nobody is in a call any more are forgotten.
+    // Callers of whom nobody is in a call any more are forgotten. It stands apart for the same reason.
     #[inline(never)]
     pub(crate) fn forget_idle(
         &mut self,
@@ -362,7 +362,8 @@ impl Threads {
         }
     }
 
-    // A process disables a named block or task; answers what it does next.
+    // A process disables a named block or task; answers what it does next. It stands apart, so that other
+    // labels make no room for it.
     #[inline(never)]
     pub(crate) fn disable(
         &mut self,

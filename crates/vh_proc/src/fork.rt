@@ -74,7 +74,8 @@ impl Threads {
         Ok(())
     }
 
-    // A process begins branches and waits for them; without a branch it goes on.
+    // A process begins branches and waits for them; without a branch it goes on. It stands apart, so that other
+    // labels make no room for it.
     #[inline(never)]
     pub(crate) fn fork(
         &mut self,
@@ -129,7 +130,7 @@ impl Threads {
         self.resume(q, p)
     }
 
-    // The end of an `initial` or of a branch.
+    // The end of an `initial` or of a branch. It stands apart for the same reason.
     #[inline(never)]
     pub(crate) fn end(&mut self, d: &Design, q: &mut Queue, p: ProcId) -> Result<(), StepFault>
         requires runs { AllRun d.now self.old }

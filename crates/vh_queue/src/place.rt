@@ -29,7 +29,8 @@ fn are_later(places: &Places, time: u64) -> bool
     }
 }
 
-// The first serial of a time and region from one on and below another.
+// The first serial of a time and region from one on and below another. It is inlined, so that those who ask
+// for several regions look at the least place once.
 #[inline(always)]
 pub(crate) fn first_of(places: &Places, time: u64, rank: u8, from: u64, below: u64) -> Option<u64>
     requires { from ≤ below }
@@ -82,7 +83,7 @@ pub(crate) fn last_of(places: &Places, time: u64, rank: u8, from: u64, below: u6
     Some(place.serial)
 }
 
-// How many there are. It goes over them.
+// How many there are. It goes over them, and is inlined for the same reason.
 #[inline(always)]
 pub(crate) fn count_of(places: &Places, time: u64, rank: u8, from: u64, below: u64) -> usize
     requires { from ≤ below }

@@ -105,7 +105,7 @@ fn enter(
     note(d, q, monitor, c)
 }
 
-/// The entries that changes add, in order.
+/// The entries that changes add, in order. It is inlined, since most labels change nothing.
 #[inline(always)]
 #[tactic(auto, unfolding(crate::specs::Entries::all_entered))]
 pub(crate) fn enter_all(

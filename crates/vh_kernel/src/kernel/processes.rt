@@ -57,7 +57,7 @@ fn is_event(d: &Design, id: ObjId) -> bool
     id.number() < d.counts().objects && d.object(id).kind.is_event()
 }
 
-// Those of all changes, the first of them on top.
+// Those of all changes, the first of them on top. It is inlined, since most labels change nothing.
 #[inline(always)]
 fn pend_all(control: &mut Stack, d: &Design, made: &[Made]) -> Result<(), NoMemory>
     ensures { OnOk result (control.new
@@ -94,7 +94,8 @@ impl Kernel {
     ghost use Rattle.vh_simulation.specs.Labels.{worked};
     ghost use Rattle.vh_kernel.specs.Views.{state_of, given_by, Moves};
 
-    // A process that was on top of control performs its next label.
+    // A process that was on top of control performs its next label. It stands apart, so that other labels
+    // make no room for it.
     #[inline(never)]
     pub(crate) fn perform_next(&mut self, alloc: Global, p: u64) -> Result<Label, NoMemory>
         ensures { Moves (item_move (Control.Process p) (state_of self.old) 0
@@ -139,7 +140,7 @@ impl Kernel {
         }
     }
 
-    // One that changes or shows something.
+    // One that changes or shows something. It stands apart for the same reason.
     #[inline(never)]
     fn simulate(&mut self, alloc: Global, entry: &Entry) -> Result<Label, NoMemory>
         ensures { Moves (move_of (λ shown. Label.Pick (entry.now).serial shown) (state_of self.old)

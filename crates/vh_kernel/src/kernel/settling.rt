@@ -73,7 +73,7 @@ impl Kernel {
     ghost use Rattle.vh_kernel.specs.Settle.{settled};
     ghost use Rattle.vh_kernel.specs.Views.{state_of};
 
-    // Drops what no callback watches.
+    // Drops what no callback watches. It is inlined, since each label does so and most drop nothing.
     #[inline(always)]
     pub(crate) fn settle(&mut self)
         ensures { state_of self.new ≡ settled (state_of self.old) }

@@ -1,7 +1,6 @@
-use Rattle.std.proofs.Common.{rules, ◌≡◌, ◌++◌, ◌+◌, ◌∙◌, [], ◌∷◌, Bool, List, BTreeSet, filter, length, refl, sym, ap, arith}
-use Rattle.std.proofs.lemmas.List.{length-append}
+use Rattle.std.proofs.Common.{rules, ◌≡◌, ◌∙◌, BTreeSet, filter, length, ap, arith}
 use Rattle.vh_near.specs.Rows.{before_len, from_to}
-use Rattle.vh_near.proofs.RowsLemmas.{rises-front, count-is, filter-append, before-most, between}
+use Rattle.vh_near.proofs.RowsLemmas.{rises-front, counts-are, none-of, before-most, between}
 use Rattle.vh_near.proofs.near.Near.count_between.Goals as goal
 
 pub row_from-requires : goal.row_from-requires
@@ -23,38 +22,25 @@ overflow_add-result c c' =
     let small = c'.self.inside.near.small in let fits = c'.range.ensures.fits in
     omega (arith, most, a_is, count, cut, size, room, small, fits)
 
-none-of : {K : Type 0} (f : K → Bool) (ys : List K) → length ys ≡ 0 → length (filter f ys) ≡ 0
-none-of f [] e = refl
-none-of f (y ∷ ys) e = absurd (omega (arith, e))
-
 pub returns-then-is_empty : goal.returns-then-is_empty
 returns-then-is_empty c c' =
     let R = c.K.Ord.cmp in let o = c.met.K.Ord.total in
     let xs = c'.self.inside.near.items in let ys = c'.self.inside.far.keys in
-    let first = c'.args.first.now in let end = c'.args.end.now in
-    let a_is : c'.row_from.result ≡ before_len R end xs = c'.row_from.ensures ∙ ap (before_len R end) c'.deref.ensures.value in
-    let b_is : c'.row_from-2.result ≡ before_len R first xs = c'.row_from-2.ensures ∙ ap (before_len R first) c'.deref-2.ensures.value in
-    let near = count-is R o first end xs c'.requires (rises-front R o xs ys c'.self.invariant) in
-    let empty : length ys ≡ 0 = c'.is_empty.ensures.0 (search rules) in
-    let far = none-of (between R o first end) ys empty in
-    let both = length-append (filter (between R o first end) xs) (filter (between R o first end) ys) in
+    let end_is = c'.row_from.ensures ∙ ap (before_len R c'.args.end.now) c'.deref.ensures.value in
+    let first_is = c'.row_from-2.ensures ∙ ap (before_len R c'.args.first.now) c'.deref-2.ensures.value in
+    let none = none-of R o c'.args.first.now c'.args.end.now ys (c'.is_empty.ensures.0 (search rules)) in
     let cut = c'.saturating_sub-near.ensures in
-    (let sum : c'.saturating_sub-near.result ≡ length (filter (between R o first end) xs ++ filter (between R o first end) ys) = omega (arith, a_is, b_is, near, far, both, cut) in sum)
-    ∙ ap length (sym (filter-append (between R o first end) xs ys))
-    ∙ ap (λ (s : BTreeSet c.row.K.Denot). length (from_to R first end s)) c'.self.view_is
+    counts-are R o _ _ xs ys _ c'.requires c'.self.invariant (omega (arith, end_is, first_is, none, cut))
+    ∙ ap (λ (s : BTreeSet c.row.K.Denot). length (from_to R c'.args.first.now c'.args.end.now s)) c'.self.view_is
 
 pub returns : goal.returns
 returns c c' =
     let R = c.K.Ord.cmp in let o = c.met.K.Ord.total in
-    let xs = c'.self.inside.near.items in let ys = c'.self.inside.far.keys in
-    let first = c'.args.first.now in let end = c'.args.end.now in
-    let a_is : c'.row_from.result ≡ before_len R end xs = c'.row_from.ensures ∙ ap (before_len R end) c'.deref.ensures.value in
-    let b_is : c'.row_from-2.result ≡ before_len R first xs = c'.row_from-2.ensures ∙ ap (before_len R first) c'.deref-2.ensures.value in
-    let near = count-is R o first end xs c'.requires (rises-front R o xs ys c'.self.invariant) in
+    let ys = c'.self.inside.far.keys in
+    let end_is = c'.row_from.ensures ∙ ap (before_len R c'.args.end.now) c'.deref.ensures.value in
+    let first_is = c'.row_from-2.ensures ∙ ap (before_len R c'.args.first.now) c'.deref-2.ensures.value in
     let count : c'.count.result ≡ length c'.range.result = search rules in
-    let far : c'.count.result ≡ length (filter (between R o first end) ys) = count ∙ ap length (c'.range.ensures.between (search rules)) in
-    let both = length-append (filter (between R o first end) xs) (filter (between R o first end) ys) in
+    let far : c'.count.result ≡ length (filter (between R o c'.args.first.now c'.args.end.now) ys) = count ∙ ap length (c'.range.ensures.between (search rules)) in
     let cut = c'.saturating_sub-near.ensures in
-    (let sum : c'.saturating_sub-near.result + c'.count.result ≡ length (filter (between R o first end) xs ++ filter (between R o first end) ys) = omega (arith, a_is, b_is, near, far, both, cut) in sum)
-    ∙ ap length (sym (filter-append (between R o first end) xs ys))
-    ∙ ap (λ (s : BTreeSet c.row.K.Denot). length (from_to R first end s)) c'.self.view_is
+    counts-are R o _ _ c'.self.inside.near.items ys _ c'.requires c'.self.invariant (omega (arith, end_is, first_is, far, cut))
+    ∙ ap (λ (s : BTreeSet c.row.K.Denot). length (from_to R c'.args.first.now c'.args.end.now s)) c'.self.view_is
