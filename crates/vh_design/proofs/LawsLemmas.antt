@@ -1,5 +1,5 @@
 -- Lemmas on `specs/Laws.antt`: what each rule means, from the test that keeps it.
-use Rattle.std.proofs.Common.{◌≡◌, ℕ, Bool, true, ◌&&◌, nat_le, nat_lt, List, [], ◌∷◌, Option, Some, None, slice_index_or, refl}
+use Rattle.std.proofs.Common.{◌≡◌, ℕ, Bool, true, ◌&&◌, nat_le, nat_lt, List, Option, Some, None, slice_index_or, refl}
 use Rattle.std.specs.Cmp.Derive.{both_true}
 use Rattle.std.specs.List.{list_all}
 use Rattle.std.proofs.lemmas.Bool.{leb-true, ltb-true}
@@ -39,7 +39,7 @@ selected_before os e access s h =
     (index_before e s.select (and_right word (fits_select e s.select) h))
 
 -- The expressions that an expression is made of come before it.
-parts_before : (os : List ObjectInfo) (precision e : ℕ) (k : ExprKind)
+pub parts_before : (os : List ObjectInfo) (precision e : ℕ) (k : ExprKind)
     → fits_kind os precision e k ≡ true → all_before e (parts_of k) ≡ true
 parts_before os precision e (kind.Literal v) h = refl
 parts_before os precision e (kind.Selected s) h = selected_before os e access.Read s h

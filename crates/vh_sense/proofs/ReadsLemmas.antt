@@ -1,21 +1,17 @@
 -- Lemmas on `specs/Reads.antt`: the parts of an expression come before it, and it reads what they read.
-use Rattle.std.proofs.Common.{◌≡◌, ◌<◌, ◌≤◌, ◌+◌, ℕ, zero, suc, Bool, true, false, ◌&&◌, ◌||◌, ◌==◌, nat_lt, List, [], ◌∷◌, length, take, Option, Some, None, slice_get, refl, sym, ap, arith, ◌∙◌}
+use Rattle.std.proofs.Common.{◌≡◌, ◌<◌, ◌≤◌, ◌+◌, ℕ, zero, suc, Bool, true, false, ◌||◌, ◌==◌, nat_lt, List, [], ◌∷◌, length, take, Option, Some, None, slice_get, refl, sym, ap, arith, ◌∙◌}
 use Rattle.std.proofs.lemmas.Bool.{eqb-true, eqb-false, ltb-true}
 use Rattle.std.proofs.lemmas.List.{take_more, take_all}
 use Rattle.std.proofs.lemmas.List.Folds.{list_any-append}
 use Rattle.std.proofs.lemmas.Option.{get_or_from_slice_get, slice_get_within, slice_get-get_or}
-use Rattle.std.specs.Cmp.Derive.{both_true}
 use Rattle.std.specs.List.{list_all, list_any}
-use Rattle.vh_nodes.specs.declared.expr.Access.TheVariants as access
 use Rattle.vh_nodes.specs.declared.expr.ExprKind.{ExprKind}
-use Rattle.vh_nodes.specs.declared.expr.ExprKind.TheVariants as kind
 use Rattle.vh_nodes.specs.declared.expr.ExprNode.{ExprNode}
 use Rattle.vh_nodes.specs.declared.object.ObjectInfo.{ObjectInfo}
-use Rattle.vh_nodes.specs.Fits.{fits_kind, all_before, has_kind}
-use Rattle.vh_nodes.specs.Kinds.{is_function, is_variable}
-use Rattle.vh_nodes.proofs.FitsLemmas.{and_left, and_right, only}
+use Rattle.vh_nodes.specs.Fits.{fits_kind}
+use Rattle.vh_nodes.proofs.FitsLemmas.{and_left, and_right}
 use Rattle.vh_design.specs.Laws.{parts_of}
-use Rattle.vh_design.proofs.LawsLemmas.{selected_before}
+use Rattle.vh_design.proofs.LawsLemmas.{parts_before}
 use Rattle.vh_sense.specs.Reads.{object_in, is_the, node_reads, reads_below}
 
 -- Each element passes a test that all pass.
@@ -25,32 +21,10 @@ all_at {X} test (y ∷ ys) zero x all at =
     let same : y ≡ x = cc in ap test (sym same) ∙ and_left (test y) (list_all test ys) all
 all_at test (y ∷ ys) (suc i) x all at = all_at test ys i x (and_right (test y) (list_all test ys) all) at
 
--- The parts come before.
-parts_fit : (os : List ObjectInfo) (precision e : ℕ) (k : ExprKind) → fits_kind os precision e k ≡ true → all_before e (parts_of k) ≡ true
-parts_fit os precision e (kind.Literal v) fits = refl
-parts_fit os precision e (kind.Selected s) fits = selected_before os e access.Read s fits
-parts_fit os precision e (kind.Unary op part) fits = only (nat_lt part e) fits
-parts_fit os precision e (kind.Arithmetic first rest) fits = fits
-parts_fit os precision e (kind.Shift first rest) fits = fits
-parts_fit os precision e (kind.Comparison first rest) fits = fits
-parts_fit os precision e (kind.Logic first rest) fits = fits
-parts_fit os precision e (kind.Choice condition a b) fits =
-    let both = and_left (nat_lt condition e && nat_lt a e) (nat_lt b e) fits in
-    both_true (and_left (nat_lt condition e) (nat_lt a e) both)
-    (both_true (and_right (nat_lt condition e) (nat_lt a e) both)
-    (only (nat_lt b e) (and_right (nat_lt condition e && nat_lt a e) (nat_lt b e) fits)))
-parts_fit os precision e (kind.Join first rest) fits = fits
-parts_fit os precision e (kind.Repeat count part) fits = only (nat_lt part e) fits
-parts_fit os precision e (kind.Marked part signed) fits = only (nat_lt part e) fits
-parts_fit os precision e (kind.Time unit) fits = refl
-parts_fit os precision e (kind.Call function result arguments) fits =
-    and_right (has_kind is_function os function && has_kind is_variable os result) (all_before e arguments) fits
-parts_fit os precision e (kind.SysCall o) fits = refl
-
 pub part_before : (os : List ObjectInfo) (precision e : ℕ) (k : ExprKind) (i part : ℕ) → fits_kind os precision e k ≡ true
     → slice_get (parts_of k) i ≡ Some part → part < e
 part_before os precision e k i part fits at =
-    ltb-true part e (all_at (λ p. nat_lt p e) (parts_of k) i part (parts_fit os precision e k fits) at)
+    ltb-true part e (all_at (λ p. nat_lt p e) (parts_of k) i part (parts_before os precision e k fits) at)
 
 -- What the parts so far read, and one part more.
 pub one_part_more : (test : ℕ → Bool) (own : Bool) (parts : List ℕ) (i part : ℕ) → slice_get parts i ≡ Some part

@@ -12,6 +12,7 @@ use Rattle.vh_logic.specs.declared.digits.Digit.TheVariants.{Zero, One, X, Z}
 use Rattle.vh_logic.specs.Digit.{is_same, test_digit}
 use Rattle.vh_logic.specs.Compare.{case_equality}
 use Rattle.vh_logic.specs.Vector.{Vector, width_of, all_places}
+use Rattle.vh_logic.proofs.Tables.{same_digit}
 use Rattle.vh_nodes.specs.Fits.{same_sign}
 use Rattle.vh_store.specs.declared.record.Record.{Record as Kept}
 use Rattle.vh_store.specs.Contents.{Record, with_record, same_value}
@@ -51,25 +52,6 @@ pub set_absent : {K X : Type 0} (test : K → Bool) (es : List (K × X)) (w : X)
 set_absent test [] w h = refl
 set_absent {K = K} {X = V} test (e ∷ es) w h =
     rw (absent_by (test e.0) e.1 (lookup test es) h) (ap (λ (t : List (K × V)). e ∷ t) (set_absent test es w (absent_behind (test e.0) e.1 (lookup test es) h)))
-
--- Digits that compare as the same are the same.
-same_digit : (d e : Digit) → is_same d e ≡ true → d ≡ e
-same_digit Zero Zero h = refl
-same_digit One One h = refl
-same_digit X X h = refl
-same_digit Z Z h = refl
-same_digit Zero One h = cc
-same_digit Zero X h = cc
-same_digit Zero Z h = cc
-same_digit One Zero h = cc
-same_digit One X h = cc
-same_digit One Z h = cc
-same_digit X Zero h = cc
-same_digit X One h = cc
-same_digit X Z h = cc
-same_digit Z Zero h = cc
-same_digit Z One h = cc
-same_digit Z X h = cc
 
 same_itself : (d : Digit) → is_same d d ≡ true
 same_itself Zero = refl

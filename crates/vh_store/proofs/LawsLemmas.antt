@@ -6,51 +6,25 @@ use Rattle.std.proofs.lemmas.List.{length-replicate, length-take, get_or-replica
 use Rattle.std.proofs.lemmas.List.Sums.{fold-append}
 use Rattle.std.proofs.lemmas.Bool.{ltb-true, ltb-false, lt-ltb, cases_lt}
 use Rattle.vh_logic.specs.declared.digits.Digit.{Digit}
-use Rattle.vh_logic.specs.declared.digits.Digit.TheVariants.{Zero, One, X, Z}
+use Rattle.vh_logic.specs.declared.digits.Digit.TheVariants.{Z}
 use Rattle.vh_logic.specs.Vector.{Vector, width_of, filled, zip_digits}
-use Rattle.vh_logic.proofs.Tables.{digit_eq}
+use Rattle.vh_logic.specs.Digit.{is_same}
+use Rattle.vh_logic.proofs.Tables.{same_digit, all_digits, at_digit}
 use Rattle.vh_nodes.specs.declared.object.NetType.{NetType}
 use Rattle.vh_nodes.specs.declared.object.NetType.TheVariants as net
-use Rattle.vh_nodes.proofs.FitsLemmas.{and_left, and_right}
+use Rattle.vh_nodes.proofs.FitsLemmas.{and_left}
 use Rattle.vh_store.specs.declared.net.Driven.{Driven}
 use Rattle.vh_store.specs.Resolution.{wire_digit, wired_and_digit, wired_or_digit, digit_joined, digits_inside, placed, with_driver}
 use Rattle.vh_store.specs.Laws.{digit_given, JoinsDigits, HasNoOrder}
 
-abbrev for_all : (Digit → Bool) → Bool
-for_all p = p Zero && p One && p X && p Z
-
-at-each : (p : Digit → Bool) → for_all p ≡ true → (d : Digit) → p d ≡ true
-at-each p h Zero = and_left (p Zero) (p One) (and_left (p Zero && p One) (p X) (and_left (p Zero && p One && p X) (p Z) h))
-at-each p h One = and_right (p Zero) (p One) (and_left (p Zero && p One) (p X) (and_left (p Zero && p One && p X) (p Z) h))
-at-each p h X = and_right (p Zero && p One) (p X) (and_left (p Zero && p One && p X) (p Z) h)
-at-each p h Z = and_right (p Zero && p One && p X) (p Z) h
-
-same-digit : (d e : Digit) → digit_eq d e ≡ true → d ≡ e
-same-digit Zero Zero h = refl
-same-digit One One h = refl
-same-digit X X h = refl
-same-digit Z Z h = refl
-same-digit Zero One h = cc
-same-digit Zero X h = cc
-same-digit Zero Z h = cc
-same-digit One Zero h = cc
-same-digit One X h = cc
-same-digit One Z h = cc
-same-digit X Zero h = cc
-same-digit X One h = cc
-same-digit X Z h = cc
-same-digit Z Zero h = cc
-same-digit Z One h = cc
-same-digit Z X h = cc
-
 -- Two digits that are joined one after the other may change places.
 abbrev swaps : (Digit → Digit → Digit) → Digit → Digit → Digit → Bool
-swaps f c d e = digit_eq (f (f c d) e) (f (f c e) d)
+swaps f c d e = is_same (f (f c d) e) (f (f c e) d)
 
-by-table : (f : Digit → Digit → Digit) → for_all (λ c. for_all (λ d. for_all (swaps f c d))) ≡ true
+by-table : (f : Digit → Digit → Digit) → all_digits (λ c. all_digits (λ d. all_digits (swaps f c d))) ≡ true
     → (c d e : Digit) → f (f c d) e ≡ f (f c e) d
 by-table f rows c d e =
-    same-digit _ _ (at-each (swaps f c d) (at-each (λ d. for_all (swaps f c d)) (at-each (λ c. for_all (λ d. for_all (swaps f c d))) rows c) d) e)
+    same_digit _ _ (at_digit (swaps f c d) (at_digit (λ d. all_digits (swaps f c d)) (at_digit (λ c. all_digits (λ d. all_digits (swaps f c d))) rows c) d) e)
 
 swapped : (t : NetType) (c d e : Digit) → digit_joined t (digit_joined t c d) e ≡ digit_joined t (digit_joined t c e) d
 swapped net.Wire c d e = by-table wire_digit refl c d e

@@ -14,6 +14,7 @@ use Rattle.vh_logic.specs.declared.digits.Digit.TheVariants.{Zero, One, X, Z}
 use Rattle.vh_logic.specs.Digit.{is_same, test_digit}
 use Rattle.vh_logic.specs.Vector.{Vector, all_places}
 use Rattle.vh_logic.specs.Number.{number_of, digit_value, all_known, known_number, twos_complement, integer_at, integer_of}
+use Rattle.vh_logic.proofs.Tables.{by_digits}
 use Rattle.vh_text.specs.Texts.{groups_text, character_text}
 
 or_true : (b : Bool) → (b || true) ≡ true
@@ -39,22 +40,7 @@ quotient_cases (suc zero) r p h k n = absurd (n refl)
 quotient_cases (suc (suc q)) r p h k n = absurd (omega arith)
 
 pub is_same-comm : (d e : Digit) → is_same d e ≡ is_same e d
-is_same-comm Zero Zero = refl
-is_same-comm Zero One = refl
-is_same-comm Zero X = refl
-is_same-comm Zero Z = refl
-is_same-comm One Zero = refl
-is_same-comm One One = refl
-is_same-comm One X = refl
-is_same-comm One Z = refl
-is_same-comm X Zero = refl
-is_same-comm X One = refl
-is_same-comm X X = refl
-is_same-comm X Z = refl
-is_same-comm Z Zero = refl
-is_same-comm Z One = refl
-is_same-comm Z X = refl
-is_same-comm Z Z = refl
+is_same-comm = by_digits is_same (λ d e. is_same e d) refl
 
 -- A comparison with one digit at each place
 pub all_places-replicate : (d : Digit) (ds : List Digit) → all_places is_same ds (replicate (length ds) d) ≡ list_all (is_same d) ds
@@ -86,22 +72,7 @@ groups_text-none n left k ds h =
 
 -- What a derived comparison of digits answers
 pub sameb-same : (d e : Digit) → is_same e d ≡ sameb the_type d e
-sameb-same Zero Zero = refl
-sameb-same Zero One = refl
-sameb-same Zero X = refl
-sameb-same Zero Z = refl
-sameb-same One Zero = refl
-sameb-same One One = refl
-sameb-same One X = refl
-sameb-same One Z = refl
-sameb-same X Zero = refl
-sameb-same X One = refl
-sameb-same X X = refl
-sameb-same X Z = refl
-sameb-same Z Zero = refl
-sameb-same Z One = refl
-sameb-same Z X = refl
-sameb-same Z Z = refl
+sameb-same = by_digits (λ d e. is_same e d) (sameb the_type) refl
 
 pub sameb-test : (b : Bool) → sameb the_type (test_digit b) One ≡ b
 sameb-test true = refl

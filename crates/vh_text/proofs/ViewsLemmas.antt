@@ -18,6 +18,7 @@ use Rattle.vh_logic.specs.declared.vector.TheConstants.{MAX_WIDTH}
 use Rattle.vh_logic.specs.Number.{binary}
 use Rattle.vh_logic.specs.Planes.{digit_of, digits_of}
 use Rattle.vh_logic.specs.PlanesBack.{by_bit}
+use Rattle.vh_logic.proofs.Tables.{same_digit}
 use Rattle.vh_text.specs.declared.pattern.Pattern.{Pattern}
 use Rattle.vh_text.specs.Marks.{is_x_letter, is_z_letter}
 use Rattle.vh_text.specs.Digits.{character_digits, joined_digits, spelled_digits, question_as_z, characters, spelled_characters, fill_of, is_held}
@@ -130,24 +131,6 @@ fill-fill Zero = refl
 fill-fill One = refl
 fill-fill X = refl
 fill-fill Z = refl
-
-same_digit : (d e : Digit) → is_same d e ≡ true → d ≡ e
-same_digit Zero Zero h = refl
-same_digit Zero One h = cc
-same_digit Zero X h = cc
-same_digit Zero Z h = cc
-same_digit One Zero h = cc
-same_digit One One h = refl
-same_digit One X h = cc
-same_digit One Z h = cc
-same_digit X Zero h = cc
-same_digit X One h = cc
-same_digit X X h = refl
-same_digit X Z h = cc
-same_digit Z Zero h = cc
-same_digit Z One h = cc
-same_digit Z X h = cc
-same_digit Z Z h = refl
 
 and_both : (a b : Bool) → (a && b) ≡ true → (a ≡ true) × (b ≡ true)
 and_both true b h = (refl, h)

@@ -16,36 +16,24 @@ overflow_shr-self-inside-2 c = let below : c.self.inside.width ≤ MAX_WIDTH = c
 
 pub returns-in-true-true : goal.returns-in-true-true
 returns-in-true-true c =
-    rw (
-      ← c.self.view_is,
-      slice_get-digits_of c.self.inside.width c.self.inside.aval c.self.inside.bval c.args.i (omega (arith, width-planes _ _ _ _ _ c.self.view_is)),
-      bit_set _ _ c.in-true-true.is-0,
-      bit_set _ _ c.in-true-true.is-1,
-    ) refl
+    let s = c.self.inside in
+    let digit = slice_get-digits_of s.width s.aval s.bval c.args.i (omega (arith, width-planes _ _ _ _ _ c.self.view_is)) in
+    rw (← c.self.view_is, digit, bit_set _ _ c.in-true-true.is-0, bit_set _ _ c.in-true-true.is-1) refl
 
 pub returns-in-true-false : goal.returns-in-true-false
 returns-in-true-false c =
-    rw (
-      ← c.self.view_is,
-      slice_get-digits_of c.self.inside.width c.self.inside.aval c.self.inside.bval c.args.i (omega (arith, width-planes _ _ _ _ _ c.self.view_is)),
-      bit_set _ _ c.in-true-false.is-0,
-      bit_clear _ _ c.in-true-false.is-1,
-    ) refl
+    let s = c.self.inside in
+    let digit = slice_get-digits_of s.width s.aval s.bval c.args.i (omega (arith, width-planes _ _ _ _ _ c.self.view_is)) in
+    rw (← c.self.view_is, digit, bit_set _ _ c.in-true-false.is-0, bit_clear _ _ c.in-true-false.is-1) refl
 
 pub returns-in-false-true : goal.returns-in-false-true
 returns-in-false-true c =
-    rw (
-      ← c.self.view_is,
-      slice_get-digits_of c.self.inside.width c.self.inside.aval c.self.inside.bval c.args.i (omega (arith, width-planes _ _ _ _ _ c.self.view_is)),
-      bit_clear _ _ c.in-false-true.is-0,
-      bit_set _ _ c.in-false-true.is-1,
-    ) refl
+    let s = c.self.inside in
+    let digit = slice_get-digits_of s.width s.aval s.bval c.args.i (omega (arith, width-planes _ _ _ _ _ c.self.view_is)) in
+    rw (← c.self.view_is, digit, bit_clear _ _ c.in-false-true.is-0, bit_set _ _ c.in-false-true.is-1) refl
 
 pub returns-in-false-false : goal.returns-in-false-false
 returns-in-false-false c =
-    rw (
-      ← c.self.view_is,
-      slice_get-digits_of c.self.inside.width c.self.inside.aval c.self.inside.bval c.args.i (omega (arith, width-planes _ _ _ _ _ c.self.view_is)),
-      bit_clear _ _ c.in-false-false.is-0,
-      bit_clear _ _ c.in-false-false.is-1,
-    ) refl
+    let s = c.self.inside in
+    let digit = slice_get-digits_of s.width s.aval s.bval c.args.i (omega (arith, width-planes _ _ _ _ _ c.self.view_is)) in
+    rw (← c.self.view_is, digit, bit_clear _ _ c.in-false-false.is-0, bit_clear _ _ c.in-false-false.is-1) refl
