@@ -1,6 +1,6 @@
 -- Lemmas on `specs/Serials.antt`: in rising order the first is the least; what is least of two kinds; and which
 -- entries may be picked.
-use Rattle.std.proofs.Common.{◌≡◌, ◌∙◌, ℕ, ◌+◌, ◌<◌, ◌≤◌, List, [], ◌∷◌, ◌++◌, map, filter, length, Bool, true, false, not, ◌&&◌, ◌||◌, cond, nat_lt, Option, Some, None, slice_get, refl, sym, ap, arith}
+use Rattle.std.proofs.Common.{◌≡◌, ◌∙◌, ℕ, ◌+◌, ◌<◌, ◌≤◌, min, max, List, [], ◌∷◌, ◌++◌, map, filter, length, Bool, true, false, not, ◌&&◌, ◌||◌, cond, nat_lt, Option, Some, None, slice_get, refl, sym, ap, arith}
 use Rattle.std.proofs.lemmas.Bool.{le-ltb, lt-ltb}
 use Rattle.std.proofs.lemmas.Bool.Decides.{nat_tests}
 use Rattle.std.specs.List.{list_any}
@@ -43,66 +43,88 @@ last-append [] x = refl
 last-append (y ∷ []) x = refl
 last-append (y ∷ z ∷ xs) x = last-append (z ∷ xs) x
 
--- What is least of two kinds is the earlier of both, and what is greatest the later.
-least-both : (a : ℕ) (p q : Option ℕ) → earlier_of (Some a) (earlier_of p q) ≡ earlier_of (earlier_of (Some a) p) (earlier_of (Some a) q)
-least-both a None None = ap Some (omega arith)
-least-both a None (Some y) = ap Some (omega arith)
-least-both a (Some x) None = ap Some (omega arith)
-least-both a (Some x) (Some y) = ap Some (omega arith)
+-- What is picked of two kinds is what is picked of both, where a pick is the same in any order: of one number it is the number, and
+-- it goes by pairs.
+abbrev one-of : (ℕ → ℕ → ℕ) → Option ℕ → Option ℕ → Option ℕ
+one-of pick None b = b
+one-of pick (Some a) None = Some a
+one-of pick (Some a) (Some b) = Some (pick a b)
 
-least-left : (a : ℕ) (p q : Option ℕ) → earlier_of (Some a) (earlier_of p q) ≡ earlier_of (earlier_of (Some a) p) q
-least-left a None None = refl
-least-left a None (Some y) = refl
-least-left a (Some x) None = refl
-least-left a (Some x) (Some y) = ap Some (omega arith)
+abbrev of-all : (ℕ → ℕ → ℕ) → List Entry → Option ℕ
+of-all pick [] = None
+of-all pick (e ∷ es) = one-of pick (Some e.serial) (of-all pick es)
 
-least-right : (a : ℕ) (p q : Option ℕ) → earlier_of (Some a) (earlier_of p q) ≡ earlier_of p (earlier_of (Some a) q)
-least-right a None q = refl
-least-right a (Some x) None = ap Some (omega arith)
-least-right a (Some x) (Some y) = ap Some (omega arith)
+record Picks (pick : ℕ → ℕ → ℕ) : Type 0 where
+  itself : (a : ℕ) → pick a a ≡ a
+  swaps : (a b : ℕ) → pick a b ≡ pick b a
+  pairs : (a b c : ℕ) → pick a (pick b c) ≡ pick (pick a b) c
+
+of-left : (pick : ℕ → ℕ → ℕ) → Picks pick → (a : ℕ) (p q : Option ℕ)
+    → one-of pick (Some a) (one-of pick p q) ≡ one-of pick (one-of pick (Some a) p) q
+of-left pick h a None None = refl
+of-left pick h a None (Some y) = refl
+of-left pick h a (Some x) None = refl
+of-left pick h a (Some x) (Some y) = ap Some (h.pairs a x y)
+
+of-right : (pick : ℕ → ℕ → ℕ) → Picks pick → (a : ℕ) (p q : Option ℕ)
+    → one-of pick (Some a) (one-of pick p q) ≡ one-of pick p (one-of pick (Some a) q)
+of-right pick h a None q = refl
+of-right pick h a (Some x) None = ap Some (h.swaps a x)
+of-right pick h a (Some x) (Some y) = ap Some (h.pairs a x y ∙ ap (λ n. pick n y) (h.swaps a x) ∙ sym (h.pairs x a y))
+
+of-both : (pick : ℕ → ℕ → ℕ) → Picks pick → (a : ℕ) (p q : Option ℕ)
+    → one-of pick (Some a) (one-of pick p q) ≡ one-of pick (one-of pick (Some a) p) (one-of pick (Some a) q)
+of-both pick h a None None = ap Some (sym (h.itself a))
+of-both pick h a None (Some y) = ap Some (ap (λ n. pick n y) (sym (h.itself a)) ∙ sym (h.pairs a a y))
+of-both pick h a (Some x) None =
+    ap Some (ap (λ n. pick n x) (sym (h.itself a)) ∙ sym (h.pairs a a x) ∙ h.swaps a (pick a x))
+of-both pick h a (Some x) (Some y) =
+    ap Some (h.pairs a x y ∙ ap (λ n. pick n y)
+    (ap (λ n. pick n x) (sym (h.itself a)) ∙ sym (h.pairs a a x) ∙ h.swaps a (pick a x)) ∙ sym (h.pairs (pick a x) a y))
+
+of-union : (pick : ℕ → ℕ → ℕ) → Picks pick → (p q : Entry → Bool) (es : List Entry)
+    → of-all pick (filter (λ e. p e || q e) es) ≡ one-of pick (of-all pick (filter p es)) (of-all pick (filter q es))
+of-union pick h p q [] = refl
+of-union pick h p q (e ∷ es) = by_test (p e) (q e) (of-union pick h p q es)
+  where
+    by_test : (a b : Bool) → of-all pick (filter (λ e. p e || q e) es) ≡ one-of pick (of-all pick (filter p es)) (of-all pick (filter q es))
+        → of-all pick (cond (a || b) (e ∷ filter (λ e. p e || q e) es) (filter (λ e. p e || q e) es))
+        ≡ one-of pick (of-all pick (cond a (e ∷ filter p es) (filter p es))) (of-all pick (cond b (e ∷ filter q es) (filter q es)))
+    by_test true true rest = ap (one-of pick (Some e.serial)) rest ∙ of-both pick h e.serial (of-all pick (filter p es)) (of-all pick (filter q es))
+    by_test true false rest = ap (one-of pick (Some e.serial)) rest ∙ of-left pick h e.serial (of-all pick (filter p es)) (of-all pick (filter q es))
+    by_test false true rest = ap (one-of pick (Some e.serial)) rest ∙ of-right pick h e.serial (of-all pick (filter p es)) (of-all pick (filter q es))
+    by_test false false rest = rest
+
+-- So it is with the least and with the greatest.
+earlier-is : (a b : Option ℕ) → earlier_of a b ≡ one-of min a b
+earlier-is None b = refl
+earlier-is (Some a) None = refl
+earlier-is (Some a) (Some b) = refl
+
+least-is : (es : List Entry) → least_serial es ≡ of-all min es
+least-is [] = refl
+least-is (e ∷ es) = earlier-is (Some e.serial) (least_serial es) ∙ ap (one-of min (Some e.serial)) (least-is es)
+
+later-is : (a b : Option ℕ) → later_of a b ≡ one-of max a b
+later-is None b = refl
+later-is (Some a) None = refl
+later-is (Some a) (Some b) = refl
+
+greatest-is : (es : List Entry) → greatest_serial es ≡ of-all max es
+greatest-is [] = refl
+greatest-is (e ∷ es) = later-is (Some e.serial) (greatest_serial es) ∙ ap (one-of max (Some e.serial)) (greatest-is es)
 
 pub least-union : (p q : Entry → Bool) (es : List Entry)
     → least_serial (filter (λ e. p e || q e) es) ≡ earlier_of (least_serial (filter p es)) (least_serial (filter q es))
-least-union p q [] = refl
-least-union p q (e ∷ es) = by_test (p e) (q e) (least-union p q es)
-  where
-    by_test : (a b : Bool) → least_serial (filter (λ e. p e || q e) es) ≡ earlier_of (least_serial (filter p es)) (least_serial (filter q es))
-        → least_serial (cond (a || b) (e ∷ filter (λ e. p e || q e) es) (filter (λ e. p e || q e) es))
-        ≡ earlier_of (least_serial (cond a (e ∷ filter p es) (filter p es))) (least_serial (cond b (e ∷ filter q es) (filter q es)))
-    by_test true true rest = ap (λ (o : Option ℕ). earlier_of (Some e.serial) o) rest ∙ least-both e.serial (least_serial (filter p es)) (least_serial (filter q es))
-    by_test true false rest = ap (λ (o : Option ℕ). earlier_of (Some e.serial) o) rest ∙ least-left e.serial (least_serial (filter p es)) (least_serial (filter q es))
-    by_test false true rest = ap (λ (o : Option ℕ). earlier_of (Some e.serial) o) rest ∙ least-right e.serial (least_serial (filter p es)) (least_serial (filter q es))
-    by_test false false rest = rest
-
-later-both : (a : ℕ) (p q : Option ℕ) → later_of (Some a) (later_of p q) ≡ later_of (later_of (Some a) p) (later_of (Some a) q)
-later-both a None None = ap Some (omega arith)
-later-both a None (Some y) = ap Some (omega arith)
-later-both a (Some x) None = ap Some (omega arith)
-later-both a (Some x) (Some y) = ap Some (omega arith)
-
-later-left : (a : ℕ) (p q : Option ℕ) → later_of (Some a) (later_of p q) ≡ later_of (later_of (Some a) p) q
-later-left a None None = refl
-later-left a None (Some y) = refl
-later-left a (Some x) None = refl
-later-left a (Some x) (Some y) = ap Some (omega arith)
-
-later-right : (a : ℕ) (p q : Option ℕ) → later_of (Some a) (later_of p q) ≡ later_of p (later_of (Some a) q)
-later-right a None q = refl
-later-right a (Some x) None = ap Some (omega arith)
-later-right a (Some x) (Some y) = ap Some (omega arith)
+least-union p q es =
+    rw (earlier-is (least_serial (filter p es)) (least_serial (filter q es)), least-is (filter (λ e. p e || q e) es), least-is (filter p es), least-is (filter q es))
+    (of-union min (record { itself = λ a. omega arith; swaps = λ a b. omega arith; pairs = λ a b c. omega arith }) p q es)
 
 pub greatest-union : (p q : Entry → Bool) (es : List Entry)
     → greatest_serial (filter (λ e. p e || q e) es) ≡ later_of (greatest_serial (filter p es)) (greatest_serial (filter q es))
-greatest-union p q [] = refl
-greatest-union p q (e ∷ es) = by_test (p e) (q e) (greatest-union p q es)
-  where
-    by_test : (a b : Bool) → greatest_serial (filter (λ e. p e || q e) es) ≡ later_of (greatest_serial (filter p es)) (greatest_serial (filter q es))
-        → greatest_serial (cond (a || b) (e ∷ filter (λ e. p e || q e) es) (filter (λ e. p e || q e) es))
-        ≡ later_of (greatest_serial (cond a (e ∷ filter p es) (filter p es))) (greatest_serial (cond b (e ∷ filter q es) (filter q es)))
-    by_test true true rest = ap (λ (o : Option ℕ). later_of (Some e.serial) o) rest ∙ later-both e.serial (greatest_serial (filter p es)) (greatest_serial (filter q es))
-    by_test true false rest = ap (λ (o : Option ℕ). later_of (Some e.serial) o) rest ∙ later-left e.serial (greatest_serial (filter p es)) (greatest_serial (filter q es))
-    by_test false true rest = ap (λ (o : Option ℕ). later_of (Some e.serial) o) rest ∙ later-right e.serial (greatest_serial (filter p es)) (greatest_serial (filter q es))
-    by_test false false rest = rest
+greatest-union p q es =
+    rw (later-is (greatest_serial (filter p es)) (greatest_serial (filter q es)), greatest-is (filter (λ e. p e || q e) es), greatest-is (filter p es), greatest-is (filter q es))
+    (of-union max (record { itself = λ a. omega arith; swaps = λ a b. omega arith; pairs = λ a b c. omega arith }) p q es)
 
 -- How many there are of two kinds that have nothing in common.
 pub length-union : (p q : Entry → Bool) (es : List Entry) → ((e : Entry) → (p e && q e) ≡ false)

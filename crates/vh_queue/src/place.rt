@@ -5,7 +5,7 @@ ghost use Rattle.vh_queue.specs.Events.{earlier_of};
 ghost use Rattle.vh_queue.specs.Serials.{later_of, last_of};
 
 use crate::marks::Marks;
-use crate::region::Region;
+use crate::region::Region::{Active, Inactive, Monitor, Nonblocking};
 use vh_near::Near;
 
 // Where an entry with a time waits: by its time, its region's rank and its serial.
@@ -140,16 +140,10 @@ pub(crate) fn first_four(places: &Places, time: u64, own: u64, marks: &Marks) ->
     if are_later(places, time) {
         return None;
     }
-    let active = first_of(places, time, Region::Active as u8, 0, own);
-    let inactive = first_of(places, time, Region::Inactive as u8, 0, marks.inactive);
-    let nonblocking = first_of(
-        places,
-        time,
-        Region::Nonblocking as u8,
-        0,
-        marks.nonblocking,
-    );
-    let monitor = first_of(places, time, Region::Monitor as u8, 0, marks.monitor);
+    let active = first_of(places, time, Active as u8, 0, own);
+    let inactive = first_of(places, time, Inactive as u8, 0, marks.inactive);
+    let nonblocking = first_of(places, time, Nonblocking as u8, 0, marks.nonblocking);
+    let monitor = first_of(places, time, Monitor as u8, 0, marks.monitor);
     earlier(earlier(active, inactive), earlier(nonblocking, monitor))
 }
 
@@ -160,17 +154,10 @@ pub(crate) fn any_four(places: &Places, time: u64, own: u64, marks: &Marks) -> b
     if are_later(places, time) {
         return false;
     }
-    first_of(places, time, Region::Active as u8, 0, own).is_some()
-        || first_of(places, time, Region::Inactive as u8, 0, marks.inactive).is_some()
-        || first_of(
-            places,
-            time,
-            Region::Nonblocking as u8,
-            0,
-            marks.nonblocking,
-        )
-        .is_some()
-        || first_of(places, time, Region::Monitor as u8, 0, marks.monitor).is_some()
+    first_of(places, time, Active as u8, 0, own).is_some()
+        || first_of(places, time, Inactive as u8, 0, marks.inactive).is_some()
+        || first_of(places, time, Nonblocking as u8, 0, marks.nonblocking).is_some()
+        || first_of(places, time, Monitor as u8, 0, marks.monitor).is_some()
 }
 
 // The last one.
@@ -180,16 +167,10 @@ pub(crate) fn last_four(places: &Places, time: u64, own: u64, marks: &Marks) -> 
     if are_later(places, time) {
         return None;
     }
-    let active = last_of(places, time, Region::Active as u8, 0, own);
-    let inactive = last_of(places, time, Region::Inactive as u8, 0, marks.inactive);
-    let nonblocking = last_of(
-        places,
-        time,
-        Region::Nonblocking as u8,
-        0,
-        marks.nonblocking,
-    );
-    let monitor = last_of(places, time, Region::Monitor as u8, 0, marks.monitor);
+    let active = last_of(places, time, Active as u8, 0, own);
+    let inactive = last_of(places, time, Inactive as u8, 0, marks.inactive);
+    let nonblocking = last_of(places, time, Nonblocking as u8, 0, marks.nonblocking);
+    let monitor = last_of(places, time, Monitor as u8, 0, marks.monitor);
     later(later(active, inactive), later(nonblocking, monitor))
 }
 
@@ -201,16 +182,10 @@ pub(crate) fn count_four(places: &Places, time: u64, own: u64, marks: &Marks) ->
     if are_later(places, time) {
         return 0;
     }
-    let active = count_of(places, time, Region::Active as u8, 0, own);
-    let inactive = count_of(places, time, Region::Inactive as u8, 0, marks.inactive);
-    let nonblocking = count_of(
-        places,
-        time,
-        Region::Nonblocking as u8,
-        0,
-        marks.nonblocking,
-    );
-    let monitor = count_of(places, time, Region::Monitor as u8, 0, marks.monitor);
+    let active = count_of(places, time, Active as u8, 0, own);
+    let inactive = count_of(places, time, Inactive as u8, 0, marks.inactive);
+    let nonblocking = count_of(places, time, Nonblocking as u8, 0, marks.nonblocking);
+    let monitor = count_of(places, time, Monitor as u8, 0, marks.monitor);
     (active + inactive) + (nonblocking + monitor)
 }
 

@@ -22,8 +22,7 @@ row_from-before-requires c c' =
 pub returns-then-before-eq0 : goal.returns-then-before-eq0
 returns-then-before-eq0 c c' =
     let R = c.K.Ord.cmp in let o = c.met.K.Ord.total in
-    let xs = c'.self.inside.near.items in let ys = c'.self.inside.far.keys in
-    let first = c'.args.first.now in let end = c'.args.end.now in
+    let xs = c'.self.inside.near.items in let ys = c'.self.inside.far.keys in let first = c'.args.first.now in let end = c'.args.end.now in
     let empty : c'.range.result ≡ [] = search rules in
     let none : filter (between R o first end) ys ≡ [] = sym (c'.range.ensures.between (search rules)) ∙ empty in
     let n_is : c'.row_from-before.result ≡ before_len R end xs = c'.row_from-before.ensures ∙ ap (before_len R end) c'.deref.ensures.value in
@@ -34,8 +33,7 @@ returns-then-before-eq0 c c' =
 pub returns-in_err-last : goal.returns-in_err-last
 returns-in_err-last c c' =
     let R = c.K.Ord.cmp in let o = c.met.K.Ord.total in
-    let xs = c'.self.inside.near.items in let ys = c'.self.inside.far.keys in
-    let first = c'.args.first.now in let end = c'.args.end.now in
+    let xs = c'.self.inside.near.items in let ys = c'.self.inside.far.keys in let first = c'.args.first.now in let end = c'.args.end.now in
     let empty : c'.range.result ≡ [] = search rules in
     let none : filter (between R o first end) ys ≡ [] = sym (c'.range.ensures.between (search rules)) ∙ empty in
     let n_is : c'.row_from-before.result ≡ before_len R end xs = c'.row_from-before.ensures ∙ ap (before_len R end) c'.deref.ensures.value in
@@ -48,8 +46,7 @@ returns-in_err-last c c' =
 pub returns-then-le : goal.returns-then-le
 returns-then-le c c' =
     let R = c.K.Ord.cmp in let o = c.met.K.Ord.total in
-    let xs = c'.self.inside.near.items in let ys = c'.self.inside.far.keys in
-    let first = c'.args.first.now in let end = c'.args.end.now in
+    let xs = c'.self.inside.near.items in let ys = c'.self.inside.far.keys in let first = c'.args.first.now in let end = c'.args.end.now in
     let empty : c'.range.result ≡ [] = search rules in
     let none : filter (between R o first end) ys ≡ [] = sym (c'.range.ensures.between (search rules)) ∙ empty in
     let n_is : c'.row_from-before.result ≡ before_len R end xs = c'.row_from-before.ensures ∙ ap (before_len R end) c'.deref.ensures.value in
@@ -66,8 +63,7 @@ returns-then-le c c' =
 pub returns-else-le : goal.returns-else-le
 returns-else-le c c' =
     let R = c.K.Ord.cmp in let o = c.met.K.Ord.total in
-    let xs = c'.self.inside.near.items in let ys = c'.self.inside.far.keys in
-    let first = c'.args.first.now in let end = c'.args.end.now in
+    let xs = c'.self.inside.near.items in let ys = c'.self.inside.far.keys in let first = c'.args.first.now in let end = c'.args.end.now in
     let empty : c'.range.result ≡ [] = search rules in
     let none : filter (between R o first end) ys ≡ [] = sym (c'.range.ensures.between (search rules)) ∙ empty in
     let n_is : c'.row_from-before.result ≡ before_len R end xs = c'.row_from-before.ensures ∙ ap (before_len R end) c'.deref.ensures.value in

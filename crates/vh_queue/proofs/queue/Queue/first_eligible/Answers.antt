@@ -3,24 +3,15 @@ use Rattle.vh_queue.proofs.queue.Queue.first_eligible.Goals as goal
 
 pub returns-then-self-gt0-clause-serial : goal.returns-then-self-gt0-clause-serial
 returns-then-self-gt0-clause-serial c =
-    let i = c.self.inside in
-    first-starts c.args.self.now i.starts i.ready c.first_start.result
-    (counts-of i.next i.time i.starts i.ready i.marks i.entries i.index c.args.self.now c.self.invariant c.self.view_is)
-    c.if-self-gt0.true c.first_start.ensures
+    first-starts _ _ _ _ (counts-of _ _ _ _ _ _ _ _ c.self.invariant c.self.view_is) c.if-self-gt0.true c.first_start.ensures
 
 pub returns-clause-serial : goal.returns-clause-serial
 returns-clause-serial c =
-    let i = c.self.inside in
-    first-ready c.args.self.now i.starts i.ready c.first_plain.result c.first_update.result c.earlier.result
-    (counts-of i.next i.time i.starts i.ready i.marks i.entries i.index c.args.self.now c.self.invariant c.self.view_is)
+    first-ready _ _ _ _ _ _ (counts-of _ _ _ _ _ _ _ _ c.self.invariant c.self.view_is)
     c.if-self-gt0.false c.first_plain.ensures c.first_update.ensures c.earlier.ensures
 
 pub returns-then-self-gt0-clause-rising : goal.returns-then-self-gt0-clause-rising
-returns-then-self-gt0-clause-rising c =
-    let i = c.self.inside in
-    (counts-of i.next i.time i.starts i.ready i.marks i.entries i.index c.args.self.now c.self.invariant c.self.view_is).rises
+returns-then-self-gt0-clause-rising c = (counts-of _ _ _ _ _ _ _ _ c.self.invariant c.self.view_is).rises
 
 pub returns-clause-rising : goal.returns-clause-rising
-returns-clause-rising c =
-    let i = c.self.inside in
-    (counts-of i.next i.time i.starts i.ready i.marks i.entries i.index c.args.self.now c.self.invariant c.self.view_is).rises
+returns-clause-rising c = (counts-of _ _ _ _ _ _ _ _ c.self.invariant c.self.view_is).rises
