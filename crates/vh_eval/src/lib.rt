@@ -16,4 +16,4 @@ mod selects;
 
 pub use evaluation::eval;
 pub use laws::eval_laws;
-pub use selects::{integer, selected, sliced};
+pub use selects::{integer, lowest_index, place_of, selected, sliced};

@@ -42,11 +42,13 @@ pub(crate) fn address_of(index: &Vec4) -> Option<u32>
     u32::try_from(integer(index)?).ok()
 }
 
-// The place of an index.
-fn place_of(range: Range, index: i128) -> i128
+/// The place of an index in a range: 0 at the range's last index (IEEE 1364-2005, 4.3.1).
+pub fn place_of(range: Range, index: i128) -> i128
     requires below { index <ℤ pos (2 ^ 65) }
     requires above { neg_ℤ (pos (2 ^ 65)) <ℤ index }
     ensures value { result ≡ place_of range index }
+    ensures below { result <ℤ pos (2 ^ 66) }
+    ensures above { neg_ℤ (pos (2 ^ 66)) <ℤ result }
 {
     let right = i128::from(range.right);
     if range.left >= range.right {
@@ -56,8 +58,9 @@ fn place_of(range: Range, index: i128) -> i128
     }
 }
 
-// The index of the lowest digit of so many.
-fn lowest_index(range: Range, up: bool, index: i128, width: u32) -> i128
+/// The index of the lowest of so many digits of a select `[index +: width]`, where `up`, or
+/// `[index -: width]` (IEEE 1364-2005, 5.2.1).
+pub fn lowest_index(range: Range, up: bool, index: i128, width: u32) -> i128
     requires least { 1 ≤ width }
     requires below { index <ℤ pos (2 ^ 64) }
     requires above { neg_ℤ (pos (2 ^ 64)) <ℤ index }

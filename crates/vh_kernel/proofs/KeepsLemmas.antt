@@ -5,7 +5,6 @@ use Rattle.vh_base.specs.Checks.{unless, with_some, with_ok}
 use Rattle.vh_assign.specs.Pieces.{pieces_in}
 use Rattle.vh_assign.specs.Values.{right_side}
 use Rattle.vh_base.specs.declared.faults.Fault.{Fault}
-use Rattle.vh_base.specs.declared.orders.Object.{Object}
 use Rattle.vh_base.specs.declared.faults.Fault.TheVariants as fault
 use Rattle.vh_code.specs.declared.target.Input.{Input}
 use Rattle.vh_code.specs.declared.change.Change.{Change}
@@ -38,7 +37,7 @@ use Rattle.vh_queue.specs.Events.{Events, is_full, added, cleared}
 use Rattle.vh_simulation.specs.Activity.{Activity}
 use Rattle.vh_simulation.specs.Entries.{Watched, watched, Agenda, woken_one, all_woken, waking, monitor_entered, monitored, list_reads, following, entered, entered_by, all_entered}
 use Rattle.vh_simulation.specs.Follows.{Serials, no_serials, noted, Followed, followed, last_of, is_standing, is_in_place, added_one, follow_entered, one_followed, all_followed}
-use Rattle.vh_simulation.specs.Labels.{Came, Performed, with_entries, agenda_of, with_world, world_in, monitor_of, displayed_by, displayed_at, displayed, performed, updated, driven as driven_by, followed_up, putting, worked}
+use Rattle.vh_simulation.specs.Labels.{Came, Performed, with_entries, agenda_of, with_world, world_in, monitor_of, displayed_by, displayed_at, displayed, performed, with_changes, worked}
 use Rattle.vh_sense.specs.declared.follow.Follow.{Follow}
 use Rattle.vh_sense.specs.Sensitivity.{woken, readers_of}
 use Rattle.vh_store.specs.Contents.{Contents, driven, same_value}
@@ -459,24 +458,15 @@ module _ (Q : Serials → Events → Type 0) (k : KeepsNotes Q) where
       (λ b there. then-ok (ShownKeeps (Q b.follows)) (PerformedKeeps Q) (displayed b.design b.store r.next (watched b.monitor b.queue)) _
       (displayed-keeps (Q b.follows) (k.each b.follows) b.design b.store r.next (watched b.monitor b.queue) there) (λ c after. after)))
 
-  updated-keeps : (p : Piece) (a : Activity) → Q a.follows a.queue → AllOk (CameKeeps Q) (updated p a)
-  updated-keeps p a holds = then-ok (ActivityKeeps Q) (CameKeeps Q) (with_entries _ _) _ (entries-keep _ _ holds) (λ b here. here)
-
-  driver-keeps : (x : ℕ) (v : Vector) (a : Activity) → Q a.follows a.queue → AllOk (CameKeeps Q) (driven_by x v a)
-  driver-keeps x v a holds = then-ok (ActivityKeeps Q) (CameKeeps Q) (with_entries _ _) _ (entries-keep _ _ holds) (λ b here. here)
-
-  followed-up-keeps : (force : Bool) (o : ℕ) (a : Activity) → Q a.follows a.queue → AllOk (CameKeeps Q) (followed_up force o a)
-  followed-up-keeps force o a holds = then-ok (ActivityKeeps Q) (CameKeeps Q) (with_entries _ _) _ (entries-keep _ _ holds) (λ b here. here)
-
-  putting-keeps : (o : Object) (v : Vector) (a : Activity) → Q a.follows a.queue → AllOk (CameKeeps Q) (putting o v a)
-  putting-keeps o v a holds = then-ok (ActivityKeeps Q) (CameKeeps Q) (with_entries _ _) _ (entries-keep _ _ holds) (λ b here. here)
+  changed-keeps : (c : List Made × Contents) (a : Activity) → Q a.follows a.queue → AllOk (CameKeeps Q) (with_changes c a)
+  changed-keeps c a holds = then-ok (ActivityKeeps Q) (CameKeeps Q) (with_entries _ _) _ (entries-keep _ _ holds) (λ b here. here)
 
   pub worked-keeps : (w : Work) (a : Activity) → Q a.follows a.queue → AllOk (CameKeeps Q) (worked w a)
   worked-keeps (work.Evaluate p) a holds = holds
-  worked-keeps (work.Drive driver value) a holds = driver-keeps driver value a holds
-  worked-keeps (work.Assign object low value) a holds = updated-keeps _ a holds
-  worked-keeps (work.Follow object force) a holds = followed-up-keeps force object a holds
-  worked-keeps (work.Put object value) a holds = putting-keeps object value a holds
+  worked-keeps (work.Drive driver value) a holds = changed-keeps _ a holds
+  worked-keeps (work.Assign object low value) a holds = changed-keeps _ a holds
+  worked-keeps (work.Follow object force) a holds = changed-keeps _ a holds
+  worked-keeps (work.Put object value) a holds = changed-keeps _ a holds
   worked-keeps (work.Strobe n) a holds = holds
   worked-keeps work.MonitorShow a holds = holds
   worked-keeps (work.Call callback) a holds = holds

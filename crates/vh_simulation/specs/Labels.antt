@@ -1,5 +1,5 @@
 -- What labels of processes come to, and what entries that are picked do. (IEEE 1364-2005, clauses 9, 11.4 and 17.1)
-use Rattle.std.specs.Prelude.{◌≡◌, ⊤, ℕ, List, [], ◌∷◌, Bool, true, false, not, ◌||◌, ◌&&◌, if◌then◌else◌, Option, Some, None, Result, Ok, Err, slice_get}
+use Rattle.std.specs.Prelude.{◌≡◌, ⊤, ℕ, List, [], ◌∷◌, Bool, true, false, not, ◌||◌, ◌&&◌, if◌then◌else◌, Option, Some, None, Result, Ok, slice_get}
 use Rattle.std.specs.List.{flat_map}
 use Rattle.vh_assign.specs.Assigned.{is_same_value, with_pieces, made_in_turn, made_by_driver, made_by_put}
 use Rattle.vh_assign.specs.declared.piece.Piece.{Piece}
@@ -111,33 +111,24 @@ performed p a =
     with_ok (displayed b.design b.store r.next (watched b.monitor b.queue)) (λ c.
     Ok (record { came = came r.made c.0 (with_watched c.1 b); next = r.next }))))
 
--- A nonblocking update is made. (9.2.2)
+-- What an entry changes in the store, and the store behind it, a row for each kind: a driver takes a value (6.1), a nonblocking update is
+-- made (9.2.2), the force of an object, or its assign, as it is then in place, takes the present value of its expression (9.3), and an
+-- application's put without a force (27.32).
 abbrev pub update : Object → ℕ → Vector → Piece
 update o low v = record { object = o; low = low; value = v }
 
-abbrev pub updated : Piece → Activity → Outcome
-updated p a =
-    let ms = made_in_turn (p ∷ []) a.store in
-    with_ok (with_entries ms (record a { store = with_pieces (p ∷ []) a.store })) (λ b. Ok (came ms None b))
+abbrev pub changes : Work → Shape → Contents → List Made × Contents
+changes (work.Evaluate p) d s = ([], s)
+changes (work.Drive x v) d s = (made_by_driver x v s, with_driven x v s)
+changes (work.Assign o low v) d s = (made_in_turn (update o low v ∷ []) s, with_pieces (update o low v ∷ []) s)
+changes (work.Follow o force) d s = (follow_made force d o s, with_follow force d o s)
+changes (work.Put o v) d s = (made_by_put o v s, put_at o v s)
+changes (work.Strobe n) d s = ([], s)
+changes work.MonitorShow d s = ([], s)
+changes (work.Call c) d s = ([], s)
 
--- A driver takes a value. (6.1)
-abbrev pub driven : ℕ → Vector → Activity → Outcome
-driven x v a =
-    let ms = made_by_driver x v a.store in
-    with_ok (with_entries ms (record a { store = with_driven x v a.store })) (λ b. Ok (came ms None b))
-
--- A follow entry: the force of an object, or its assign, as it is then in place, takes the present value of its
--- expression. (9.3)
-abbrev pub followed_up : Bool → ℕ → Activity → Outcome
-followed_up force o a =
-    let ms = follow_made force a.design o a.store in
-    with_ok (with_entries ms (record a { store = with_follow force a.design o a.store })) (λ b. Ok (came ms None b))
-
--- An application's put without a force. (27.32)
-abbrev pub putting : Object → Vector → Activity → Outcome
-putting o v a =
-    let ms = made_by_put o v a.store in
-    with_ok (with_entries ms (record a { store = put_at o v a.store })) (λ b. Ok (came ms None b))
+abbrev pub with_changes : List Made × Contents → Activity → Outcome
+with_changes c a = with_ok (with_entries c.0 (record a { store = c.1 })) (λ b. Ok (came c.0 None b))
 
 -- The values that a monitor compares: of its list's arguments without `$time`. (17.1.3)
 abbrev pub compared : Shape → Contents → ShowArg → List Vector
@@ -176,10 +167,10 @@ with_monitor r a = came [] r.0 (record a { monitor = r.1 })
 -- callback, which is the machine's.
 abbrev pub worked : Work → Activity → Outcome
 worked (work.Evaluate p) a = Ok (came [] None a)
-worked (work.Drive driver value) a = driven driver value a
-worked (work.Assign object low value) a = updated (update object low value) a
-worked (work.Follow object force) a = followed_up force object a
-worked (work.Put object value) a = putting object value a
+worked (work.Drive x v) a = with_changes (changes (work.Drive x v) a.design a.store) a
+worked (work.Assign o low v) a = with_changes (changes (work.Assign o low v) a.design a.store) a
+worked (work.Follow o force) a = with_changes (changes (work.Follow o force) a.design a.store) a
+worked (work.Put o v) a = with_changes (changes (work.Put o v) a.design a.store) a
 worked (work.Strobe n) a = Ok (came [] (Some (shown_text a.design a.store n)) a)
 worked work.MonitorShow a = Ok (with_monitor (monitor_shown a.monitor.call a.design a.store a.monitor) a)
 worked (work.Call callback) a = Ok (came [] None a)

@@ -4,7 +4,7 @@ ghost use Rattle.vh_code.specs.Codes.{fits_arg};
 ghost use Rattle.vh_display.specs.Calls.{shown_text};
 ghost use Rattle.vh_assign.specs.Assigned.{is_same_value};
 ghost use Rattle.vh_simulation.specs.Entries.{watched, monitor_entered};
-ghost use Rattle.vh_simulation.specs.Labels.{IsOver, came, performed, updated, driven, followed_up, putting, worked, monitor_of, displaying, displayed, monitor_shown, compared, all_compared, are_same};
+ghost use Rattle.vh_simulation.specs.Labels.{IsOver, came, performed, changes, with_changes, worked, monitor_of, displaying, displayed, monitor_shown, compared, all_compared, are_same};
 ghost use Rattle.vh_turn.specs.Own.{FailsBy, with_entry};
 
 use crate::clock::asks_time;
@@ -13,8 +13,8 @@ use crate::monitor::{Monitor, Values};
 use crate::simulation::Simulation;
 use std::alloc::Global;
 use vh_assign::{Piece, follow_object, take_driver, take_pieces, take_put, value_alone};
-use vh_base::{Bytes, DriverId, NoMemory, ObjId, Object, ProcId, Sequence, ShowId};
-use vh_design::{Design, ShowArg, ShowTask};
+use vh_base::{Bytes, NoMemory, ProcId, Sequence, ShowId};
+use vh_design::{Design, Made, ShowArg, ShowTask};
 use vh_display::show;
 use vh_logic::{Digit, Vec4, case_equal};
 use vh_proc::{MadeList, Next, StepFault};
@@ -195,6 +195,33 @@ fn display_after(
     }
 }
 
+// What an entry changes in the store is noted.
+fn take_changes(
+    d: &Design,
+    s: &mut Store,
+    work: &Work,
+    made: &mut Vec<Made>,
+) -> Result<(), NoMemory>
+    requires none { made.old.items ≡ [] }
+    ensures done { OnOk result ((made.new.items, s.new) ≡ changes work.now d.now s.old) }
+    ensures time { (s.new).time ≡ (s.old).time }
+{
+    match work {
+        Work::Drive(x, v) => take_driver(s, *x, v, made),
+        Work::Assign { object, low, value } => {
+            let piece = Piece {
+                object: *object,
+                low: *low,
+                value: *value,
+            };
+            take_pieces(s, &[piece], made)
+        }
+        Work::Follow { object, force } => follow_object(d, s, *force, *object, made),
+        Work::Put(o, v) => take_put(s, *o, v, made),
+        Work::Evaluate(_) | Work::Strobe(_) | Work::MonitorShow | Work::Call(_) => Ok(()),
+    }
+}
+
 // What the monitor shows when its entry is picked.
 fn show_monitor(
     alloc: Global,
@@ -283,111 +310,24 @@ impl Simulation {
         self.threads.keep_list(made);
     }
 
-    // A nonblocking update is made.
-    fn update(&mut self, alloc: Global, piece: Piece) -> Result<Came, StepFault>
-        ensures done { IfOk result (λ r. updated piece self.old
+    // An entry changes the store, and what it changed enters.
+    fn change(&mut self, alloc: Global, work: &Work) -> Result<Came, StepFault>
+        ensures done { IfOk result (λ r. with_changes
+            (changes work.now (self.old).design (self.old).store) self.old
             ≡ Ok (came r.made r.shown self.new)) }
-        ensures fails { IfErr result (FailsBy (updated piece self.old)) }
+        ensures fails { IfErr result (FailsBy (with_changes
+            (changes work.now (self.old).design (self.old).store) self.old)) }
         ensures over { IfErr result (λ e. IsOver e self.old self.new) }
     {
         if self.is_broken {
             return Err(StepFault::NoMemory);
         }
         self.is_broken = true;
+        let d = self.design.design();
         let mut made = self.threads.take_list(alloc);
-        take_pieces(&mut self.store, &[piece], &mut made)?;
+        take_changes(d, &mut self.store, work, &mut made)?;
         enter_all(
-            self.design.design(),
-            &self.store,
-            &mut self.threads,
-            &mut self.sense,
-            &mut self.follows,
-            &mut self.queue,
-            &mut self.monitor,
-            made.as_slice(),
-        )?;
-        self.is_broken = false;
-        Ok(Came {
-            made: Sequence::new(made),
-            shown: None,
-        })
-    }
-
-    // A driver takes a value.
-    fn drive(&mut self, alloc: Global, x: DriverId, v: &Vec4) -> Result<Came, StepFault>
-        ensures done { IfOk result (λ r. driven x v.now self.old
-            ≡ Ok (came r.made r.shown self.new)) }
-        ensures fails { IfErr result (FailsBy (driven x v.now self.old)) }
-        ensures over { IfErr result (λ e. IsOver e self.old self.new) }
-    {
-        if self.is_broken {
-            return Err(StepFault::NoMemory);
-        }
-        self.is_broken = true;
-        let mut made = self.threads.take_list(alloc);
-        take_driver(&mut self.store, x, v, &mut made)?;
-        enter_all(
-            self.design.design(),
-            &self.store,
-            &mut self.threads,
-            &mut self.sense,
-            &mut self.follows,
-            &mut self.queue,
-            &mut self.monitor,
-            made.as_slice(),
-        )?;
-        self.is_broken = false;
-        Ok(Came {
-            made: Sequence::new(made),
-            shown: None,
-        })
-    }
-
-    // A force or a procedural assign is followed.
-    fn follow_up(&mut self, alloc: Global, force: bool, o: ObjId) -> Result<Came, StepFault>
-        ensures done { IfOk result (λ r. followed_up force o self.old
-            ≡ Ok (came r.made r.shown self.new)) }
-        ensures fails { IfErr result (FailsBy (followed_up force o self.old)) }
-        ensures over { IfErr result (λ e. IsOver e self.old self.new) }
-    {
-        if self.is_broken {
-            return Err(StepFault::NoMemory);
-        }
-        self.is_broken = true;
-        let mut made = self.threads.take_list(alloc);
-        follow_object(self.design.design(), &mut self.store, force, o, &mut made)?;
-        enter_all(
-            self.design.design(),
-            &self.store,
-            &mut self.threads,
-            &mut self.sense,
-            &mut self.follows,
-            &mut self.queue,
-            &mut self.monitor,
-            made.as_slice(),
-        )?;
-        self.is_broken = false;
-        Ok(Came {
-            made: Sequence::new(made),
-            shown: None,
-        })
-    }
-
-    // An application's put.
-    fn put(&mut self, alloc: Global, o: Object, v: &Vec4) -> Result<Came, StepFault>
-        ensures done { IfOk result (λ r. putting o v.now self.old
-            ≡ Ok (came r.made r.shown self.new)) }
-        ensures fails { IfErr result (FailsBy (putting o v.now self.old)) }
-        ensures over { IfErr result (λ e. IsOver e self.old self.new) }
-    {
-        if self.is_broken {
-            return Err(StepFault::NoMemory);
-        }
-        self.is_broken = true;
-        let mut made = self.threads.take_list(alloc);
-        take_put(&mut self.store, o, v, &mut made)?;
-        enter_all(
-            self.design.design(),
+            d,
             &self.store,
             &mut self.threads,
             &mut self.sense,
@@ -414,15 +354,6 @@ impl Simulation {
             return Err(StepFault::NoMemory);
         }
         match work {
-            Work::Assign { object, low, value } => self.update(
-                alloc,
-                Piece {
-                    object: *object,
-                    low: *low,
-                    value: *value,
-                },
-            ),
-            Work::Drive(x, v) => self.drive(alloc, *x, v),
             Work::Strobe(n) => {
                 let shown = text_of(alloc, self.design.design(), &self.store, *n)?;
                 Ok(showing(alloc, Some(shown)))
@@ -436,8 +367,9 @@ impl Simulation {
                 )?;
                 Ok(showing(alloc, shown))
             }
-            Work::Follow { object, force } => self.follow_up(alloc, *force, *object),
-            Work::Put(o, v) => self.put(alloc, *o, v),
+            Work::Drive(..) | Work::Assign { .. } | Work::Follow { .. } | Work::Put(..) => {
+                self.change(alloc, work)
+            }
             Work::Evaluate(_) | Work::Call(_) => Ok(showing(alloc, None)),
         }
     }
