@@ -7,7 +7,7 @@ ghost use Rattle.vh_nodes.specs.declared.expr.Access.{Access};
 ghost use Rattle.vh_nodes.specs.Fits.{fits_kind, fits_word, fits_select, fits_selected};
 ghost use Rattle.vh_nodes.specs.Widths.{width_of, signed_of, kind_width, is_reduction, operands, summed, select_width, selected_width};
 ghost use Rattle.vh_eval.specs.Operators.{choice_of};
-ghost use Rattle.vh_eval.specs.Ready.{AreReady, AreBefore};
+ghost use Rattle.vh_eval.specs.Ready.{AreReady, AreBefore, FitsContext};
 ghost use Rattle.vh_eval.specs.Selects.{address_of};
 ghost use Rattle.vh_eval.specs.Value.{value_of, value_below, kind_value, own_value, unary_value, alone, whole, word_or_x, chosen_at, select_value, selected_value, arithmetic_chain, shift_chain, comparison_chain, compared, compared_all, logic_chain, joined};
 
@@ -339,11 +339,7 @@ fn choice_in(
 #[cycle(eval)]
 #[inline(never)]
 fn composed_in(d: &Design, s: &Store, e: ExprId, kind: &ExprKind, width: u32, signed: bool) -> Vec4
-    requires known { e < length (d.now).exprs }
-    requires fits { fits_kind (d.now).objects (d.now).precision e kind.now ≡ true }
-    requires least { 1 ≤ kind_width (d.now).exprs (d.now).objects kind.now }
-    requires wide { kind_width (d.now).exprs (d.now).objects kind.now ≤ width }
-    requires small { width ≤ MAX_WIDTH }
+    requires kind { FitsContext d.now e kind.now width }
     ensures value { result ≡ kind_value (value_below e d.now s.now) d.now s.now e kind.now width
         signed }
     ensures width { digits_in result ≡ width }
@@ -379,11 +375,7 @@ fn composed_in(d: &Design, s: &Store, e: ExprId, kind: &ExprKind, width: u32, si
 #[cycle(eval)]
 #[inline(always)]
 fn kind_in(d: &Design, s: &Store, e: ExprId, kind: &ExprKind, width: u32, signed: bool) -> Vec4
-    requires known { e < length (d.now).exprs }
-    requires fits { fits_kind (d.now).objects (d.now).precision e kind.now ≡ true }
-    requires least { 1 ≤ kind_width (d.now).exprs (d.now).objects kind.now }
-    requires wide { kind_width (d.now).exprs (d.now).objects kind.now ≤ width }
-    requires small { width ≤ MAX_WIDTH }
+    requires kind { FitsContext d.now e kind.now width }
     ensures value { result ≡ kind_value (value_below e d.now s.now) d.now s.now e kind.now width
         signed }
     ensures width { digits_in result ≡ width }

@@ -81,21 +81,21 @@ joined_in-concat-v-requires t c =
 
 pub composed_in-value_in-v-requires : goal.composed_in-value_in-v-requires
 composed_in-value_in-v-requires t c =
-    let fits = subst (λ (k : ExprKind). fits_kind c.args.d.now.objects c.args.d.now.precision c.args.e k ≡ true) c.in-Arithmetic.is c.requires.fits in
+    let fits = subst (λ (k : ExprKind). fits_kind c.args.d.now.objects c.args.d.now.precision c.args.e k ≡ true) c.in-Arithmetic.is c.requires.kind.fits in
     let wide : widest c.args.d.now.exprs (width_of c.args.d.now.exprs c.in-Arithmetic.first) (operands c.in-Arithmetic.rest) ≤ c.args.width =
-    subst (λ (k : ExprKind). kind_width c.args.d.now.exprs c.args.d.now.objects k ≤ c.args.width) c.in-Arithmetic.is c.requires.wide in
+    subst (λ (k : ExprKind). kind_width c.args.d.now.exprs c.args.d.now.objects k ≤ c.args.width) c.in-Arithmetic.is c.requires.kind.wide in
     let first = widest-first c.args.d.now.exprs (width_of c.args.d.now.exprs c.in-Arithmetic.first) (operands c.in-Arithmetic.rest) in
     let before = first_before c.args.e c.in-Arithmetic.first _ fits in
-    (omega arith, (omega arith, (omega (arith, first, wide), c.requires.small)))
+    (omega arith, (omega arith, (omega (arith, first, wide), c.requires.kind.small)))
 
 pub composed_in-arithmetic_in-requires : goal.composed_in-arithmetic_in-requires
 composed_in-arithmetic_in-requires t c =
-    let fits = subst (λ (k : ExprKind). fits_kind c.args.d.now.objects c.args.d.now.precision c.args.e k ≡ true) c.in-Arithmetic.is c.requires.fits in
+    let fits = subst (λ (k : ExprKind). fits_kind c.args.d.now.objects c.args.d.now.precision c.args.e k ≡ true) c.in-Arithmetic.is c.requires.kind.fits in
     let wide : widest c.args.d.now.exprs (width_of c.args.d.now.exprs c.in-Arithmetic.first) (operands c.in-Arithmetic.rest) ≤ c.args.width =
-    subst (λ (k : ExprKind). kind_width c.args.d.now.exprs c.args.d.now.objects k ≤ c.args.width) c.in-Arithmetic.is c.requires.wide in (
+    subst (λ (k : ExprKind). kind_width c.args.d.now.exprs c.args.d.now.objects k ≤ c.args.width) c.in-Arithmetic.is c.requires.kind.wide in (
       omega arith,
       (
-        c.requires.known,
+        c.requires.kind.known,
         rw (c.as_slice.ensures, c.value_in-v.ensures.width)
             (are_ready c.args.d.now.exprs c.args.e c.in-Arithmetic.first c.args.width (operands c.in-Arithmetic.rest) fits wide),
       ),
@@ -103,10 +103,10 @@ composed_in-arithmetic_in-requires t c =
 
 pub composed_in-shift_in-requires : goal.composed_in-shift_in-requires
 composed_in-shift_in-requires t c =
-    let fits = subst (λ (k : ExprKind). fits_kind c.args.d.now.objects c.args.d.now.precision c.args.e k ≡ true) c.in-Shift.is c.requires.fits in (
+    let fits = subst (λ (k : ExprKind). fits_kind c.args.d.now.objects c.args.d.now.precision c.args.e k ≡ true) c.in-Shift.is c.requires.kind.fits in (
       omega arith,
       (
-        c.requires.known,
+        c.requires.kind.known,
         rw c.as_slice-in-Shift.ensures
             (rest_before c.args.e c.in-Shift.first (operands c.in-Shift.rest) fits),
       ),
