@@ -36,7 +36,9 @@ pub use limits::{
 pub use memory_files::MemoryFiles;
 pub use memory_sink::MemorySink;
 pub use native::Native;
-pub use numbers::{CbNumber, DriverId, ExprId, HandleNo, ObjId, ProcId, Serial, ShowId, WaitId};
+pub use numbers::{
+    CbNumber, DriverId, ExprId, HandleNo, Id, ObjId, ProcId, Serial, ShowId, WaitId,
+};
 pub use orders::{Answer, BodyName, Object, Order, ProcName, Seen, SystfEntry};
 pub use outside::{FetchFault, Files, Sink, SinkFault};
 pub use place::Place;

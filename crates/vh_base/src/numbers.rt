@@ -1,274 +1,104 @@
-ghost use Rattle.std.specs.Prelude.{◌≡◌, ℕ};
+ghost use Rattle.std.specs.Prelude.{◌≡◌};
 
-use std::marker::Model;
+use std::marker::{Model, PhantomData};
 
-/// An entry's serial, which contracts see as its number: from 1, in the order in which
-/// the entries were added, and never given again.
+/// A number `N` by which one of the things of kind `K` is named, which contracts see as the number. A
+/// number of one kind is none of another.
 #[derive(Clone, Copy, Debug, PartialEq, Eq, PartialOrd, Ord)]
-pub struct Serial {
-    number: u64,
+pub struct Id<N, K> {
+    number: N,
+    kind: PhantomData<K>,
 }
 
-impl Model for Serial {
-    ghost Value = { ℕ };
+impl<N, K> Model for Id<N, K> {
+    ghost Value = { N };
 
-    ghost view = { λ s. s.number };
+    ghost view = { λ n. n.number };
 
-    ghost inverse = { λ n. record { number = n } };
+    ghost inverse = { λ n. record { number = n; kind = _ } };
 }
 
-impl Serial {
-    /// The serial of this number.
-    pub fn new(number: u64) -> Serial
+impl<N, K> Id<N, K> {
+    /// The one of this number.
+    pub fn new(number: N) -> Id<N, K>
         ensures { result ≡ number }
     {
-        Serial { number }
+        Id {
+            number,
+            kind: PhantomData,
+        }
     }
+}
 
+impl<N: Copy, K> Id<N, K> {
     /// Its number.
-    pub fn number(&self) -> u64
+    pub fn number(&self) -> N
         ensures { result ≡ self.now }
     {
         self.number
     }
 }
+
+/// An entry's serial, which contracts see as its number: from 1, in the order in which the entries
+/// were added, and never given again.
+pub type Serial = Id<u64, Entries>;
 
 /// A process, which contracts see as its number: from 0, in source order.
-#[derive(Clone, Copy, Debug, PartialEq, Eq, PartialOrd, Ord)]
-pub struct ProcId {
-    number: u64,
-}
-
-impl Model for ProcId {
-    ghost Value = { ℕ };
-
-    ghost view = { λ p. p.number };
-
-    ghost inverse = { λ n. record { number = n } };
-}
-
-impl ProcId {
-    /// The process of this number.
-    pub fn new(number: u64) -> ProcId
-        ensures { result ≡ number }
-    {
-        ProcId { number }
-    }
-
-    /// Its number.
-    pub fn number(&self) -> u64
-        ensures { result ≡ self.now }
-    {
-        self.number
-    }
-}
-
-/// A design object, which contracts see as its number.
-#[derive(Clone, Copy, Debug, PartialEq, Eq, PartialOrd, Ord)]
-pub struct ObjId {
-    number: u32,
-}
-
-impl Model for ObjId {
-    ghost Value = { ℕ };
-
-    ghost view = { λ n. n.number };
-
-    ghost inverse = { λ n. record { number = n } };
-}
-
-impl ObjId {
-    /// The one of this number.
-    pub fn new(number: u32) -> ObjId
-        ensures { result ≡ number }
-    {
-        ObjId { number }
-    }
-
-    /// Its number.
-    pub fn number(&self) -> u32
-        ensures { result ≡ self.now }
-    {
-        self.number
-    }
-}
-
-/// A driver of a net, which contracts see as its number.
-#[derive(Clone, Copy, Debug, PartialEq, Eq, PartialOrd, Ord)]
-pub struct DriverId {
-    number: u32,
-}
-
-impl Model for DriverId {
-    ghost Value = { ℕ };
-
-    ghost view = { λ n. n.number };
-
-    ghost inverse = { λ n. record { number = n } };
-}
-
-impl DriverId {
-    /// The one of this number.
-    pub fn new(number: u32) -> DriverId
-        ensures { result ≡ number }
-    {
-        DriverId { number }
-    }
-
-    /// Its number.
-    pub fn number(&self) -> u32
-        ensures { result ≡ self.now }
-    {
-        self.number
-    }
-}
-
-/// An expression, which contracts see as its number.
-#[derive(Clone, Copy, Debug, PartialEq, Eq, PartialOrd, Ord)]
-pub struct ExprId {
-    number: u32,
-}
-
-impl Model for ExprId {
-    ghost Value = { ℕ };
-
-    ghost view = { λ n. n.number };
-
-    ghost inverse = { λ n. record { number = n } };
-}
-
-impl ExprId {
-    /// The one of this number.
-    pub fn new(number: u32) -> ExprId
-        ensures { result ≡ number }
-    {
-        ExprId { number }
-    }
-
-    /// Its number.
-    pub fn number(&self) -> u32
-        ensures { result ≡ self.now }
-    {
-        self.number
-    }
-}
-
-/// A set of objects that a process waits on, which contracts see as its number.
-#[derive(Clone, Copy, Debug, PartialEq, Eq, PartialOrd, Ord)]
-pub struct WaitId {
-    number: u32,
-}
-
-impl Model for WaitId {
-    ghost Value = { ℕ };
-
-    ghost view = { λ n. n.number };
-
-    ghost inverse = { λ n. record { number = n } };
-}
-
-impl WaitId {
-    /// The one of this number.
-    pub fn new(number: u32) -> WaitId
-        ensures { result ≡ number }
-    {
-        WaitId { number }
-    }
-
-    /// Its number.
-    pub fn number(&self) -> u32
-        ensures { result ≡ self.now }
-    {
-        self.number
-    }
-}
-
-/// A call of a display task, which contracts see as its number.
-#[derive(Clone, Copy, Debug, PartialEq, Eq, PartialOrd, Ord)]
-pub struct ShowId {
-    number: u32,
-}
-
-impl Model for ShowId {
-    ghost Value = { ℕ };
-
-    ghost view = { λ n. n.number };
-
-    ghost inverse = { λ n. record { number = n } };
-}
-
-impl ShowId {
-    /// The one of this number.
-    pub fn new(number: u32) -> ShowId
-        ensures { result ≡ number }
-    {
-        ShowId { number }
-    }
-
-    /// Its number.
-    pub fn number(&self) -> u32
-        ensures { result ≡ self.now }
-    {
-        self.number
-    }
-}
+pub type ProcId = Id<u64, Processes>;
 
 /// A callback, in the order of registration from 1, which contracts see as its number.
-#[derive(Clone, Copy, Debug, PartialEq, Eq, PartialOrd, Ord)]
-pub struct CbNumber {
-    number: u64,
-}
-
-impl Model for CbNumber {
-    ghost Value = { ℕ };
-
-    ghost view = { λ n. n.number };
-
-    ghost inverse = { λ n. record { number = n } };
-}
-
-impl CbNumber {
-    /// The one of this number.
-    pub fn new(number: u64) -> CbNumber
-        ensures { result ≡ number }
-    {
-        CbNumber { number }
-    }
-
-    /// Its number.
-    pub fn number(&self) -> u64
-        ensures { result ≡ self.now }
-    {
-        self.number
-    }
-}
+pub type CbNumber = Id<u64, Callbacks>;
 
 /// A handle of an application; a number is never given twice, which contracts see as its number.
+pub type HandleNo = Id<u64, Handles>;
+
+/// A design object, which contracts see as its number.
+pub type ObjId = Id<u32, Objects>;
+
+/// A driver of a net, which contracts see as its number.
+pub type DriverId = Id<u32, Drivers>;
+
+/// An expression, which contracts see as its number.
+pub type ExprId = Id<u32, Expressions>;
+
+/// A set of objects that a process waits on, which contracts see as its number.
+pub type WaitId = Id<u32, Waits>;
+
+/// A call of a display task, which contracts see as its number.
+pub type ShowId = Id<u32, Shows>;
+
+/// The kind of entries of the event queue.
 #[derive(Clone, Copy, Debug, PartialEq, Eq, PartialOrd, Ord)]
-pub struct HandleNo {
-    number: u64,
-}
+pub enum Entries {}
 
-impl Model for HandleNo {
-    ghost Value = { ℕ };
+/// The kind of processes.
+#[derive(Clone, Copy, Debug, PartialEq, Eq, PartialOrd, Ord)]
+pub enum Processes {}
 
-    ghost view = { λ n. n.number };
+/// The kind of callbacks.
+#[derive(Clone, Copy, Debug, PartialEq, Eq, PartialOrd, Ord)]
+pub enum Callbacks {}
 
-    ghost inverse = { λ n. record { number = n } };
-}
+/// The kind of handles.
+#[derive(Clone, Copy, Debug, PartialEq, Eq, PartialOrd, Ord)]
+pub enum Handles {}
 
-impl HandleNo {
-    /// The one of this number.
-    pub fn new(number: u64) -> HandleNo
-        ensures { result ≡ number }
-    {
-        HandleNo { number }
-    }
+/// The kind of design objects.
+#[derive(Clone, Copy, Debug, PartialEq, Eq, PartialOrd, Ord)]
+pub enum Objects {}
 
-    /// Its number.
-    pub fn number(&self) -> u64
-        ensures { result ≡ self.now }
-    {
-        self.number
-    }
-}
+/// The kind of drivers of nets.
+#[derive(Clone, Copy, Debug, PartialEq, Eq, PartialOrd, Ord)]
+pub enum Drivers {}
+
+/// The kind of expressions.
+#[derive(Clone, Copy, Debug, PartialEq, Eq, PartialOrd, Ord)]
+pub enum Expressions {}
+
+/// The kind of sets of objects that processes wait on.
+#[derive(Clone, Copy, Debug, PartialEq, Eq, PartialOrd, Ord)]
+pub enum Waits {}
+
+/// The kind of calls of display tasks.
+#[derive(Clone, Copy, Debug, PartialEq, Eq, PartialOrd, Ord)]
+pub enum Shows {}
