@@ -460,8 +460,8 @@ fn push_set_data(line: &mut String, n: u64) -> Result<(), AllocError>
     push_number(line, n)
 }
 
-// The word of a relation.
-fn relation_name(relation: Relation) -> &'static str
+/// The word of a relation.
+pub fn relation_name(relation: Relation) -> &'static str
     ensures { result.now ≡ relation_text relation }
 {
     match relation {
@@ -484,8 +484,8 @@ fn relation_name(relation: Relation) -> &'static str
     }
 }
 
-// The word of a property.
-fn property_name(property: Property) -> &'static str
+/// The word of a property.
+pub fn property_name(property: Property) -> &'static str
     ensures { result.now ≡ property_text property }
 {
     match property {
@@ -503,8 +503,8 @@ fn property_name(property: Property) -> &'static str
     }
 }
 
-// The word of a value's format.
-fn format_name(format: Format) -> &'static str
+/// The word of a value's format.
+pub fn format_name(format: Format) -> &'static str
     ensures { result.now ≡ format_text format }
 {
     match format {
@@ -518,8 +518,8 @@ fn format_name(format: Format) -> &'static str
     }
 }
 
-// The word of how a value is put.
-fn mode_name(mode: Mode) -> &'static str
+/// The word of how a value is put.
+pub fn mode_name(mode: Mode) -> &'static str
     ensures { result.now ≡ mode_text mode }
 {
     match mode {
