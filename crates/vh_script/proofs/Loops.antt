@@ -12,7 +12,7 @@ use Rattle.vh_script.specs.Token.{Terminal, is_mark}
 use Rattle.vh_script.specs.Tree.{Command, Order, Test}
 use Rattle.vh_script.specs.Env.{Env}
 use Rattle.vh_script.specs.Words.{names_in}
-use Rattle.vh_script.specs.Conditions.{eating, one_more_advances, declaration_advances, startup_order_eats, procedure_advances}
+use Rattle.vh_script.specs.Conditions.{eating, one_more_plain, declaration_plain, startup_order_eats, procedure_plain}
 use Rattle.vh_script.specs.Grammar.{Run, Procs, grammar, the, in_parens, test, nested_block, loop_of, while_end, is_word, begins_command, begins_order, one_more, more_commands, further_names, declaration, declarations, startup_order, startup_orders, procedure, more_procedures}
 use Rattle.vh_script.specs.Views.{terminal, terminals}
 
@@ -24,10 +24,10 @@ fewer us vs l = omega (arith, length-map us terminal, length-map vs terminal)
 pub commands_go_on : (levels : ℕ) (env : Env) (run more : Run) (ts mid : List Terminal) → next_is (begins_command env run) ts ≡ true → read grammar levels (one_more env run) ts ≡ got more mid →
     read grammar levels (more_commands env run) ts ≡ read grammar levels (more_commands env more) mid
 commands_go_on levels env run more ts mid is r =
-    iter_turn grammar eating levels (begins_command env) (one_more env) (λ u. (one_more_advances env u).0) run ts more mid is r
+    iter_turn grammar eating levels (begins_command env) (one_more env) (λ u. (one_more_plain env u).0) run ts more mid is r
 
 pub command_less : (levels : ℕ) (env : Env) (run more : Run) (ts mid : List Terminal) → read grammar levels (one_more env run) ts ≡ got more mid → length mid < length ts
-command_less levels env run more ts mid r = read_less grammar eating levels (one_more env run) (one_more_advances env run).0 ts more mid r
+command_less levels env run more ts mid r = read_less grammar eating levels (one_more env run) (one_more_plain env run).0 ts more mid r
 
 -- names go on by one
 pub names_go_on : (levels : ℕ) (rules : AppFault) (names more : List (List ℕ)) (ts mid rest : List Terminal) → next_is (is_mark marks.Comma) ts ≡ true → read grammar 0 (the marks.Comma) ts ≡ got tt mid → token_of (names_in rules names) mid ≡ got more rest →
@@ -43,10 +43,10 @@ name_less rules names more ts mid rest r s =
 pub declarations_go_on : (levels : ℕ) (rules : AppFault) (names more : List (List ℕ)) (ts mid : List Terminal) → next_is (is_word keyword.Var) ts ≡ true → read grammar levels (declaration rules names) ts ≡ got more mid →
     read grammar levels (declarations rules names) ts ≡ read grammar levels (declarations rules more) mid
 declarations_go_on levels rules names more ts mid is r =
-    iter_turn grammar eating levels (λ u. is_word keyword.Var) (declaration rules) (λ u. (declaration_advances rules u).0) names ts more mid is r
+    iter_turn grammar eating levels (λ u. is_word keyword.Var) (declaration rules) (λ u. (declaration_plain rules u).0) names ts more mid is r
 
 pub declaration_less : (levels : ℕ) (rules : AppFault) (names more : List (List ℕ)) (ts mid : List Terminal) → read grammar levels (declaration rules names) ts ≡ got more mid → length mid < length ts
-declaration_less levels rules names more ts mid r = read_less grammar eating levels (declaration rules names) (declaration_advances rules names).0 ts more mid r
+declaration_less levels rules names more ts mid r = read_less grammar eating levels (declaration rules names) (declaration_plain rules names).0 ts more mid r
 
 -- the orders of a startup go on by one
 pub orders_go_on : (levels : ℕ) (rules : AppFault) (front : List Order) (o : Order) (ts mid : List Terminal) → next_is (begins_order rules) ts ≡ true → read grammar levels (startup_order rules) ts ≡ got o mid →
@@ -60,10 +60,10 @@ order_less levels rules o ts mid r = read_less grammar eating levels (startup_or
 pub procedures_go_on : (levels : ℕ) (env : Env) (procs more : Procs) (ts mid : List Terminal) → next_is (is_word keyword.Proc) ts ≡ true → read grammar levels (procedure env procs) ts ≡ got more mid →
     read grammar levels (more_procedures env procs) ts ≡ read grammar levels (more_procedures env more) mid
 procedures_go_on levels env procs more ts mid is r =
-    iter_turn grammar eating levels (λ u. is_word keyword.Proc) (procedure env) (λ u. (procedure_advances env u).0) procs ts more mid is r
+    iter_turn grammar eating levels (λ u. is_word keyword.Proc) (procedure env) (λ u. (procedure_plain env u).0) procs ts more mid is r
 
 pub procedure_less : (levels : ℕ) (env : Env) (procs more : Procs) (ts mid : List Terminal) → read grammar levels (procedure env procs) ts ≡ got more mid → length mid < length ts
-procedure_less levels env procs more ts mid r = read_less grammar eating levels (procedure env procs) (procedure_advances env procs).0 ts more mid r
+procedure_less levels env procs more ts mid r = read_less grammar eating levels (procedure env procs) (procedure_plain env procs).0 ts more mid r
 
 -- a test, and what stands behind it
 pub while-read : (levels : ℕ) (env : Env) (room : ℕ) (ts mid rest : List Terminal) (t : Test) (run : Run) (made : Command × ℕ) → read grammar levels (in_parens (test env)) ts ≡ got t mid → read grammar levels (nested_block env (room - 1)) mid ≡ got run rest → made ≡ loop_of t run →

@@ -5,6 +5,7 @@ use Rattle.std.proofs.lemmas.Slice.Eq.{bytes_eq-Decides}
 use Rattle.vh_base.specs.declared.faults.AppFault.{AppFault}
 use Rattle.vh_lines.specs.declared.routine.Routine.{Routine}
 use Rattle.vh_lines.specs.declared.routine.Routine.TheVariants as routine
+use Rattle.vh_grammar.specs.Part.{Part, done, tok, seq, bind, act, alt, rep, iter, nested, unless, barred}
 use Rattle.vh_grammar.specs.Conditions.{eats, Advances}
 use Rattle.vh_grammar.specs.Firsts.{first_at}
 use Rattle.vh_grammar.specs.Choices.{Heeds}
@@ -60,104 +61,138 @@ pub eating : (p : Name) → eats (grammar p) ≡ true
 unfolding any_block
 eating (block env room) = refl
 
--- Each turn of a repetition takes a token.
-pub arguments_advance : (env : Env) (r : Routine) → Advances (arguments env r)
+module _ {T P : Type 0} {V : P → Type 0} where
+  -- Each turn of a repetition in the part takes a token, and nothing is left out of it (own).
+  abbrev pub Plain : {A : Type 0} → Part T V A → Type 0
+  Plain (done a) = Unit {0}
+  Plain (tok meaning) = Unit {0}
+  Plain (seq p q) = Plain p × Plain q
+  Plain (bind {A} p q) = Plain p × ((a : A) → Plain (q a))
+  Plain (act f p) = Plain p
+  Plain (alt class p q) = Plain p × Plain q
+  Plain (rep class p) = (eats p ≡ true) × Plain p
+  Plain (iter {S} class part s) = (u : S) → (eats (part u) ≡ true) × Plain (part u)
+  Plain (nested p) = Unit {0}
+  Plain (unless class p) = ⊥
+  Plain (barred class p) = ⊥
+
+  advances : {A : Type 0} (p : Part T V A) → Plain p → Advances p
+  advances (done a) h = tt
+  advances (tok meaning) h = tt
+  advances (seq p q) h = (advances p h.0, advances q h.1)
+  advances (bind p q) h = (advances p h.0, λ a. advances (q a) (h.1 a))
+  advances (act f p) h = advances p h
+  advances (alt class p q) h = (advances p h.0, advances q h.1)
+  advances (rep class p) h = (h.0, advances p h.1)
+  advances (iter class part s) h = λ u. ((h u).0, advances (part u) (h u).1)
+  advances (nested p) h = tt
+  advances (unless class p) h = absurd h
+  advances (barred class p) h = absurd h
+
+-- The productions are plain.
+arguments_plain : (env : Env) (r : Routine) → Plain (arguments env r)
 unfolding get_value_row put_value_row register_row body register_systf_row
-arguments_advance env routine.ByName = (tt, tt)
-arguments_advance env routine.ByIndex = (tt, tt)
-arguments_advance env routine.Handle = (tt, tt)
-arguments_advance env routine.Iterate = (tt, tt)
-arguments_advance env routine.Scan = tt
-arguments_advance env routine.Free = tt
-arguments_advance env routine.Compare = (tt, tt)
-arguments_advance env routine.Get = (tt, tt)
-arguments_advance env routine.GetStr = (tt, tt)
-arguments_advance env routine.GetValue = (tt, tt)
-arguments_advance env routine.PutValue = (tt, (tt, (tt, (tt, (tt, (tt, tt))))))
-arguments_advance env routine.Cancel = tt
-arguments_advance env routine.GetTime = tt
-arguments_advance env routine.Register = (tt, (tt, (tt, ((tt, tt), tt))))
-arguments_advance env routine.Remove = tt
-arguments_advance env routine.CbInfo = tt
-arguments_advance env routine.RegisterSystf = (tt, (tt, (tt, ((tt, tt), ((tt, tt), tt)))))
-arguments_advance env routine.ChkError = tt
-arguments_advance env routine.Control = tt
-arguments_advance env routine.Print = tt
-arguments_advance env routine.SetData = tt
-arguments_advance env routine.Pass = tt
-arguments_advance env routine.Return = tt
+arguments_plain env routine.ByName = (tt, tt)
+arguments_plain env routine.ByIndex = (tt, tt)
+arguments_plain env routine.Handle = (tt, tt)
+arguments_plain env routine.Iterate = (tt, tt)
+arguments_plain env routine.Scan = tt
+arguments_plain env routine.Free = tt
+arguments_plain env routine.Compare = (tt, tt)
+arguments_plain env routine.Get = (tt, tt)
+arguments_plain env routine.GetStr = (tt, tt)
+arguments_plain env routine.GetValue = (tt, tt)
+arguments_plain env routine.PutValue = (tt, (tt, (tt, (tt, (tt, (tt, tt))))))
+arguments_plain env routine.Cancel = tt
+arguments_plain env routine.GetTime = tt
+arguments_plain env routine.Register = (tt, (tt, (tt, ((tt, tt), tt))))
+arguments_plain env routine.Remove = tt
+arguments_plain env routine.CbInfo = tt
+arguments_plain env routine.RegisterSystf = (tt, (tt, (tt, ((tt, tt), ((tt, tt), tt)))))
+arguments_plain env routine.ChkError = tt
+arguments_plain env routine.Control = tt
+arguments_plain env routine.Print = tt
+arguments_plain env routine.SetData = tt
+arguments_plain env routine.Pass = tt
+arguments_plain env routine.Return = tt
 
-order_end_advances : (env : Env) (o : Opening) → Advances (order_end env o)
-order_end_advances env (opens.Ask r) = arguments_advance env r
-order_end_advances env (opens.Target n) = tt
-order_end_advances env opens.Set = tt
-order_end_advances env opens.Return = tt
-order_end_advances env opens.If = tt
-order_end_advances env opens.While = tt
-order_end_advances env opens.Nothing = tt
+order_end_plain : (env : Env) (o : Opening) → Plain (order_end env o)
+order_end_plain env (opens.Ask r) = arguments_plain env r
+order_end_plain env (opens.Target n) = tt
+order_end_plain env opens.Set = tt
+order_end_plain env opens.Return = tt
+order_end_plain env opens.If = tt
+order_end_plain env opens.While = tt
+order_end_plain env opens.Nothing = tt
 
-pub order_advances : (env : Env) → Advances (order env)
+order_plain : (env : Env) → Plain (order env)
 unfolding order
-order_advances env = (tt, order_end_advances env)
+order_plain env = (tt, order_end_plain env)
 
-test_advances : (env : Env) → Advances (test env)
+test_plain : (env : Env) → Plain (test env)
 unfolding test sign
-test_advances env = (tt, ((tt, tt), tt))
+test_plain env = (tt, ((tt, tt), tt))
 
-nested_advances : (env : Env) (room : ℕ) → Advances (nested_block env room)
+nested_plain : (env : Env) (room : ℕ) → Plain (nested_block env room)
 unfolding nested_block
-nested_advances env room = (tt, tt)
+nested_plain env room = (tt, tt)
 
-otherwise_advances : (env : Env) (room : ℕ) → Advances (otherwise env room)
+otherwise_plain : (env : Env) (room : ℕ) → Plain (otherwise env room)
 unfolding otherwise
-otherwise_advances env room = ((tt, nested_advances env room), tt)
+otherwise_plain env room = ((tt, nested_plain env room), tt)
 
-branches_advance : (env : Env) (t : Test) (room : ℕ) → Advances (branches env t room)
+branches_plain : (env : Env) (t : Test) (room : ℕ) → Plain (branches env t room)
 unfolding branches
-branches_advance env t room = (nested_advances env room, λ holds. otherwise_advances env holds.room)
+branches_plain env t room = (nested_plain env room, λ holds. otherwise_plain env holds.room)
 
-command_end_advances : (env : Env) (room : ℕ) (o : Opening) → Advances (command_end env room o)
+command_end_plain : (env : Env) (room : ℕ) (o : Opening) → Plain (command_end env room o)
 unfolding target_end set_end return_end if_end while_end ask_end
-command_end_advances env room (opens.Target n) = ((tt, order_advances env), tt)
-command_end_advances env room opens.Set = ((tt, (tt, (tt, ((tt, tt), tt)))), tt)
-command_end_advances env room opens.Return = (tt, tt)
-command_end_advances env room opens.If = ((tt, (test_advances env, tt)), λ t. branches_advance env t _)
-command_end_advances env room opens.While = ((tt, (test_advances env, tt)), nested_advances env _)
-command_end_advances env room (opens.Ask r) = (arguments_advance env r, tt)
-command_end_advances env room opens.Nothing = tt
+command_end_plain env room (opens.Target n) = ((tt, order_plain env), tt)
+command_end_plain env room opens.Set = ((tt, (tt, (tt, ((tt, tt), tt)))), tt)
+command_end_plain env room opens.Return = (tt, tt)
+command_end_plain env room opens.If = ((tt, (test_plain env, tt)), λ t. branches_plain env t _)
+command_end_plain env room opens.While = ((tt, (test_plain env, tt)), nested_plain env _)
+command_end_plain env room (opens.Ask r) = (arguments_plain env r, tt)
+command_end_plain env room opens.Nothing = tt
 
-pub one_more_advances : (env : Env) (run : Run) → (eats (one_more env run) ≡ true) × Advances (one_more env run)
+pub one_more_plain : (env : Env) (run : Run) → (eats (one_more env run) ≡ true) × Plain (one_more env run)
 unfolding one_more command
-one_more_advances env run = (refl, (tt, command_end_advances env run.room))
+one_more_plain env run = (refl, (tt, command_end_plain env run.room))
+
+pub block_plain : (p : Name) → Plain (grammar p)
+unfolding any_block
+block_plain (block env room) = (tt, (one_more_plain env, tt))
 
 pub advancing : (p : Name) → Advances (grammar p)
-unfolding any_block
-advancing (block env room) = (tt, (one_more_advances env, tt))
+advancing p = advances (grammar p) (block_plain p)
 
-pub declaration_advances : (rules : AppFault) (names : List (List ℕ)) → (eats (declaration rules names) ≡ true) × Advances (declaration rules names)
+pub declaration_plain : (rules : AppFault) (names : List (List ℕ)) → (eats (declaration rules names) ≡ true) × Plain (declaration rules names)
 unfolding declaration
-declaration_advances rules names = (refl, (tt, ((tt, λ u v. (refl, (tt, tt))), tt)))
+declaration_plain rules names = (refl, (tt, ((tt, λ u v. (refl, (tt, tt))), tt)))
 
-pub startup_order_advances : (rules : AppFault) → Advances (startup_order rules)
+pub startup_order_plain : (rules : AppFault) → Plain (startup_order rules)
 unfolding startup_order
-startup_order_advances rules = (order_advances (startup_env rules), tt)
+startup_order_plain rules = (order_plain (startup_env rules), tt)
 
 pub startup_order_eats : (rules : AppFault) → eats (startup_order rules) ≡ true
 unfolding startup_order order
 startup_order_eats rules = refl
 
-startup_advances : (rules : AppFault) → Advances (startup rules)
+startup_plain : (rules : AppFault) → Plain (startup rules)
 unfolding startup
-startup_advances rules = ((tt, (tt, ((startup_order_eats rules, startup_order_advances rules), tt))), tt)
+startup_plain rules = ((tt, (tt, ((startup_order_eats rules, startup_order_plain rules), tt))), tt)
 
-pub procedure_advances : (env : Env) (procs : Procs) → (eats (procedure env procs) ≡ true) × Advances (procedure env procs)
+pub procedure_plain : (env : Env) (procs : Procs) → (eats (procedure env procs) ≡ true) × Plain (procedure env procs)
 unfolding procedure
-procedure_advances env procs = (refl, (tt, (tt, nested_advances env procs.room)))
+procedure_plain env procs = (refl, (tt, (tt, nested_plain env procs.room)))
+
+pub app_plain : (rules : AppFault) (earlier : List (List ℕ)) → Plain (app rules earlier)
+unfolding app heading declared rest_of
+app_plain rules earlier =
+    ((tt, (tt, tt)), λ bytes. (declaration_plain rules, λ names. (startup_plain rules, procedure_plain (procedure_env rules names))))
 
 pub start_advancing : (rules : AppFault) (earlier : List (List ℕ)) → Advances (app rules earlier)
-unfolding app heading declared rest_of
-start_advancing rules earlier =
-    ((tt, (tt, tt)), λ bytes. (declaration_advances rules, λ names. (startup_advances rules, procedure_advances (procedure_env rules names))))
+start_advancing rules earlier = advances (app rules earlier) (app_plain rules earlier)
 
 -- No production begins with a nested one.
 pub settled : (p : Name) (t : Terminal) → first_at grammar 2 p t ≡ first_at grammar 1 p t

@@ -77,21 +77,25 @@ of_word meaning (text bytes) = None
 of_word meaning (mark m) = None
 of_word meaning wrong = None
 
--- A reason, a relation, a property, a format and a mode: another word is unknown (own).
+-- One of these by its word: another word is unknown (own).
+abbrev pub one_of : {A : Type 0} → (A → List ℕ) → AppFault → A → List A → Terminal → Option A
+one_of text_of rules any all t = of_word (λ bytes. known rules any (named text_of all bytes)) t
+
+-- A reason, a relation, a property, a format and a mode (own).
 abbrev pub reason_in : AppFault → Terminal → Option Reason
-reason_in rules t = of_word (λ bytes. known rules reason.CbValueChange (named reason_text built_reasons bytes)) t
+reason_in rules t = one_of reason_text rules reason.CbValueChange built_reasons t
 
 abbrev pub relation_in : AppFault → Terminal → Option Relation
-relation_in rules t = of_word (λ bytes. known rules relation.VpiModule (named relation_text relations bytes)) t
+relation_in rules t = one_of relation_text rules relation.VpiModule relations t
 
 abbrev pub property_in : AppFault → Terminal → Option Property
-property_in rules t = of_word (λ bytes. known rules property.VpiType (named property_text properties bytes)) t
+property_in rules t = one_of property_text rules property.VpiType properties t
 
 abbrev pub format_in : AppFault → Terminal → Option Format
-format_in rules t = of_word (λ bytes. known rules format.VpiBinStrVal (named format_text formats bytes)) t
+format_in rules t = one_of format_text rules format.VpiBinStrVal formats t
 
 abbrev pub mode_in : AppFault → Terminal → Option Mode
-mode_in rules t = of_word (λ bytes. known rules mode.VpiNoDelay (named mode_text modes bytes)) t
+mode_in rules t = one_of mode_text rules mode.VpiNoDelay modes t
 
 -- "task" or "func", and "finish" or "stop": another token could not stand there (own).
 abbrev pub kind_in : Terminal → Option SystfKind

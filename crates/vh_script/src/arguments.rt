@@ -102,69 +102,6 @@ fn get_str<'t, 'a>(levels: usize, env: &Env<'a>, at: At<'t, 'a>) -> Read<'t, 'a,
     Ok((Order::GetStr { property, object }, rest))
 }
 
-// `H`
-fn scan<'t, 'a>(levels: usize, env: &Env<'a>, at: At<'t, 'a>) -> Read<'t, 'a, Order<'a>>
-    ensures { let part = act tree.scan (rows.atom (env_seen env.now)) in
-        Reads order_seen levels part at.now result }
-{
-    let (value, rest) = atom(env, at)?;
-    Ok((Order::Scan(value), rest))
-}
-
-// `H`
-fn free<'t, 'a>(levels: usize, env: &Env<'a>, at: At<'t, 'a>) -> Read<'t, 'a, Order<'a>>
-    ensures { let part = act tree.free (rows.atom (env_seen env.now)) in
-        Reads order_seen levels part at.now result }
-{
-    let (value, rest) = atom(env, at)?;
-    Ok((Order::Free(value), rest))
-}
-
-// `H`
-fn cancel<'t, 'a>(levels: usize, env: &Env<'a>, at: At<'t, 'a>) -> Read<'t, 'a, Order<'a>>
-    ensures { let part = act tree.cancel (rows.atom (env_seen env.now)) in
-        Reads order_seen levels part at.now result }
-{
-    let (value, rest) = atom(env, at)?;
-    Ok((Order::Cancel(value), rest))
-}
-
-// `H`
-fn remove<'t, 'a>(levels: usize, env: &Env<'a>, at: At<'t, 'a>) -> Read<'t, 'a, Order<'a>>
-    ensures { let part = act tree.remove (rows.atom (env_seen env.now)) in
-        Reads order_seen levels part at.now result }
-{
-    let (value, rest) = atom(env, at)?;
-    Ok((Order::Remove(value), rest))
-}
-
-// `H`
-fn cb_info<'t, 'a>(levels: usize, env: &Env<'a>, at: At<'t, 'a>) -> Read<'t, 'a, Order<'a>>
-    ensures { let part = act tree.cb_info (rows.atom (env_seen env.now)) in
-        Reads order_seen levels part at.now result }
-{
-    let (value, rest) = atom(env, at)?;
-    Ok((Order::CbInfo(value), rest))
-}
-
-// `TEXT`
-fn print<'t, 'a>(levels: usize, env: &Env<'a>, at: At<'t, 'a>) -> Read<'t, 'a, Order<'a>>
-    ensures { let part = act tree.print (rows.atom (env_seen env.now)) in
-        Reads order_seen levels part at.now result }
-{
-    let (value, rest) = atom(env, at)?;
-    Ok((Order::Print(value), rest))
-}
-
-// `N`
-fn set_data<'t, 'a>(levels: usize, env: &Env<'a>, at: At<'t, 'a>) -> Read<'t, 'a, Order<'a>>
-    ensures { let part = act tree.set_data (rows.atom (env_seen env.now)) in
-        Reads order_seen levels part at.now result }
-{
-    let (value, rest) = atom(env, at)?;
-    Ok((Order::SetData(value), rest))
-}
-
 // `H FORMAT`
 #[tactic(auto, unfolding(crate::specs::Grammar::get_value_row))]
 fn get_value<'t, 'a>(levels: usize, env: &Env<'a>, at: At<'t, 'a>) -> Read<'t, 'a, Order<'a>>
@@ -318,23 +255,23 @@ pub fn arguments<'t, 'a>(
         Routine::ByIndex => by_index(levels, env, at),
         Routine::Handle => handle(levels, env, at),
         Routine::Iterate => iterate(levels, env, at),
-        Routine::Scan => scan(levels, env, at),
-        Routine::Free => free(levels, env, at),
+        Routine::Scan => atom(env, at).map(|(value, rest)| (Order::Scan(value), rest)),
+        Routine::Free => atom(env, at).map(|(value, rest)| (Order::Free(value), rest)),
         Routine::Compare => compare(levels, env, at),
         Routine::Get => get(levels, env, at),
         Routine::GetStr => get_str(levels, env, at),
         Routine::GetValue => get_value(levels, env, at),
         Routine::PutValue => put_value(levels, env, at),
-        Routine::Cancel => cancel(levels, env, at),
+        Routine::Cancel => atom(env, at).map(|(value, rest)| (Order::Cancel(value), rest)),
         Routine::GetTime => Ok((Order::GetTime, at)),
         Routine::Register => register(levels, env, at),
-        Routine::Remove => remove(levels, env, at),
-        Routine::CbInfo => cb_info(levels, env, at),
+        Routine::Remove => atom(env, at).map(|(value, rest)| (Order::Remove(value), rest)),
+        Routine::CbInfo => atom(env, at).map(|(value, rest)| (Order::CbInfo(value), rest)),
         Routine::RegisterSystf => register_systf(levels, env, at),
         Routine::ChkError => Ok((Order::ChkError, at)),
         Routine::Control => control_end(levels, at),
-        Routine::Print => print(levels, env, at),
-        Routine::SetData => set_data(levels, env, at),
+        Routine::Print => atom(env, at).map(|(value, rest)| (Order::Print(value), rest)),
+        Routine::SetData => atom(env, at).map(|(value, rest)| (Order::SetData(value), rest)),
         // These two aren't written.
         Routine::Pass => Err(Stop::Lost(at.len())),
         Routine::Return => Err(Stop::Lost(at.len())),

@@ -5,11 +5,10 @@ ghost use Rattle.vh_base.specs.Words.{reason_text};
 ghost use Rattle.vh_lines.specs.OrderText as texts;
 ghost use Rattle.vh_lines.specs.Routines.{routine_text};
 ghost use Rattle.vh_script.specs.Words as words;
-ghost use Rattle.vh_script.specs.Built.{built_reasons};
 
 use crate::built;
 use vh_base::{Format, Mode, Property, Reason, Relation, SystfKind};
-use vh_lines::Routine;
+use vh_lines::{Routine, format_name, mode_name, property_name, relation_name};
 
 /// A value that a word names.
 pub trait Worded: Copy {
@@ -53,24 +52,7 @@ impl Worded for Relation {
     ghost word = { texts.relation_text };
 
     fn word(self) -> &'static str {
-        match self {
-            Relation::VpiModule => "vpiModule",
-            Relation::VpiScope => "vpiScope",
-            Relation::VpiParent => "vpiParent",
-            Relation::VpiSysTfCall => "vpiSysTfCall",
-            Relation::VpiInternalScope => "vpiInternalScope",
-            Relation::VpiNet => "vpiNet",
-            Relation::VpiPort => "vpiPort",
-            Relation::VpiContAssign => "vpiContAssign",
-            Relation::VpiProcess => "vpiProcess",
-            Relation::VpiReg => "vpiReg",
-            Relation::VpiVariables => "vpiVariables",
-            Relation::VpiMemory => "vpiMemory",
-            Relation::VpiParameter => "vpiParameter",
-            Relation::VpiNamedEvent => "vpiNamedEvent",
-            Relation::VpiMemoryWord => "vpiMemoryWord",
-            Relation::VpiArgument => "vpiArgument",
-        }
+        relation_name(self)
     }
 }
 
@@ -78,19 +60,7 @@ impl Worded for Property {
     ghost word = { texts.property_text };
 
     fn word(self) -> &'static str {
-        match self {
-            Property::VpiType => "vpiType",
-            Property::VpiSize => "vpiSize",
-            Property::VpiSigned => "vpiSigned",
-            Property::VpiTopModule => "vpiTopModule",
-            Property::VpiDirection => "vpiDirection",
-            Property::VpiNetType => "vpiNetType",
-            Property::VpiPortIndex => "vpiPortIndex",
-            Property::VpiLineNo => "vpiLineNo",
-            Property::VpiName => "vpiName",
-            Property::VpiFullName => "vpiFullName",
-            Property::VpiDefName => "vpiDefName",
-        }
+        property_name(self)
     }
 }
 
@@ -98,15 +68,7 @@ impl Worded for Format {
     ghost word = { texts.format_text };
 
     fn word(self) -> &'static str {
-        match self {
-            Format::VpiBinStrVal => "vpiBinStrVal",
-            Format::VpiOctStrVal => "vpiOctStrVal",
-            Format::VpiHexStrVal => "vpiHexStrVal",
-            Format::VpiDecStrVal => "vpiDecStrVal",
-            Format::VpiIntVal => "vpiIntVal",
-            Format::VpiScalarVal => "vpiScalarVal",
-            Format::VpiVectorVal => "vpiVectorVal",
-        }
+        format_name(self)
     }
 }
 
@@ -114,18 +76,12 @@ impl Worded for Mode {
     ghost word = { texts.mode_text };
 
     fn word(self) -> &'static str {
-        match self {
-            Mode::VpiNoDelay => "vpiNoDelay",
-            Mode::VpiInertialDelay => "vpiInertialDelay",
-            Mode::VpiTransportDelay => "vpiTransportDelay",
-            Mode::VpiPureTransportDelay => "vpiPureTransportDelay",
-            Mode::VpiForceFlag => "vpiForceFlag",
-            Mode::VpiReleaseFlag => "vpiReleaseFlag",
-        }
+        mode_name(self)
     }
 }
 
-static RELATIONS: [Relation; 16] = [
+/// All relations.
+pub static RELATIONS: [Relation; 16] = [
     Relation::VpiModule,
     Relation::VpiScope,
     Relation::VpiParent,
@@ -144,7 +100,8 @@ static RELATIONS: [Relation; 16] = [
     Relation::VpiArgument,
 ];
 
-static PROPERTIES: [Property; 11] = [
+/// All properties.
+pub static PROPERTIES: [Property; 11] = [
     Property::VpiType,
     Property::VpiSize,
     Property::VpiSigned,
@@ -158,7 +115,8 @@ static PROPERTIES: [Property; 11] = [
     Property::VpiDefName,
 ];
 
-static FORMATS: [Format; 7] = [
+/// All formats.
+pub static FORMATS: [Format; 7] = [
     Format::VpiBinStrVal,
     Format::VpiOctStrVal,
     Format::VpiHexStrVal,
@@ -168,7 +126,8 @@ static FORMATS: [Format; 7] = [
     Format::VpiVectorVal,
 ];
 
-static MODES: [Mode; 6] = [
+/// All modes.
+pub static MODES: [Mode; 6] = [
     Mode::VpiNoDelay,
     Mode::VpiInertialDelay,
     Mode::VpiTransportDelay,
@@ -182,41 +141,6 @@ pub fn routine_of(word: &[u8]) -> Option<Routine>
     ensures { result ≡ words.routine_of word.now }
 {
     named(built::routines(), word)
-}
-
-/// The reason whose word this is, if it is built.
-pub fn reason_of(word: &[u8]) -> Option<Reason>
-    ensures { result ≡ words.named reason_text built_reasons word.now }
-{
-    named(built::reasons(), word)
-}
-
-/// The relation whose word this is.
-pub fn relation_of(word: &[u8]) -> Option<Relation>
-    ensures { result ≡ words.named texts.relation_text words.relations word.now }
-{
-    named(&RELATIONS, word)
-}
-
-/// The property whose word this is.
-pub fn property_of(word: &[u8]) -> Option<Property>
-    ensures { result ≡ words.named texts.property_text words.properties word.now }
-{
-    named(&PROPERTIES, word)
-}
-
-/// The format whose word this is.
-pub fn format_of(word: &[u8]) -> Option<Format>
-    ensures { result ≡ words.named texts.format_text words.formats word.now }
-{
-    named(&FORMATS, word)
-}
-
-/// The mode whose word this is.
-pub fn mode_of(word: &[u8]) -> Option<Mode>
-    ensures { result ≡ words.named texts.mode_text words.modes word.now }
-{
-    named(&MODES, word)
 }
 
 /// `task` or `func`.

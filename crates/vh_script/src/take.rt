@@ -13,7 +13,7 @@ ghost use Rattle.vh_script.specs.Views.{TakesToken, TakesMeaning, token_is_next,
 use crate::built;
 use crate::env::{Block, Env, MOST_NAME, MOST_TEXT, counts};
 use crate::named::{
-    control_of, format_of, kind_of, mode_of, property_of, reason_of, relation_of, routine_of,
+    FORMATS, MODES, PROPERTIES, RELATIONS, Worded, control_of, kind_of, named, routine_of,
 };
 use crate::token::{Keyword, Kind, Mark, Token};
 use crate::tree::Atom;
@@ -109,69 +109,52 @@ fn known<T: Copy>(rules: AppFault, any: T, found: Option<T>) -> Option<T>
     }
 }
 
-/// A reason.
-pub fn reason<'t, 'a>(rules: AppFault, at: At<'t, 'a>) -> Read<'t, 'a, Reason>
-    ensures { TakesMeaning (λ r. r) (words.reason_in rules) at.now result }
+// The one of these whose word is next.
+fn worded<'t, 'a, T: Worded>(rules: AppFault, any: T, all: &[T], at: At<'t, 'a>) -> Read<'t, 'a, T>
+    ensures { TakesMeaning (λ t. t) (words.one_of T.word rules any all.now) at.now result }
 {
     let [first, rest @ ..] = at else {
         return Err(Stop::Lost(0));
     };
     match first.kind {
-        Kind::Word(_, word) => taken(known(rules, Reason::CbValueChange, reason_of(word)), rest),
+        Kind::Word(_, word) => taken(known(rules, any, named(all, word)), rest),
         _ => Err(Stop::Lost(at.len())),
     }
+}
+
+/// A reason.
+pub fn reason<'t, 'a>(rules: AppFault, at: At<'t, 'a>) -> Read<'t, 'a, Reason>
+    ensures { TakesMeaning (λ r. r) (words.reason_in rules) at.now result }
+{
+    worded(rules, Reason::CbValueChange, built::reasons(), at)
 }
 
 /// A relation.
 pub fn relation<'t, 'a>(rules: AppFault, at: At<'t, 'a>) -> Read<'t, 'a, Relation>
     ensures { TakesMeaning (λ r. r) (words.relation_in rules) at.now result }
 {
-    let [first, rest @ ..] = at else {
-        return Err(Stop::Lost(0));
-    };
-    match first.kind {
-        Kind::Word(_, word) => taken(known(rules, Relation::VpiModule, relation_of(word)), rest),
-        _ => Err(Stop::Lost(at.len())),
-    }
+    worded(rules, Relation::VpiModule, &RELATIONS, at)
 }
 
 /// A property.
 pub fn property<'t, 'a>(rules: AppFault, at: At<'t, 'a>) -> Read<'t, 'a, Property>
     ensures { TakesMeaning (λ r. r) (words.property_in rules) at.now result }
 {
-    let [first, rest @ ..] = at else {
-        return Err(Stop::Lost(0));
-    };
-    match first.kind {
-        Kind::Word(_, word) => taken(known(rules, Property::VpiType, property_of(word)), rest),
-        _ => Err(Stop::Lost(at.len())),
-    }
+    worded(rules, Property::VpiType, &PROPERTIES, at)
 }
 
 /// A format.
 pub fn format<'t, 'a>(rules: AppFault, at: At<'t, 'a>) -> Read<'t, 'a, Format>
     ensures { TakesMeaning (λ r. r) (words.format_in rules) at.now result }
 {
-    let [first, rest @ ..] = at else {
-        return Err(Stop::Lost(0));
-    };
-    match first.kind {
-        Kind::Word(_, word) => taken(known(rules, Format::VpiBinStrVal, format_of(word)), rest),
-        _ => Err(Stop::Lost(at.len())),
-    }
+    worded(rules, Format::VpiBinStrVal, &FORMATS, at)
 }
 
 /// A mode.
 pub fn mode<'t, 'a>(rules: AppFault, at: At<'t, 'a>) -> Read<'t, 'a, Mode>
     ensures { TakesMeaning (λ r. r) (words.mode_in rules) at.now result }
 {
-    let [first, rest @ ..] = at else {
-        return Err(Stop::Lost(0));
-    };
-    match first.kind {
-        Kind::Word(_, word) => taken(known(rules, Mode::VpiNoDelay, mode_of(word)), rest),
-        _ => Err(Stop::Lost(at.len())),
-    }
+    worded(rules, Mode::VpiNoDelay, &MODES, at)
 }
 
 /// `task` or `func`.
