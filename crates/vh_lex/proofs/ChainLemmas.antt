@@ -25,17 +25,18 @@ use Rattle.vh_lex.specs.Front.{Named, front, comment_len, use_by, simple_name, e
 use Rattle.vh_lex.specs.Made.{Macros as Rows, Made, macro_of, with_macro}
 use Rattle.vh_lex.specs.MacroTexts.{parts_of, macro_text, macro_len}
 use Rattle.vh_lex.specs.Conditionals.{is_skipped, skips}
-use Rattle.vh_lex.specs.State.{State, first_setting, start_of, moved}
+use Rattle.vh_lex.specs.State.{State, first_setting, moved}
 use Rattle.vh_lex.specs.Directives.{Step, Naming, Found, directive_of, directive_behind, gap_len, name_behind, named_then, define_by, condition, opening, next_branch, opened as opened_in, branching, elsif_in, else_in, endif_by, time_behind, slash_behind, scaled, timescale_by, net_of, net_word, default_net_by, directed, refused}
-use Rattle.vh_lex.specs.Spelling.{Making, Stop, and_then, with_token as token_more, used_by, parts_made, expanded, made_in, around_of, name_read, part_read, piece_read, read, step_then, read_after, comment_skipped, use_skipped, name_skipped, skipped, step}
+use Rattle.vh_lex.specs.Spelling.{Making, and_then, with_token as token_more, used_by, parts_made, expanded, made_in, around_of, name_read, part_read, piece_read, read, step_then, read_after, comment_skipped, use_skipped, name_skipped, skipped, step}
 use Rattle.vh_lex.specs.declared.fault.LexFault.{LexFault}
 use Rattle.vh_lex.specs.declared.fault.LexFault.TheVariants.{Refused, NoMemory}
-use Rattle.vh_lex.specs.Lexed.{File, Lexed, reading, refused as refused_at, exhausted, nothing_read, lexed_by, first_place, file_read, Refuses, files_after, closed_by, end_of, IfReading, files_read}
+use Rattle.vh_lex.specs.Lexed.{File, Lexed, reading, refused as refused_at, exhausted, nothing_read, Refuses, files_after, closed_by, end_of, IfReading, files_read}
 use Rattle.vh_lex.specs.MacroTokens.{Macros, with_text, token_of}
 use Rattle.vh_lex.specs.SourceText.{At, place_of, past, opened, IsWord, Names, Goes, blank, token, macro, define, undef, sets, file, Passes, comment, byte, quote, word, skipped_file, If, ifdef, ifndef, Elsif, elsif, Else, else_, Endif, endif, is_conditional, before, Reads, read_end, read_piece, read_chosen, read_sought, Skips, skip_end, skip_piece, skip_conditional, Others, other_elsif, other_else, other_endif, Seeks, seek_chosen, seek_elsif, seek_else, seek_endif, HasText}
 use Rattle.vh_lex.specs.Reached.{ReadsTo, read_here, in_chosen, in_sought, in_others, in_seeks, SkipsTo, skip_here, skip_in, skip_others, OthersTo, other_in, other_past, other_in_else, SeeksTo, seek_in, seek_others, seek_skipped, seek_past, seek_in_else, IsStuck, IsLeftOpen}
 use Rattle.vh_lex.specs.Laws.{TokensOrRefused}
 use Rattle.vh_lex.specs.TextLaws.{SpelledHasText, FaultStops}
+use Rattle.vh_lex.proofs.LawLemmas.{IsKnown, known-files}
 use Rattle.vh_lex.proofs.StackLemmas.{innermost-last, without-last, with-last, skips-last}
 use Rattle.vh_lex.proofs.MacroLemmas.{Knows, knows-none, knows-with}
 use Rattle.vh_lex.proofs.FrontLemmas.{IsFine, fine-front}
@@ -756,25 +757,6 @@ pub spelled_has_text : SpelledHasText
 spelled_has_text files tokens h =
     let r = has-chain (left-of (before files)) tokens (before files) [] [] None (omega arith) (omega arith, omega arith) knows-none h in
     record { last = r.last; text = r.chain; ends = r.ends; is_last = r.is_last; tokens_are = r.tokens_are }
-
--- want of memory is no reading of files
-abbrev IsKnown : Lexed → Type 0
-IsKnown (reading first t) = Unit {0}
-IsKnown (refused_at fault place) = Unit {0}
-IsKnown exhausted = ⊥
-
-known-by : (first : Place) (o : Result State Stop) → IsKnown (lexed_by first o)
-known-by first (Ok t) = tt
-known-by first (Err stop) = tt
-
-known-file : (f : File) (l : Lexed) → IsKnown l → IsKnown (file_read f l)
-known-file f (reading first t) h = known-by (first_place first f.number) (read f.bytes (record t { place = start_of f.number }))
-known-file f (refused_at fault place) h = tt
-known-file f exhausted h = h
-
-known-files : (l : Lexed) (fs : List File) → IsKnown l → IsKnown (files_after l fs)
-known-files l [] h = h
-known-files l (f ∷ fs) h = known-files (file_read f l) fs (known-file f l h)
 
 pub text_or_refused : TokensOrRefused HasText
 text_or_refused files = by (files_read files) refl (known-files nothing_read files tt)

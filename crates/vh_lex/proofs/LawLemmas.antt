@@ -23,7 +23,7 @@ pub never_both : NeverBoth Spells
 never_both files tokens fault place h k = let e = sym h.0 ∙ k in cc
 
 -- want of memory is no reading of files
-abbrev IsKnown : Lexed → Type 0
+abbrev pub IsKnown : Lexed → Type 0
 IsKnown (reading first s) = Unit {0}
 IsKnown (refused fault place) = Unit {0}
 IsKnown exhausted = ⊥
@@ -37,7 +37,7 @@ known-file f (reading first s) h = known-by (first_place first f.number) (read f
 known-file f (refused fault place) h = tt
 known-file f exhausted h = h
 
-known-files : (l : Lexed) (fs : List File) → IsKnown l → IsKnown (files_after l fs)
+pub known-files : (l : Lexed) (fs : List File) → IsKnown l → IsKnown (files_after l fs)
 known-files l [] h = h
 known-files l (f ∷ fs) h = known-files (file_read f l) fs (known-file f l h)
 

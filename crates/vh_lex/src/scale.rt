@@ -59,13 +59,9 @@ fn amount_behind(bytes: &[u8]) -> Option<Found>
     let gap = gap_len(bytes);
     let behind = after(gap, bytes);
     let len = run_len(Class::Digit, behind);
-    let Some(value) = amount_of(upto(len, behind)) else {
-        return None;
-    };
-    Some(Found {
-        value,
-        len: gap + len,
-    })
+    let value = amount_of(upto(len, behind))?;
+    let len = gap + len;
+    Some(Found { value, len })
 }
 
 fn unit_behind(bytes: &[u8]) -> Option<Found>
@@ -76,13 +72,9 @@ fn unit_behind(bytes: &[u8]) -> Option<Found>
     let gap = gap_len(bytes);
     let behind = after(gap, bytes);
     let len = run_len(Class::Name, behind);
-    let Some(value) = unit_of(upto(len, behind)) else {
-        return None;
-    };
-    Some(Found {
-        value,
-        len: gap + len,
-    })
+    let value = unit_of(upto(len, behind))?;
+    let len = gap + len;
+    Some(Found { value, len })
 }
 
 // 1, 10 or 100, as a power of ten.
