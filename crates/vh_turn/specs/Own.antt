@@ -70,6 +70,11 @@ abbrev pub FailsBy : {X : Type 0} → Result X (Option Fault) → StepFault → 
 FailsBy outcome (step.Run f) = outcome ≡ Err (Some f)
 FailsBy outcome step.NoMemory = ⊤
 
+-- What comes of a call: the outcome is done, and these are the parts behind it, or it isn't.
+abbrev pub Comes : {X Y : Type 0} → Result X (Option Fault) → Result Y StepFault → X → Type 0
+Comes outcome (Ok y) x = outcome ≡ Ok x
+Comes outcome (Err e) x = FailsBy outcome e
+
 -- The parts, as a call is given them.
 abbrev pub own_of : Process → Contents → Sensitivity → Events → Own
 own_of t s w q = record { process = t; store = s; sense = w; queue = q }

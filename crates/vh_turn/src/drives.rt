@@ -5,7 +5,7 @@ ghost use Rattle.vh_logic.specs.Vector.{width_of as digits_in};
 ghost use Rattle.vh_nodes.specs.Widths.{driver_width};
 ghost use Rattle.vh_code.specs.Targets.{fits_drivers};
 ghost use Rattle.vh_queue.specs.Entries.{IsPresent};
-ghost use Rattle.vh_turn.specs.Own.{FailsBy};
+ghost use Rattle.vh_turn.specs.Own.{Comes, FailsBy};
 ghost use Rattle.vh_turn.specs.Drives.{driving, update_value, value_at, scheduled_value, has_value, without_update, region_at, with_update, rescheduled, one_driven, digits_driven, all_driven};
 
 use crate::fault::StepFault;
@@ -91,10 +91,8 @@ fn add_update(
 ) -> Result<(), StepFault>
     requires later { IfSome time (λ t. s.now.time ≤ t) }
     requires now { s.now.time ≡ q.old.time }
-    ensures added { OnOk result (with_update s.now time x v.now (driving updates.old q.old)
-        ≡ Ok (driving updates.new q.new)) }
-    ensures refused { IfErr result (FailsBy (with_update s.now time x v.now
-        (driving updates.old q.old))) }
+    ensures comes { Comes (with_update s.now time x v.now (driving updates.old q.old)) result
+        (driving updates.new q.new) }
     ensures now { q.new.time ≡ q.old.time }
 {
     let Some(time) = time else {
@@ -117,10 +115,8 @@ fn reschedule(
 ) -> Result<(), StepFault>
     requires later { IfSome time (λ t. s.now.time ≤ t) }
     requires now { s.now.time ≡ q.old.time }
-    ensures added { OnOk result (rescheduled s.now time x v.now (driving updates.old q.old)
-        ≡ Ok (driving updates.new q.new)) }
-    ensures refused { IfErr result (FailsBy (rescheduled s.now time x v.now
-        (driving updates.old q.old))) }
+    ensures comes { Comes (rescheduled s.now time x v.now (driving updates.old q.old)) result
+        (driving updates.new q.new) }
     ensures now { q.new.time ≡ q.old.time }
 {
     if is_same_value(&s.driven(x), v) {
@@ -140,10 +136,8 @@ fn drive_one(
 ) -> Result<(), StepFault>
     requires later { IfSome time (λ t. s.now.time ≤ t) }
     requires now { s.now.time ≡ q.old.time }
-    ensures driven { OnOk result (one_driven s.now time x v.now (driving updates.old q.old)
-        ≡ Ok (driving updates.new q.new)) }
-    ensures refused { IfErr result (FailsBy (one_driven s.now time x v.now
-        (driving updates.old q.old))) }
+    ensures comes { Comes (one_driven s.now time x v.now (driving updates.old q.old)) result
+        (driving updates.new q.new) }
     ensures now { q.new.time ≡ q.old.time }
 {
     let update = scheduled_value(updates, q, x);
