@@ -1,6 +1,6 @@
 -- What a label of a process does, a row for each kind in the order of the statements' table. (IEEE 1364-2005, clauses
 -- 9 and 10; the faults are own)
-use Rattle.std.specs.Prelude.{ℕ, List, [], ◌∷◌, length, if◌then◌else◌, Option, Some, None, Result, Ok, Err}
+use Rattle.std.specs.Prelude.{◌≡◌, IfSome, IsSome, ℕ, List, [], ◌∷◌, length, if◌then◌else◌, Option, Some, None, Result, Ok, Err}
 use Rattle.vh_base.specs.Checks.{with_ok}
 use Rattle.vh_base.specs.declared.faults.Fault.{Fault}
 use Rattle.vh_code.specs.declared.code.Goes.{Goes}
@@ -10,6 +10,7 @@ use Rattle.vh_code.specs.declared.operation.Operation.TheVariants as op
 use Rattle.vh_code.specs.declared.operation.Single.{Single}
 use Rattle.vh_code.specs.declared.operation.Single.TheVariants as single
 use Rattle.vh_design.specs.Shape.{Shape}
+use Rattle.vh_design.specs.Validity.{IsValid}
 use Rattle.vh_thread.specs.Control.{next_of, is_inside}
 use Rattle.vh_turn.specs.declared.next.Next.{Next}
 use Rattle.vh_turn.specs.declared.next.Next.TheVariants as next
@@ -17,7 +18,7 @@ use Rattle.vh_turn.specs.declared.process.Process.{Process}
 use Rattle.vh_turn.specs.Own.{Own, Turn, own_of}
 use Rattle.vh_turn.specs.Turns.{turn_of}
 use Rattle.vh_proc.specs.Disabled.{Stopped, begun_by, stopped, disable_all}
-use Rattle.vh_proc.specs.Processes.{Processes, World, Queued, Scheduled, Outcome, queued, scheduled, world_of, step_with, process_at, with_process, without_process, changed, arrived_in, gone_on, with_left, branches_begun, joined}
+use Rattle.vh_proc.specs.Processes.{AllRun, Processes, World, Queued, Scheduled, Outcome, queued, scheduled, world_of, step_with, process_at, with_process, without_process, changed, arrived_in, gone_on, with_left, branches_begun, joined}
 
 -- A label that touches no other process.
 abbrev pub with_own : ℕ → Own → World → World
@@ -126,6 +127,13 @@ step_at d p t i (op.Initial object e) w = initializing d p t i w
 abbrev pub step_in : Shape → ℕ → Process → Option Instruction → World → Outcome
 step_in d p t None w = Err None
 step_in d p t (Some i) w = step_at d p t i i.operation w
+
+-- A process stands before this instruction, in a design that is valid and of which all processes run.
+pub record StandsBefore (d : Shape) (i : Instruction) (p : ℕ) (ps : Processes) : Type 0 where
+  pub runs : AllRun d ps
+  pub there : IfSome (process_at p ps) (λ t. next_of d t.thread ≡ Some i)
+  pub known : IsSome (process_at p ps)
+  pub valid : IsValid d
 
 abbrev pub step_of_process : Shape → ℕ → Option Process → World → Outcome
 step_of_process d p None w = Err None

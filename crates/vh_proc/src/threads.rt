@@ -1,11 +1,10 @@
-ghost use Rattle.std.specs.Prelude.{◌≡◌, [], true, Some, None, Ok, Err, IsSome, IfSome, IfNone, IfOk, IfErr, OnOk};
+ghost use Rattle.std.specs.Prelude.{◌≡◌, [], true, Some, None, Ok, Err, IfSome, IfNone, IfOk, IfErr, OnOk};
 ghost use Rattle.std.specs.BTreeMap.{insert_entry};
 ghost use Rattle.std.specs.Ordering.{nat_cmp};
 ghost use Rattle.vh_design.specs.Shape.{Shape};
 ghost use Rattle.vh_design.specs.Validity.{IsValid};
-ghost use Rattle.vh_thread.specs.Control.{next_of};
 ghost use Rattle.vh_proc.specs.Processes.{AllRun, process_at, without_process, changed, arrived_in, gone_on, with_left, one_less, opening, noted, resumed, queued, world_of, step_with};
-ghost use Rattle.vh_proc.specs.Steps.{step_of, step_at, single_step, alone, after_fork};
+ghost use Rattle.vh_proc.specs.Steps.{StandsBefore, step_of, step_at, single_step, alone, after_fork};
 ghost use Rattle.vh_turn.specs.Turns.{is_own};
 ghost use Rattle.vh_turn.specs.Own.{FailsBy};
 
@@ -229,10 +228,7 @@ impl Threads {
         p: ProcId,
         i: &Instruction,
     ) -> Result<Stepped, StepFault>
-        requires runs { AllRun d.now self.old }
-        requires there { IfSome (process_at p self.old) (λ t. next_of d.now t.thread ≡ Some i.now) }
-        requires known { IsSome (process_at p self.old) }
-        requires valid { IsValid d.now }
+        requires stands { StandsBefore d.now i.now p self.old }
         requires said { is_own i.now.operation ≡ true }
         requires waits { (sense.old).waits ≡ (d.now).waits }
         requires now { (s.old).time ≡ (q.old).time }
@@ -275,10 +271,7 @@ impl Threads {
         i: &Instruction,
         it: Single,
     ) -> Result<Stepped, StepFault>
-        requires runs { AllRun d.now self.old }
-        requires there { IfSome (process_at p self.old) (λ t. next_of d.now t.thread ≡ Some i.now) }
-        requires known { IsSome (process_at p self.old) }
-        requires valid { IsValid d.now }
+        requires stands { StandsBefore d.now i.now p self.old }
         requires is { i.now.operation ≡ Operation.Single it }
         requires waits { (sense.old).waits ≡ (d.now).waits }
         requires now { (s.old).time ≡ (q.old).time }
@@ -354,10 +347,7 @@ impl Threads {
         p: ProcId,
         i: &Instruction,
     ) -> Result<Stepped, StepFault>
-        requires runs { AllRun d.now self.old }
-        requires there { IfSome (process_at p self.old) (λ t. next_of d.now t.thread ≡ Some i.now) }
-        requires known { IsSome (process_at p self.old) }
-        requires valid { IsValid d.now }
+        requires stands { StandsBefore d.now i.now p self.old }
         requires waits { (sense.old).waits ≡ (d.now).waits }
         requires now { (s.old).time ≡ (q.old).time }
         ensures done { IfSome (process_at p self.old) (λ t. IfOk result
