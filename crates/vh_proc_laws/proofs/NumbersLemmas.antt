@@ -1,12 +1,11 @@
 -- Each label keeps the processes by their numbers, and gives a branch the next one.
-use Rattle.std.proofs.Common.{◌≡◌, ◌∙◌, ℕ, zero, suc, ◌+◌, ◌<◌, ◌≤◌, ◌⊎◌, ⊎_elim, inl, inr, List, [], ◌∷◌, Bool, true, false, ◌==◌, cond, map, length, Option, Some, None, is_some, Result, Ok, Err, nat_lt, refl, ap, sym, subst, arith}
+use Rattle.std.proofs.Common.{◌≡◌, ◌∙◌, ℕ, zero, suc, ◌+◌, ◌<◌, ◌≤◌, ◌⊎◌, ⊎_elim, inl, inr, List, [], ◌∷◌, Bool, true, false, ◌==◌, cond, map, length, Option, Some, None, is_some, Ok, nat_lt, refl, ap, sym, subst, arith}
 use Rattle.std.specs.Prelude.{nat_eq, if◌then◌else◌}
 use Rattle.std.specs.BTreeMap.{is_at}
 use Rattle.std.specs.List.{range_with_len}
 use Rattle.std.specs.Option.{option_map}
 use Rattle.std.specs.Ordering.{nat_cmp}
 use Rattle.std.proofs.lemmas.Bool.{eqb-true}
-use Rattle.vh_base.specs.Checks.{unless, with_ok, with_some}
 use Rattle.vh_base.specs.declared.faults.Fault.{Fault}
 use Rattle.vh_base.specs.declared.faults.Fault.TheVariants as fault
 use Rattle.vh_base.specs.declared.limits.TheConstants.{MOST_NUMBERS}
@@ -32,10 +31,11 @@ use Rattle.vh_assign.specs.declared.piece.Piece.{Piece}
 use Rattle.vh_assign.specs.Values.{right_side}
 use Rattle.vh_code.specs.declared.target.Delay.{Delay}
 use Rattle.vh_code.specs.declared.operation.Drive.{Drive}
-use Rattle.vh_turn.specs.Own.{Own, Turn, own_of, going, arriving, with_entry}
+use Rattle.vh_turn.specs.Own.{Own, Turn, own_of, going, arriving}
 use Rattle.vh_turn.specs.Own as O
 use Rattle.vh_turn.specs.Turns.{turn_of, turn_at}
 use Rattle.vh_turn.specs.Turns as T
+use Rattle.vh_proc.proofs.KinLemmas.{Gives, ok-same, ok-then, some-then, unless-then}
 use Rattle.vh_proc.specs.Disabled.{Stopped, stopped, left_by, ended_in, left_in, all_ended, all_left, resumed_but, all_resumed, all_stopped, disable_all}
 use Rattle.vh_proc.specs.Processes.{Processes, Queued, Scheduled, Step, World, opening, opening_process, queued, process_at, with_process, without_process, changed, changed_in, with_branch, branch, branch_in, branch_begun, branches_begun, evaluated_now, resumed, noted, with_serial, one_less, one_joined, joined_in, joined, gone_on, goes_behind, with_left}
 use Rattle.vh_proc.specs.Steps.{step_of, step_of_process, step_in, step_at, single_step}
@@ -211,25 +211,6 @@ inserts p t u ps at parent = record {
     was : (q : ℕ) (x : Process) (b : Bool) → nat_eq ps.next q ≡ b → cond b (Some u) (process_at q ps) ≡ Some x → (is_some (process_at q ps) ≡ true) ⊎ (ps.next ≤ q)
     was q x true is here = let one = eqb-true ps.next q is in inr (omega (arith, one))
     was q x false is here = inl (ap is_some here)
-
--- What stands before a step that succeeds, succeeds.
-pub ok-then : {X Y F : Type 0} (o : Result X F) (f : X → Result Y F) (y : Y) → with_ok o f ≡ Ok y → (x : X) × (o ≡ Ok x) × (f x ≡ Ok y)
-ok-then (Ok x) f y h = (x, refl, h)
-ok-then (Err e) f y h = absurd (cc)
-
-pub unless-then : {X F : Type 0} (b : Bool) (e : F) (rest : Result X F) (x : X) → unless b e rest ≡ Ok x → rest ≡ Ok x
-unless-then true e rest x h = absurd (cc)
-unless-then false e rest x h = h
-
-pub some-then : {X Y F : Type 0} (o : Option X) (e : F) (f : X → Result Y F) (y : Y) → with_some o e f ≡ Ok y → (x : X) × (o ≡ Some x) × (f x ≡ Ok y)
-some-then None e f y h = absurd (cc)
-some-then (Some x) e f y h = (x, refl, h)
-
-abbrev pub Gives : {X F : Type 0} → Result X F → X → Type 0
-Gives o x = o ≡ Ok x
-
-pub ok-same : {X F : Type 0} (x y : X) → Gives {F = F} (Ok x) y → x ≡ y
-ok-same x y h = cc
 
 -- Who goes on by an entry, begins, or joins.
 pub resumes : (p : ℕ) (b c : Queued) → resumed p b ≡ Ok c → Grows b.processes c.processes
