@@ -69,36 +69,36 @@ pub type ShowId = Id<u32, Shows>;
 
 /// The kind of entries of the event queue.
 #[derive(Clone, Copy, Debug, PartialEq, Eq, PartialOrd, Ord)]
-pub enum Entries {}
+pub struct Entries;
 
 /// The kind of processes.
 #[derive(Clone, Copy, Debug, PartialEq, Eq, PartialOrd, Ord)]
-pub enum Processes {}
+pub struct Processes;
 
 /// The kind of callbacks.
 #[derive(Clone, Copy, Debug, PartialEq, Eq, PartialOrd, Ord)]
-pub enum Callbacks {}
+pub struct Callbacks;
 
 /// The kind of handles.
 #[derive(Clone, Copy, Debug, PartialEq, Eq, PartialOrd, Ord)]
-pub enum Handles {}
+pub struct Handles;
 
 /// The kind of design objects.
 #[derive(Clone, Copy, Debug, PartialEq, Eq, PartialOrd, Ord)]
-pub enum Objects {}
+pub struct Objects;
 
 /// The kind of drivers of nets.
 #[derive(Clone, Copy, Debug, PartialEq, Eq, PartialOrd, Ord)]
-pub enum Drivers {}
+pub struct Drivers;
 
 /// The kind of expressions.
 #[derive(Clone, Copy, Debug, PartialEq, Eq, PartialOrd, Ord)]
-pub enum Expressions {}
+pub struct Expressions;
 
 /// The kind of sets of objects that processes wait on.
 #[derive(Clone, Copy, Debug, PartialEq, Eq, PartialOrd, Ord)]
-pub enum Waits {}
+pub struct Waits;
 
 /// The kind of calls of display tasks.
 #[derive(Clone, Copy, Debug, PartialEq, Eq, PartialOrd, Ord)]
-pub enum Shows {}
+pub struct Shows;
