@@ -2,7 +2,7 @@
 //! reading of its row.
 
 ghost use Rattle.std.specs.Prelude.{◌≡◌};
-ghost use Rattle.vh_grammar.specs.Part.{act, tok, seq, two, opt, after};
+ghost use Rattle.vh_grammar.specs.Part.{act, tok, seq, opt, after};
 ghost use Rattle.vh_script.specs.Grammar as rows;
 ghost use Rattle.vh_script.specs.Grammar.{is_word, the_word};
 ghost use Rattle.vh_script.specs.declared.token.Keyword.TheVariants as keyword;
@@ -18,7 +18,7 @@ use crate::take::{
 use crate::token::{Keyword, Mark};
 use crate::tree::{Atom, Body, Order, Test};
 use crate::words::{BodyWord, Opening};
-use vh_base::AppFault;
+use vh_base::{AppFault, Property, Relation};
 use vh_grammar::Stop;
 use vh_lines::Routine;
 
@@ -59,47 +59,29 @@ fn compare<'t, 'a>(levels: usize, env: &Env<'a>, at: At<'t, 'a>) -> Read<'t, 'a,
 }
 
 // `RELATION H`
-fn handle<'t, 'a>(levels: usize, env: &Env<'a>, at: At<'t, 'a>) -> Read<'t, 'a, Order<'a>>
+fn related<'t, 'a>(
+    levels: usize,
+    env: &Env<'a>,
+    at: At<'t, 'a>,
+) -> Read<'t, 'a, (Relation, Atom<'a>)>
     ensures { let env = env_seen env.now in
-        let part = two tree.handle (tok (words.relation_in env.rules)) (rows.atom env) in
-        Reads order_seen levels part at.now result }
+        let part = seq (tok (words.relation_in env.rules)) (rows.atom env) in
+        Reads (λ p. (p.0, atom_seen p.1)) levels part at.now result }
 {
     let (relation, more) = relation(env.rules, at)?;
     let (object, rest) = atom(env, more)?;
-    Ok((Order::Handle { relation, object }, rest))
-}
-
-// `RELATION H`
-fn iterate<'t, 'a>(levels: usize, env: &Env<'a>, at: At<'t, 'a>) -> Read<'t, 'a, Order<'a>>
-    ensures { let env = env_seen env.now in
-        let part = two tree.iterate (tok (words.relation_in env.rules)) (rows.atom env) in
-        Reads order_seen levels part at.now result }
-{
-    let (relation, more) = relation(env.rules, at)?;
-    let (object, rest) = atom(env, more)?;
-    Ok((Order::Iterate { relation, object }, rest))
+    Ok(((relation, object), rest))
 }
 
 // `PROPERTY H`
-fn get<'t, 'a>(levels: usize, env: &Env<'a>, at: At<'t, 'a>) -> Read<'t, 'a, Order<'a>>
+fn asked<'t, 'a>(levels: usize, env: &Env<'a>, at: At<'t, 'a>) -> Read<'t, 'a, (Property, Atom<'a>)>
     ensures { let env = env_seen env.now in
-        let part = two tree.get (tok (words.property_in env.rules)) (rows.atom env) in
-        Reads order_seen levels part at.now result }
+        let part = seq (tok (words.property_in env.rules)) (rows.atom env) in
+        Reads (λ p. (p.0, atom_seen p.1)) levels part at.now result }
 {
     let (property, more) = property(env.rules, at)?;
     let (object, rest) = atom(env, more)?;
-    Ok((Order::Get { property, object }, rest))
-}
-
-// `PROPERTY H`
-fn get_str<'t, 'a>(levels: usize, env: &Env<'a>, at: At<'t, 'a>) -> Read<'t, 'a, Order<'a>>
-    ensures { let env = env_seen env.now in
-        let part = two tree.get_str (tok (words.property_in env.rules)) (rows.atom env) in
-        Reads order_seen levels part at.now result }
-{
-    let (property, more) = property(env.rules, at)?;
-    let (object, rest) = atom(env, more)?;
-    Ok((Order::GetStr { property, object }, rest))
+    Ok(((property, object), rest))
 }
 
 // `H FORMAT`
@@ -253,13 +235,25 @@ pub fn arguments<'t, 'a>(
     match routine {
         Routine::ByName => by_name(levels, env, at),
         Routine::ByIndex => by_index(levels, env, at),
-        Routine::Handle => handle(levels, env, at),
-        Routine::Iterate => iterate(levels, env, at),
+        Routine::Handle => related(levels, env, at).map(|((relation, object), rest)| (
+            Order::Handle { relation, object },
+            rest,
+        )),
+        Routine::Iterate => related(levels, env, at).map(|((relation, object), rest)| (
+            Order::Iterate { relation, object },
+            rest,
+        )),
         Routine::Scan => atom(env, at).map(|(value, rest)| (Order::Scan(value), rest)),
         Routine::Free => atom(env, at).map(|(value, rest)| (Order::Free(value), rest)),
         Routine::Compare => compare(levels, env, at),
-        Routine::Get => get(levels, env, at),
-        Routine::GetStr => get_str(levels, env, at),
+        Routine::Get => asked(levels, env, at).map(|((property, object), rest)| (
+            Order::Get { property, object },
+            rest,
+        )),
+        Routine::GetStr => asked(levels, env, at).map(|((property, object), rest)| (
+            Order::GetStr { property, object },
+            rest,
+        )),
         Routine::GetValue => get_value(levels, env, at),
         Routine::PutValue => put_value(levels, env, at),
         Routine::Cancel => atom(env, at).map(|(value, rest)| (Order::Cancel(value), rest)),
