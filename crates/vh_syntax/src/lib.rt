@@ -11,6 +11,7 @@
 
 mod laws;
 mod sign;
+pub mod tables;
 mod token;
 
 pub use laws::{Syntax, syntax_laws};

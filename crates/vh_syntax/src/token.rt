@@ -4,18 +4,16 @@ ghost use Rattle.std.specs.Prelude.{◌≡◌};
 ghost use Rattle.vh_syntax.specs.Signs;
 ghost use Rattle.vh_syntax.specs.Signs.{one_of};
 ghost use Rattle.vh_syntax.specs.Tokens;
-ghost use Rattle.vh_syntax.specs.Tokens.{token_seen, sign_of, row_at, operator_at, is, is_any, is_name, is_system, is_text, is_number, is_call, is_unused, named_in, plain_systems, unary_rows, begins_expression};
-ghost use Rattle.vh_syntax.specs.Declarations.{variable_rows};
-ghost use Rattle.vh_syntax.specs.Statements.{assign_rows, edge_rows, case_rows, loop_rows, force_rows, release_rows};
-ghost use Rattle.vh_syntax.specs.Items.{direction_rows, net_rows, port_type_rows, targ_rows, gate_rows, parameter_rows, process_rows};
+ghost use Rattle.vh_syntax.specs.Tokens.{token_seen, sign_of, row_at, operator_at, is, is_any, is_name, is_system, is_text, is_number, is_call, is_unused, named_in, plain_systems, begins_expression};
 ghost use Rattle.vh_syntax.specs.Classes.{word_seen, is_in, group_signs, starts, has};
 
 use crate::Sign;
 use crate::sign::{code, mark_sign, word_sign};
-use vh_ast::{
-    AssignWord, Binary, CaseWord, Direction, Edge, ForceWord, GateType, LoopWord, NetType,
-    ParameterWord, PortType, ProcessWord, ReleaseWord, TaskDirection, Unary, Variable,
+use crate::tables::{
+    ASSIGN, CASE, DIRECTION, EDGE, FORCE, GATE, LOOP, NET, PARAMETER, PORT_TYPE, PROCESS, RELEASE,
+    TARG, UNARY, VARIABLE,
 };
+use vh_ast::Binary;
 use vh_lex::{Kind, Token};
 
 /// Signs that each mean something, by what they mean.
@@ -97,111 +95,6 @@ pub enum Class {
 pub struct Word<'t> {
     pub token: &'t Token,
 }
-
-// Signs with what they mean.
-static UNARY: [(Sign, Unary); 11] = [
-    (Sign::Plus, Unary::Plus),
-    (Sign::Minus, Unary::Minus),
-    (Sign::Bang, Unary::Not),
-    (Sign::Tilde, Unary::Invert),
-    (Sign::Ampersand, Unary::ReduceAnd),
-    (Sign::TildeAnd, Unary::ReduceNand),
-    (Sign::Bar, Unary::ReduceOr),
-    (Sign::TildeOr, Unary::ReduceNor),
-    (Sign::Caret, Unary::ReduceXor),
-    (Sign::TildeCaret, Unary::ReduceXnor),
-    (Sign::CaretTilde, Unary::ReduceXnor),
-];
-
-static ASSIGN: [(Sign, AssignWord); 2] = [
-    (Sign::Equal, AssignWord::Blocking),
-    (Sign::LessEqual, AssignWord::Nonblocking),
-];
-
-static EDGE: [(Sign, Edge); 2] = [
-    (Sign::Posedge, Edge::Positive),
-    (Sign::Negedge, Edge::Negative),
-];
-
-static CASE: [(Sign, CaseWord); 3] = [
-    (Sign::Case, CaseWord::Case),
-    (Sign::Casez, CaseWord::Casez),
-    (Sign::Casex, CaseWord::Casex),
-];
-
-static LOOP: [(Sign, LoopWord); 2] = [
-    (Sign::While, LoopWord::While),
-    (Sign::Repeat, LoopWord::Repeat),
-];
-
-static FORCE: [(Sign, ForceWord); 2] = [
-    (Sign::Force, ForceWord::Force),
-    (Sign::Assign, ForceWord::Assign),
-];
-
-static RELEASE: [(Sign, ReleaseWord); 2] = [
-    (Sign::Release, ReleaseWord::Release),
-    (Sign::Deassign, ReleaseWord::Deassign),
-];
-
-static VARIABLE: [(Sign, Variable); 3] = [
-    (Sign::Reg, Variable::Reg),
-    (Sign::Integer, Variable::Integer),
-    (Sign::Time, Variable::Time),
-];
-
-static DIRECTION: [(Sign, Direction); 2] = [
-    (Sign::Input, Direction::Input),
-    (Sign::Output, Direction::Output),
-];
-
-static NET: [(Sign, NetType); 6] = [
-    (Sign::Wire, NetType::Wire),
-    (Sign::Tri, NetType::Tri),
-    (Sign::Wand, NetType::Wand),
-    (Sign::Triand, NetType::Triand),
-    (Sign::Wor, NetType::Wor),
-    (Sign::Trior, NetType::Trior),
-];
-
-static PORT_TYPE: [(Sign, PortType); 9] = [
-    (Sign::Wire, PortType::Net(NetType::Wire)),
-    (Sign::Tri, PortType::Net(NetType::Tri)),
-    (Sign::Wand, PortType::Net(NetType::Wand)),
-    (Sign::Triand, PortType::Net(NetType::Triand)),
-    (Sign::Wor, PortType::Net(NetType::Wor)),
-    (Sign::Trior, PortType::Net(NetType::Trior)),
-    (Sign::Reg, PortType::Variable(Variable::Reg)),
-    (Sign::Integer, PortType::Variable(Variable::Integer)),
-    (Sign::Time, PortType::Variable(Variable::Time)),
-];
-
-static TARG: [(Sign, TaskDirection); 3] = [
-    (Sign::Input, TaskDirection::Input),
-    (Sign::Output, TaskDirection::Output),
-    (Sign::Inout, TaskDirection::Inout),
-];
-
-static GATE: [(Sign, GateType); 8] = [
-    (Sign::And, GateType::And),
-    (Sign::Nand, GateType::Nand),
-    (Sign::Or, GateType::Or),
-    (Sign::Nor, GateType::Nor),
-    (Sign::Xor, GateType::Xor),
-    (Sign::Xnor, GateType::Xnor),
-    (Sign::Buf, GateType::Buf),
-    (Sign::Not, GateType::Not),
-];
-
-static PARAMETER: [(Sign, ParameterWord); 2] = [
-    (Sign::Parameter, ParameterWord::Parameter),
-    (Sign::Localparam, ParameterWord::Localparam),
-];
-
-static PROCESS: [(Sign, ProcessWord); 2] = [
-    (Sign::Initial, ProcessWord::Initial),
-    (Sign::Always, ProcessWord::Always),
-];
 
 // The binary operators, each with its level.
 static BINARY: [(Sign, (usize, Binary)); 25] = [
@@ -436,8 +329,8 @@ impl<'t> Word<'t> {
         }
     }
 
-    // What the row of the token's sign says.
-    fn row<T: Copy>(self, rows: &[(Sign, T)]) -> Option<T>
+    /// What the first row of the token's sign says. It takes time in the number of rows.
+    pub fn row<T: Copy>(self, rows: &[(Sign, T)]) -> Option<T>
         ensures { result ≡ row_at rows.now (word_seen self.entry) }
     {
         match self.sign() {
@@ -446,131 +339,26 @@ impl<'t> Word<'t> {
         }
     }
 
-    /// The unary operator that the token is.
-    pub fn unary(self) -> Option<Unary>
-        ensures { result ≡ row_at unary_rows (word_seen self.entry) }
-    {
-        self.row(&UNARY)
-    }
-
-    /// The sign of an assignment that the token is.
-    pub fn assign_word(self) -> Option<AssignWord>
-        ensures { result ≡ row_at assign_rows (word_seen self.entry) }
-    {
-        self.row(&ASSIGN)
-    }
-
-    /// The edge that the token is.
-    pub fn edge(self) -> Option<Edge>
-        ensures { result ≡ row_at edge_rows (word_seen self.entry) }
-    {
-        self.row(&EDGE)
-    }
-
-    /// The word of a `case` that the token is.
-    pub fn case_word(self) -> Option<CaseWord>
-        ensures { result ≡ row_at case_rows (word_seen self.entry) }
-    {
-        self.row(&CASE)
-    }
-
-    /// The word of a loop that the token is.
-    pub fn loop_word(self) -> Option<LoopWord>
-        ensures { result ≡ row_at loop_rows (word_seen self.entry) }
-    {
-        self.row(&LOOP)
-    }
-
-    /// `force` or `assign`, if the token is one.
-    pub fn force_word(self) -> Option<ForceWord>
-        ensures { result ≡ row_at force_rows (word_seen self.entry) }
-    {
-        self.row(&FORCE)
-    }
-
-    /// `release` or `deassign`, if the token is one.
-    pub fn release_word(self) -> Option<ReleaseWord>
-        ensures { result ≡ row_at release_rows (word_seen self.entry) }
-    {
-        self.row(&RELEASE)
-    }
-
-    /// The type of variables that the token is.
-    pub fn variable(self) -> Option<Variable>
-        ensures { result ≡ row_at variable_rows (word_seen self.entry) }
-    {
-        self.row(&VARIABLE)
-    }
-
-    /// The direction of a port that the token is.
-    pub fn direction(self) -> Option<Direction>
-        ensures { result ≡ row_at direction_rows (word_seen self.entry) }
-    {
-        self.row(&DIRECTION)
-    }
-
-    /// The net type that the token is.
-    pub fn net_type(self) -> Option<NetType>
-        ensures { result ≡ row_at net_rows (word_seen self.entry) }
-    {
-        self.row(&NET)
-    }
-
-    /// The type of a port that the token is.
-    pub fn port_type(self) -> Option<PortType>
-        ensures { result ≡ row_at port_type_rows (word_seen self.entry) }
-    {
-        self.row(&PORT_TYPE)
-    }
-
-    /// The direction of an argument that the token is.
-    pub fn task_direction(self) -> Option<TaskDirection>
-        ensures { result ≡ row_at targ_rows (word_seen self.entry) }
-    {
-        self.row(&TARG)
-    }
-
-    /// The gate that the token is.
-    pub fn gate_type(self) -> Option<GateType>
-        ensures { result ≡ row_at gate_rows (word_seen self.entry) }
-    {
-        self.row(&GATE)
-    }
-
-    /// `parameter` or `localparam`, if the token is one.
-    pub fn parameter_word(self) -> Option<ParameterWord>
-        ensures { result ≡ row_at parameter_rows (word_seen self.entry) }
-    {
-        self.row(&PARAMETER)
-    }
-
-    /// `initial` or `always`, if the token is one.
-    pub fn process_word(self) -> Option<ProcessWord>
-        ensures { result ≡ row_at process_rows (word_seen self.entry) }
-    {
-        self.row(&PROCESS)
-    }
-
     // Whether the token is in one of these rows.
     fn is_in(self, rows: Rows) -> bool
         ensures { result ≡ is_in rows (word_seen self.entry) }
     {
         match rows {
-            Rows::Unary => self.unary().is_some(),
-            Rows::Assign => self.assign_word().is_some(),
-            Rows::Edge => self.edge().is_some(),
-            Rows::Case => self.case_word().is_some(),
-            Rows::Loop => self.loop_word().is_some(),
-            Rows::Force => self.force_word().is_some(),
-            Rows::Release => self.release_word().is_some(),
-            Rows::Variable => self.variable().is_some(),
-            Rows::Direction => self.direction().is_some(),
-            Rows::Net => self.net_type().is_some(),
-            Rows::PortType => self.port_type().is_some(),
-            Rows::Targ => self.task_direction().is_some(),
-            Rows::Gate => self.gate_type().is_some(),
-            Rows::Parameter => self.parameter_word().is_some(),
-            Rows::Process => self.process_word().is_some(),
+            Rows::Unary => self.row(&UNARY).is_some(),
+            Rows::Assign => self.row(&ASSIGN).is_some(),
+            Rows::Edge => self.row(&EDGE).is_some(),
+            Rows::Case => self.row(&CASE).is_some(),
+            Rows::Loop => self.row(&LOOP).is_some(),
+            Rows::Force => self.row(&FORCE).is_some(),
+            Rows::Release => self.row(&RELEASE).is_some(),
+            Rows::Variable => self.row(&VARIABLE).is_some(),
+            Rows::Direction => self.row(&DIRECTION).is_some(),
+            Rows::Net => self.row(&NET).is_some(),
+            Rows::PortType => self.row(&PORT_TYPE).is_some(),
+            Rows::Targ => self.row(&TARG).is_some(),
+            Rows::Gate => self.row(&GATE).is_some(),
+            Rows::Parameter => self.row(&PARAMETER).is_some(),
+            Rows::Process => self.row(&PROCESS).is_some(),
         }
     }
 
