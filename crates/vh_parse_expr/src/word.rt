@@ -3,9 +3,10 @@
 ghost use Rattle.std.specs.Prelude.{◌≡◌, MatchResult};
 ghost use Rattle.vh_base.specs.declared.place.Place.{Place};
 ghost use Rattle.vh_grammar.specs.declared.stop.Stop.TheVariants.{Memory};
-ghost use Rattle.vh_grammar.specs.Part.{act, tok};
-ghost use Rattle.vh_syntax.specs.Tokens.{operator_at, unary_rows};
-ghost use Rattle.vh_syntax.specs.Parts.{an_id, a_system, a_text, a_number, at_the, placed_row};
+ghost use Rattle.vh_grammar.specs.Part.{act, tok, opt};
+ghost use Rattle.vh_syntax.specs.Tokens.{operator_at, in_rows, unary_rows};
+ghost use Rattle.vh_syntax.specs.Parts;
+ghost use Rattle.vh_syntax.specs.Parts.{an_id, a_system, a_text, a_number, at_the};
 ghost use Rattle.vh_ast.specs.Views.{expr_tree};
 ghost use Rattle.vh_syntax.specs.Expressions.{number_expr, text_expr};
 ghost use Rattle.vh_parse_expr.specs.Views.{Reads, IsId};
@@ -17,6 +18,7 @@ use vh_base::{NoMemory, Place};
 use vh_grammar::{Cursor, Stop};
 use vh_lex::{Kind, Token};
 use vh_shared::SharedBytes;
+use vh_syntax::tables::UNARY;
 use vh_syntax::{Class, Sign, Word};
 
 /// The tokens before a parser, and what was shown to be left out.
@@ -115,17 +117,38 @@ pub fn sign<'t>(sign: Sign, at: At<'t>) -> Read<'t, Place>
     Ok((first.place, behind))
 }
 
-// A unary operator, and where it stands.
-pub(crate) fn unary_sign<'t>(at: At<'t>) -> Read<'t, (Place, Unary)>
-    ensures { Reads (λ o. o) 0 (placed_row unary_rows) at.entry result }
+/// A sign of the rows, where it stands, as what its row says.
+pub fn placed_row<'t, T: Copy>(rows: &[(Sign, T)], at: At<'t>) -> Read<'t, (Place, T)>
+    ensures { Reads (λ w. w) 0 (Parts.placed_row rows.now) at.entry result }
 {
     let [first, rest @ ..] = at.tokens else {
         return Err(at.lost());
     };
-    match (Word { token: first }).unary() {
-        Some(operator) => Ok(((first.place, operator), at.before(rest))),
+    match (Word { token: first }).row(rows) {
+        Some(meaning) => Ok(((first.place, meaning), at.before(rest))),
         None => Err(at.lost()),
     }
+}
+
+/// A sign of the rows, as what its row says, if one is next.
+pub fn row_if_next<'t, T: Copy>(rows: &[(Sign, T)], at: At<'t>) -> Read<'t, Option<T>>
+    ensures { let part = opt (in_rows rows.now) (Parts.row_in rows.now) in
+        Reads (λ w. w) 0 part at.entry result }
+{
+    let [first, rest @ ..] = at.tokens else {
+        return Ok((None, at));
+    };
+    match (Word { token: first }).row(rows) {
+        Some(meaning) => Ok((Some(meaning), at.before(rest))),
+        None => Ok((None, at)),
+    }
+}
+
+// A unary operator, and where it stands.
+pub(crate) fn unary_sign<'t>(at: At<'t>) -> Read<'t, (Place, Unary)>
+    ensures { Reads (λ o. o) 0 (Parts.placed_row unary_rows) at.entry result }
+{
+    placed_row(&UNARY, at)
 }
 
 // A binary operator of the level.
