@@ -3,15 +3,16 @@
 ghost use Rattle.vh_grammar.specs.Part.{act};
 ghost use Rattle.vh_ast.specs.Statements.{delay_number};
 ghost use Rattle.vh_ast.specs.Views.{delay_value_tree};
-ghost use Rattle.vh_syntax.specs.Parts.{a_number, placed_row};
+ghost use Rattle.vh_syntax.specs.Parts;
+ghost use Rattle.vh_syntax.specs.Parts.{a_number};
 ghost use Rattle.vh_syntax.specs.Statements.{edge_rows};
 ghost use Rattle.vh_parse_expr.specs.Views.{Reads};
 
 use vh_ast::{DelayValue, Edge};
 use vh_base::Place;
 use vh_lex::Kind;
-use vh_parse_expr::{At, Read};
-use vh_syntax::Word;
+use vh_parse_expr::{At, Read, placed_row};
+use vh_syntax::tables::EDGE;
 
 // `NUMBER`, as that of a delay.
 pub(crate) fn delay_number<'t>(at: At<'t>) -> Read<'t, DelayValue>
@@ -28,13 +29,7 @@ pub(crate) fn delay_number<'t>(at: At<'t>) -> Read<'t, DelayValue>
 
 // `"posedge" | "negedge"`
 pub(crate) fn edge<'t>(at: At<'t>) -> Read<'t, (Place, Edge)>
-    ensures { Reads (λ w. w) 0 (placed_row edge_rows) at.entry result }
+    ensures { Reads (λ w. w) 0 (Parts.placed_row edge_rows) at.entry result }
 {
-    let [first, rest @ ..] = at.tokens else {
-        return Err(at.lost());
-    };
-    match (Word { token: first }).edge() {
-        Some(edge) => Ok(((first.place, edge), at.before(rest))),
-        None => Err(at.lost()),
-    }
+    placed_row(&EDGE, at)
 }
