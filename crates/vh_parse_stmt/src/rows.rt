@@ -1,22 +1,23 @@
 //! Signs that each mean something, where they stand.
 
-ghost use Rattle.vh_syntax.specs.Parts.{row_in, placed_row};
+ghost use Rattle.vh_syntax.specs.Parts;
 ghost use Rattle.vh_syntax.specs.Statements.{assign_rows, case_rows, loop_rows, force_rows, release_rows};
 ghost use Rattle.vh_parse_expr.specs.Views.{Reads};
 
 use vh_ast::{AssignWord, CaseWord, ForceWord, LoopWord, ReleaseWord};
 use vh_base::Place;
-use vh_parse_expr::{At, Read};
+use vh_parse_expr::{At, Read, placed_row};
 use vh_syntax::Word;
+use vh_syntax::tables::{ASSIGN, CASE, FORCE, LOOP, RELEASE};
 
 // `"=" | "<="`
 pub(crate) fn assign_word<'t>(at: At<'t>) -> Read<'t, AssignWord>
-    ensures { Reads (λ w. w) 0 (row_in assign_rows) at.entry result }
+    ensures { Reads (λ w. w) 0 (Parts.row_in assign_rows) at.entry result }
 {
     let [first, rest @ ..] = at.tokens else {
         return Err(at.lost());
     };
-    match (Word { token: first }).assign_word() {
+    match (Word { token: first }).row(&ASSIGN) {
         Some(word) => Ok((word, at.before(rest))),
         None => Err(at.lost()),
     }
@@ -24,52 +25,28 @@ pub(crate) fn assign_word<'t>(at: At<'t>) -> Read<'t, AssignWord>
 
 // `"case" | "casez" | "casex"`
 pub(crate) fn case_word<'t>(at: At<'t>) -> Read<'t, (Place, CaseWord)>
-    ensures { Reads (λ w. w) 0 (placed_row case_rows) at.entry result }
+    ensures { Reads (λ w. w) 0 (Parts.placed_row case_rows) at.entry result }
 {
-    let [first, rest @ ..] = at.tokens else {
-        return Err(at.lost());
-    };
-    match (Word { token: first }).case_word() {
-        Some(word) => Ok(((first.place, word), at.before(rest))),
-        None => Err(at.lost()),
-    }
+    placed_row(&CASE, at)
 }
 
 // `"while" | "repeat"`
 pub(crate) fn loop_word<'t>(at: At<'t>) -> Read<'t, (Place, LoopWord)>
-    ensures { Reads (λ w. w) 0 (placed_row loop_rows) at.entry result }
+    ensures { Reads (λ w. w) 0 (Parts.placed_row loop_rows) at.entry result }
 {
-    let [first, rest @ ..] = at.tokens else {
-        return Err(at.lost());
-    };
-    match (Word { token: first }).loop_word() {
-        Some(word) => Ok(((first.place, word), at.before(rest))),
-        None => Err(at.lost()),
-    }
+    placed_row(&LOOP, at)
 }
 
 // `"force" | "assign"`
 pub(crate) fn force_word<'t>(at: At<'t>) -> Read<'t, (Place, ForceWord)>
-    ensures { Reads (λ w. w) 0 (placed_row force_rows) at.entry result }
+    ensures { Reads (λ w. w) 0 (Parts.placed_row force_rows) at.entry result }
 {
-    let [first, rest @ ..] = at.tokens else {
-        return Err(at.lost());
-    };
-    match (Word { token: first }).force_word() {
-        Some(word) => Ok(((first.place, word), at.before(rest))),
-        None => Err(at.lost()),
-    }
+    placed_row(&FORCE, at)
 }
 
 // `"release" | "deassign"`
 pub(crate) fn release_word<'t>(at: At<'t>) -> Read<'t, (Place, ReleaseWord)>
-    ensures { Reads (λ w. w) 0 (placed_row release_rows) at.entry result }
+    ensures { Reads (λ w. w) 0 (Parts.placed_row release_rows) at.entry result }
 {
-    let [first, rest @ ..] = at.tokens else {
-        return Err(at.lost());
-    };
-    match (Word { token: first }).release_word() {
-        Some(word) => Ok(((first.place, word), at.before(rest))),
-        None => Err(at.lost()),
-    }
+    placed_row(&RELEASE, at)
 }
