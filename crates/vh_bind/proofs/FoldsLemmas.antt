@@ -1,5 +1,5 @@
 -- Lemmas on the lists of `specs/Constants.antt`: one entry, or one operand, and what is left behind it.
-use Rattle.std.proofs.Common.{◌≡◌, ◌∙◌, ◌<◌, ◌≤◌, ◌+◌, ◌∷◌, [], ℕ, true, List, length, get_or, drop, Option, Some, None, Result, Ok, Err, IfSome, refl, sym, ap}
+use Rattle.std.proofs.Common.{◌≡◌, ◌∙◌, ◌<◌, ◌≤◌, ◌+◌, ◌∷◌, [], ℕ, true, List, length, get_or, drop, Option, Some, None, Result, Ok, Err, IfSome, refl, sym, ap, arith}
 use Rattle.std.specs.Prelude.{map, is_some}
 use Rattle.std.proofs.lemmas.List.{at_drop_more}
 use Rattle.vh_base.specs.declared.faults.DesignFault.TheVariants.{N4}
@@ -12,7 +12,8 @@ use Rattle.vh_ast.specs.declared.expr.Link.{Link}
 use Rattle.vh_ast.specs.Expressions.{name, steps, exprs, links}
 use Rattle.vh_ast.specs.Views.{expr_tree, link_tree, name_tree, index_by, step_by}
 use Rattle.vh_bind.specs.declared.scope.Mode.{Mode}
-use Rattle.vh_bind.specs.Steps.{Fault, Nodes, and_then}
+use Rattle.vh_bind.specs.Steps.{Fault, Nodes, Step, and_then}
+use Rattle.vh_bind.specs.Nodes.{IsSound}
 use Rattle.vh_bind.specs.Scopes.{Scope}
 use Rattle.vh_bind.specs.Constants.{bound, entry, entries_bound, links_bound, with_number, sole_bound, name_value, call_fault}
 use Rattle.vh_bind.proofs.NodesLemmas.{all_before-later, all_before-push}
@@ -53,6 +54,51 @@ numbers-below nums nums' a m k below up here more = rw more (by nums a below her
     by None a below here = tt
     by (Some ns) None below here = tt
     by (Some ns) (Some e) below here = all_before-push k e ns (all_before-later m k ns below up) here
+
+-- The entries so far, with those that are left, are those of the concatenation.
+pub record EntriesSoFar (m : Mode) (s : Scope) (start : Nodes) (parts : List Expr) (i : ℕ) (nums : Option (List ℕ)) (ns : Nodes) : Type 0 where
+  pub step : entries_bound m s nums (exprs (map expr_tree (drop i parts))) ns ≡ entries_bound m s (Some []) (exprs (map expr_tree parts)) start
+  pub sound : IsSound m s ns
+  pub below : IfSome nums (λ es. all_before (length ns) es ≡ true)
+  pub grows : length start ≤ length ns
+
+-- The operands so far, with those that are left, are those of the chain.
+pub record LinksSoFar (m : Mode) (s : Scope) (start : Nodes) (parts : List (Link Expr)) (i : ℕ) (nums : Option (List ℕ)) (ns : Nodes) : Type 0 where
+  pub step : links_bound m s nums (links (map link_tree (drop i parts))) ns ≡ links_bound m s (Some []) (links (map link_tree parts)) start
+  pub sound : IsSound m s ns
+  pub below : IfSome nums (λ es. all_before (length ns) es ≡ true)
+  pub grows : length start ≤ length ns
+
+-- What was bound, seen so: a step from some nodes to more, sound as before.
+pub record Bound (m : Mode) (s : Scope) (row : Step (Option ℕ)) (ns : Nodes) (a : Option ℕ) (ns' : Nodes) : Type 0 where
+  pub step : row ns ≡ Ok (a, ns')
+  pub sound : IsSound m s ns'
+  pub below : IfSome a (λ e. e < length ns')
+  pub grows : length ns ≤ length ns'
+
+pub entries-more : (m : Mode) (s : Scope) (start : Nodes) (parts : List Expr) (i : ℕ) (d e : Expr) (nums nums' : Option (List ℕ)) (ns ns' : Nodes)
+    (a : Option ℕ) → EntriesSoFar m s start parts i nums ns → i < length parts → e ≡ get_or parts i d → nums' ≡ with_number nums a
+    → Bound m s (entry (expr_tree e) (bound m s (expr_tree e))) ns a ns' → EntriesSoFar m s start parts (i + 1) nums' ns'
+entries-more m s start parts i d e nums nums' ns ns' a before inside is more b =
+    let one = ap (λ (x : Expr). entry (expr_tree x) (bound m s (expr_tree x)) ns) (sym is) ∙ b.step in
+    record {
+      step = entries-step m s parts i d nums nums' ns ns' a _ inside before.step one more;
+      sound = b.sound;
+      below = numbers-below nums nums' a (length ns) (length ns') before.below b.grows b.below more;
+      grows = omega (arith, before.grows, b.grows);
+    }
+
+pub links-more : (m : Mode) (s : Scope) (start : Nodes) (parts : List (Link Expr)) (i : ℕ) (d l : Link Expr) (nums nums' : Option (List ℕ)) (ns ns' : Nodes)
+    (a : Option ℕ) → LinksSoFar m s start parts i nums ns → i < length parts → l ≡ get_or parts i d → nums' ≡ with_number nums a
+    → Bound m s (bound m s (expr_tree l.operand)) ns a ns' → LinksSoFar m s start parts (i + 1) nums' ns'
+links-more m s start parts i d l nums nums' ns ns' a before inside is more b =
+    let one = ap (λ (x : Link Expr). bound m s (expr_tree x.operand) ns) (sym is) ∙ b.step in
+    record {
+      step = links-step m s parts i d nums nums' ns ns' a _ inside before.step one more;
+      sound = b.sound;
+      below = numbers-below nums nums' a (length ns) (length ns') before.below b.grows b.below more;
+      grows = omega (arith, before.grows, b.grows);
+    }
 
 -- Of no argument, or of more than one, none is the only one.
 pub sole_none : (m : Mode) (s : Scope) (all : List Expr) → (length all ≡ 1 → ⊥) → sole_bound m s (exprs (map expr_tree all)) ≡ None

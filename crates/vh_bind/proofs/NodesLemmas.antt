@@ -1,5 +1,5 @@
 -- Lemmas on `specs/Nodes.antt`: nodes that are sound, and one more of them.
-use Rattle.std.proofs.Common.{◌≡◌, ◌∙◌, ◌<◌, ◌≤◌, ◌+◌, ◌*◌, ◌++◌, ℕ, zero, suc, Bool, true, false, not, ◌&&◌, nat_lt, ◌==◌, max, min, List, [], ◌∷◌, length, length-append, Option, Some, None, slice_get, unwrap_or, refl, sym, ap, arith}
+use Rattle.std.proofs.Common.{◌≡◌, ◌∙◌, ◌<◌, ◌≤◌, ◌+◌, ◌*◌, ◌++◌, ℕ, zero, suc, Bool, true, false, ◌&&◌, nat_lt, ◌==◌, max, min, List, [], ◌∷◌, length, length-append, Option, Some, None, slice_get, unwrap_or, refl, sym, ap, arith}
 use Rattle.std.specs.Prelude.{if◌then◌else◌}
 use Rattle.std.specs.List.{list_all}
 use Rattle.std.specs.Option.{option_map}

@@ -1,5 +1,5 @@
 -- Lemmas on `specs/Paths.antt`: one part of a path, and what is left behind it.
-use Rattle.std.proofs.Common.{◌≡◌, ◌∙◌, ◌<◌, ◌+◌, ◌∷◌, [], ℕ, Bool, true, false, List, length, get_or, drop, Option, Some, None, Result, Ok, Err, refl, sym, ap}
+use Rattle.std.proofs.Common.{◌≡◌, ◌∙◌, ◌<◌, ◌+◌, ◌∷◌, [], ℕ, Bool, false, List, length, get_or, drop, Option, Some, None, Ok, Err, refl, sym, ap}
 use Rattle.std.specs.Prelude.{map, is_some}
 use Rattle.std.proofs.lemmas.List.{at_drop_more}
 use Rattle.vh_base.specs.declared.place.Place.{Place}

@@ -36,6 +36,12 @@ pub tree-Primary : (e : Expr) (p : Primary Expr) → (out-Expr e).form ≡ form.
     → expr_tree e ≡ expr (out-Expr e).place (primary_tree p)
 tree-Primary e p is = made_of e (form.Primary p) is ∙ tree-made (out-Expr e).place p
 
+-- By the primary in it.
+pub tree-of : (e : Expr) (p q : Primary Expr) → (out-Expr e).form ≡ form.Primary p → p ≡ q
+    → expr_tree e ≡ expr (out-Expr e).place (primary_tree q)
+tree-of e p q is same =
+    tree-Primary e p is ∙ ap (λ (x : Primary Expr). expr (out-Expr e).place (primary_tree x)) same
+
 pub tree-Chain : (e first : Expr) (all : List (Link Expr)) → (out-Expr e).form ≡ form.Chain first all
     → expr_tree e ≡ expr (out-Expr e).place (chain (expr_tree first) (links (map link_tree all)))
 tree-Chain e first all is = made_of e _ is ∙ expr_tree-Chain (out-Expr e).place first all

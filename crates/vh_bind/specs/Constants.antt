@@ -28,6 +28,8 @@ use Rattle.vh_ast.specs.Expressions.{ExprTree, expr, ExprFormTree, number, text,
 use Rattle.vh_bind.specs.declared.named.Named.{Named}
 use Rattle.vh_bind.specs.declared.named.Named.TheVariants as it
 use Rattle.vh_bind.specs.declared.operators.Operator.{Operator}
+use Rattle.vh_bind.specs.declared.parts.Prefix.{Prefix}
+use Rattle.vh_bind.specs.declared.parts.Prefix.TheVariants as prefix
 use Rattle.vh_bind.specs.declared.readable.Readable.{Readable}
 use Rattle.vh_bind.specs.declared.readable.Readable.TheVariants as read
 use Rattle.vh_bind.specs.declared.readable.Function.{Function}
@@ -168,6 +170,11 @@ times_pushed m s place count part = needing count (λ n. needing part (repeated 
 -- a unary operator, (5.1)
 abbrev pub unary_pushed : Mode → Scope → Place → Unary → Option ℕ → Step (Option ℕ)
 unary_pushed m s place op a = needing a (λ part. pushed m s place (kind.Unary (unary_of op) part))
+
+-- A part behind what stands before it.
+abbrev pub prefixed : Mode → Scope → Place → Prefix → Option ℕ → Step (Option ℕ)
+prefixed m s place (prefix.Mark signed) = marked_pushed m s place signed
+prefixed m s place (prefix.Sign op) = unary_pushed m s place op
 
 -- a chain of operators, (5.1.2)
 abbrev pub chain_pushed : Mode → Scope → Place → List Operator → Option ℕ → Option (List ℕ) → Step (Option ℕ)

@@ -1,5 +1,5 @@
 -- Nodes of each kind of expression. (IEEE 1364-2005, 5.1, 5.4 and 5.5)
-use Rattle.std.specs.Prelude.{ℕ, ◌≤◌, List, [], ◌∷◌, ◌++◌, length, true, false, not, if◌then◌else◌, nat_le, nat_lt, Option, Some, None, Ok, Err}
+use Rattle.std.specs.Prelude.{ℕ, ◌≤◌, List, [], ◌∷◌, ◌++◌, length, false, not, if◌then◌else◌, nat_le, nat_lt, Option, Some, None, Ok, Err}
 use Rattle.std.specs.List.{fold}
 use Rattle.vh_logic.specs.declared.vector.TheConstants.{MAX_WIDTH}
 use Rattle.vh_base.specs.declared.faults.DesignFault.TheVariants.{N3, N11}

@@ -12,10 +12,10 @@ ghost use Rattle.vh_bind.specs.Views.{scope_seen, numbers_of};
 
 use crate::fault::ElabFault;
 use crate::named::{Named, alone_called, look_up};
-use crate::nodes::{push, push_text};
+use crate::nodes::{Nodes, Numbered, Numbers, push, push_text};
 use crate::parts::{
-    chain_operators, is_unsized, mark_of, push_choice, push_concat, push_links, push_literal,
-    push_marked, push_times, push_unary, sequence, with_number,
+    Prefix, chain_operators, is_unsized, mark_of, push_choice, push_concat, push_links,
+    push_literal, push_prefixed, push_times, sequence, with_number,
 };
 use crate::scope::{Mode, Scope};
 use crate::selects::{Bounded, bit_of, indexed_of, number_in, part_of};
@@ -25,7 +25,7 @@ use std::alloc::Global;
 use vh_ast::{Expr, ExprForm, Id, Link, Name, Part, Primary, Sel};
 use vh_base::{DesignFault, ExprId, Place};
 use vh_logic::Vec4;
-use vh_nodes::{ExprIds, ExprKind, ExprNode};
+use vh_nodes::ExprKind;
 
 /// The value of a constant expression in its own width or in `least`, the greater of the two, with its
 /// own sign (IEEE 1364-2005, 4.10 and 5.4.1); none where it needs a parameter that has no value yet. An
@@ -48,12 +48,7 @@ pub fn constant(
 
 // The nodes of an expression, a row for each form.
 #[cycle(bind)]
-fn bind(
-    alloc: Global,
-    scope: &Scope,
-    nodes: &mut Vec<ExprNode>,
-    e: &Expr,
-) -> Result<Option<ExprId>, ElabFault>
+fn bind(alloc: Global, scope: &Scope, nodes: &mut Nodes, e: &Expr) -> Numbered
     requires sound { IsSound mode.Constant (scope_seen scope.now) nodes.old.items }
     ensures step { Steps (bound mode.Constant (scope_seen scope.now) (expr_tree e.now)
         nodes.old.items) result nodes.new.items }
@@ -104,7 +99,14 @@ fn bind(
         },
         ExprForm::Unary(sign, operand) => {
             let part = bind(alloc, scope, nodes, operand.get())?;
-            push_unary(scope, Mode::Constant, nodes, place, *sign, part)
+            push_prefixed(
+                scope,
+                Mode::Constant,
+                nodes,
+                place,
+                Prefix::Sign(*sign),
+                part,
+            )
         }
         ExprForm::Chain(first, links) => {
             let first = bind(alloc, scope, nodes, first.get())?;
@@ -217,10 +219,10 @@ fn constant_in(alloc: Global, scope: &Scope, e: &Expr) -> Result<Option<Vec4>, E
 fn bind_system(
     alloc: Global,
     scope: &Scope,
-    nodes: &mut Vec<ExprNode>,
+    nodes: &mut Nodes,
     id: &Id,
     arguments: &Items<Expr>,
-) -> Result<Option<ExprId>, ElabFault>
+) -> Numbered
     requires sound { IsSound mode.Constant (scope_seen scope.now) nodes.old.items }
     ensures step { Steps
         (system_row mode.Constant (scope_seen scope.now) id.now
@@ -239,17 +241,13 @@ fn bind_system(
         return Err(ElabFault::Refused(DesignFault::N10, id.place));
     }
     let part = bind(alloc, scope, nodes, &arguments[0])?;
-    push_marked(scope, Mode::Constant, nodes, id.place, signed, part)
+    let mark = Prefix::Mark { signed };
+    push_prefixed(scope, Mode::Constant, nodes, id.place, mark, part)
 }
 
 // An entry of a concatenation.
 #[cycle(bind)]
-fn bind_entry(
-    alloc: Global,
-    scope: &Scope,
-    nodes: &mut Vec<ExprNode>,
-    e: &Expr,
-) -> Result<Option<ExprId>, ElabFault>
+fn bind_entry(alloc: Global, scope: &Scope, nodes: &mut Nodes, e: &Expr) -> Numbered
     requires sound { IsSound mode.Constant (scope_seen scope.now) nodes.old.items }
     ensures step { Steps
         (entry (expr_tree e.now) (bound mode.Constant (scope_seen scope.now) (expr_tree e.now))
@@ -267,12 +265,7 @@ fn bind_entry(
 
 // The entries of a concatenation, from the left.
 #[cycle(bind)]
-fn bind_entries(
-    alloc: Global,
-    scope: &Scope,
-    nodes: &mut Vec<ExprNode>,
-    parts: &Items<Expr>,
-) -> Result<Option<ExprIds>, ElabFault>
+fn bind_entries(alloc: Global, scope: &Scope, nodes: &mut Nodes, parts: &Items<Expr>) -> Numbers
     requires sound { IsSound mode.Constant (scope_seen scope.now) nodes.old.items }
     ensures step { Steps
         (entries_bound mode.Constant (scope_seen scope.now) (Some [])
@@ -293,12 +286,7 @@ fn bind_entries(
 
 // The operands of a chain behind the first, from the left.
 #[cycle(bind)]
-fn bind_links(
-    alloc: Global,
-    scope: &Scope,
-    nodes: &mut Vec<ExprNode>,
-    links: &Items<Link<Expr>>,
-) -> Result<Option<ExprIds>, ElabFault>
+fn bind_links(alloc: Global, scope: &Scope, nodes: &mut Nodes, links: &Items<Link<Expr>>) -> Numbers
     requires sound { IsSound mode.Constant (scope_seen scope.now) nodes.old.items }
     ensures step { Steps
         (links_bound mode.Constant (scope_seen scope.now) (Some [])

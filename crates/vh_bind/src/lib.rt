@@ -24,11 +24,11 @@ mod value;
 
 pub use binding::{constant, sel_value};
 pub use fault::ElabFault;
-pub use nodes::{MOST_EXPRS, push, push_text};
+pub use nodes::{MOST_EXPRS, Nodes, Numbered, Numbers, push, push_text};
 pub use operators::Operator;
 pub use parts::{
-    chain_operators, is_unsized, mark_of, push_choice, push_concat, push_links, push_literal,
-    push_marked, push_times, push_unary, sequence, with_number,
+    Prefix, chain_operators, is_unsized, mark_of, push_choice, push_concat, push_links,
+    push_literal, push_prefixed, push_times, sequence, with_number,
 };
 pub use paths::meaning;
 pub use readable::{Function, Readable, alone_read, path_read};

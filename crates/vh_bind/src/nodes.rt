@@ -12,7 +12,16 @@ use crate::scope::{Mode, Scope};
 use std::alloc::Global;
 use vh_base::{DesignFault, ExprId, NoMemory, Place, Sequence};
 use vh_logic::{Digit, MAX_WIDTH, Vec4, concat};
-use vh_nodes::{ExprKind, ExprNode, ObjectInfo, is_width, kind_signed, kind_width};
+use vh_nodes::{ExprIds, ExprKind, ExprNode, ObjectInfo, is_width, kind_signed, kind_width};
+
+/// Nodes of expressions, each under its place as its number.
+pub type Nodes = Vec<ExprNode>;
+
+/// The number of the node that was added last; none where something that it needs is passed over; or the first fault.
+pub type Numbered = Result<Option<ExprId>, ElabFault>;
+
+/// The same of several nodes.
+pub type Numbers = Result<Option<ExprIds>, ElabFault>;
 
 /// The greatest number of expressions.
 pub const MOST_EXPRS: usize = 0x8000_0000;
@@ -28,13 +37,7 @@ fn objects_of<'a>(scope: &Scope<'a, '_>, mode: Mode) -> &'a [ObjectInfo]
 }
 
 /// One node more, under the next number.
-pub fn push(
-    scope: &Scope,
-    mode: Mode,
-    nodes: &mut Vec<ExprNode>,
-    place: Place,
-    kind: ExprKind,
-) -> Result<Option<ExprId>, ElabFault>
+pub fn push(scope: &Scope, mode: Mode, nodes: &mut Nodes, place: Place, kind: ExprKind) -> Numbered
     requires sound { IsSound mode (scope_seen scope.now) nodes.old.items }
     requires fits { fits_kind
         (objects_of mode (scope_seen scope.now)) (precision_of mode (scope_seen scope.now))
@@ -65,7 +68,7 @@ pub fn push(
 }
 
 // One node more.
-fn add(nodes: &mut Vec<ExprNode>, node: ExprNode) -> Result<(), NoMemory>
+fn add(nodes: &mut Nodes, node: ExprNode) -> Result<(), NoMemory>
     ensures { OnOk result (nodes.new.items ≡ nodes.old.items ++ node ∷ []) }
 {
     nodes.push(node)?;
@@ -107,12 +110,12 @@ pub fn push_chain(
     alloc: Global,
     scope: &Scope,
     mode: Mode,
-    nodes: &mut Vec<ExprNode>,
+    nodes: &mut Nodes,
     place: Place,
     operators: &[Operator],
     first: ExprId,
     rest: &[ExprId],
-) -> Result<Option<ExprId>, ElabFault>
+) -> Numbered
     requires sound { IsSound mode (scope_seen scope.now) nodes.old.items }
     requires first { first < length nodes.old.items }
     requires rest { all_before (length nodes.old.items) rest.now ≡ true }
@@ -135,10 +138,10 @@ pub fn push_join(
     alloc: Global,
     scope: &Scope,
     mode: Mode,
-    nodes: &mut Vec<ExprNode>,
+    nodes: &mut Nodes,
     place: Place,
     parts: &[ExprId],
-) -> Result<Option<ExprId>, ElabFault>
+) -> Numbered
     requires sound { IsSound mode (scope_seen scope.now) nodes.old.items }
     requires parts { all_before (length nodes.old.items) parts.now ≡ true }
     ensures step { Steps
@@ -168,11 +171,11 @@ pub fn push_join(
 pub fn push_repeat(
     scope: &Scope,
     mode: Mode,
-    nodes: &mut Vec<ExprNode>,
+    nodes: &mut Nodes,
     place: Place,
     count: u64,
     part: ExprId,
-) -> Result<Option<ExprId>, ElabFault>
+) -> Numbered
     requires sound { IsSound mode (scope_seen scope.now) nodes.old.items }
     requires part { part < length nodes.old.items }
     ensures step { Steps
@@ -216,10 +219,10 @@ fn text_value(bytes: &[u8]) -> Vec4
 pub fn push_text(
     scope: &Scope,
     mode: Mode,
-    nodes: &mut Vec<ExprNode>,
+    nodes: &mut Nodes,
     place: Place,
     bytes: &[u8],
-) -> Result<Option<ExprId>, ElabFault>
+) -> Numbered
     requires sound { IsSound mode (scope_seen scope.now) nodes.old.items }
     ensures step { Steps
         (text_pushed mode (scope_seen scope.now) place bytes.now nodes.old.items) result

@@ -4,18 +4,18 @@ ghost use Rattle.vh_ast.specs.Expressions;
 ghost use Rattle.vh_ast.specs.Views.{expr_tree, link_tree};
 ghost use Rattle.vh_bind.specs.Steps.{Steps};
 ghost use Rattle.vh_bind.specs.Nodes.{IsSound};
-ghost use Rattle.vh_bind.specs.Constants.{literal, marked_pushed, unary_pushed, chain_pushed, concat_pushed, times_pushed, choice_pushed, operators, is_unsized, with_number, mark_of};
+ghost use Rattle.vh_bind.specs.Constants.{literal, prefixed, chain_pushed, concat_pushed, times_pushed, choice_pushed, operators, is_unsized, with_number, mark_of};
 ghost use Rattle.vh_bind.specs.Views.{scope_seen, numbers_of};
 
 use crate::fault::ElabFault;
-use crate::nodes::{push, push_chain, push_join, push_repeat};
+use crate::nodes::{Nodes, Numbered, push, push_chain, push_join, push_repeat};
 use crate::operators::{Operator, operator_of, unary_of};
 use crate::scope::{Mode, Scope};
 use std::alloc::Global;
 use vh_ast::{Expr, ExprForm, Link, Primary, Unary};
 use vh_base::{ExprId, NoMemory, Place, Sequence};
 use vh_logic::Vec4;
-use vh_nodes::{ExprIds, ExprKind, ExprNode};
+use vh_nodes::{ExprIds, ExprKind};
 
 /// How `$signed` or `$unsigned` marks its argument.
 pub fn mark_of(name: &[u8]) -> Option<bool>
@@ -83,10 +83,10 @@ pub fn chain_operators(alloc: Global, links: &[Link<Expr>]) -> Result<Vec<Operat
 pub fn push_literal(
     scope: &Scope,
     mode: Mode,
-    nodes: &mut Vec<ExprNode>,
+    nodes: &mut Nodes,
     place: Place,
     value: Option<Vec4>,
-) -> Result<Option<ExprId>, ElabFault>
+) -> Numbered
     requires sound { IsSound mode (scope_seen scope.now) nodes.old.items }
     ensures step { Steps
         (literal mode (scope_seen scope.now) place value nodes.old.items) result nodes.new.items }
@@ -100,51 +100,39 @@ pub fn push_literal(
     }
 }
 
-/// `$signed` or `$unsigned` of a part, where it is not passed over.
-pub fn push_marked(
-    scope: &Scope,
-    mode: Mode,
-    nodes: &mut Vec<ExprNode>,
-    place: Place,
-    signed: bool,
-    part: Option<ExprId>,
-) -> Result<Option<ExprId>, ElabFault>
-    requires sound { IsSound mode (scope_seen scope.now) nodes.old.items }
-    requires part { IfSome part (λ n. n < length nodes.old.items) }
-    ensures step { Steps
-        (marked_pushed mode (scope_seen scope.now) place signed part nodes.old.items) result
-        nodes.new.items }
-    ensures sound { OnOk result (IsSound mode (scope_seen scope.now) nodes.new.items) }
-    ensures below { IfOk result (λ o. IfSome o (λ n. n < length nodes.new.items)) }
-    ensures grows { OnOk result (length nodes.old.items ≤ length nodes.new.items) }
-{
-    match part {
-        None => Ok(None),
-        Some(part) => push(scope, mode, nodes, place, ExprKind::Marked { part, signed }),
-    }
+/// What stands before one operand: `$signed` or `$unsigned` as a mark, or an operator.
+#[derive(Clone, Copy)]
+pub enum Prefix {
+    Mark { signed: bool },
+    Sign(Unary),
 }
 
-/// A unary operator on a part, where it is not passed over.
-pub fn push_unary(
+/// A part behind a prefix, where it is not passed over.
+pub fn push_prefixed(
     scope: &Scope,
     mode: Mode,
-    nodes: &mut Vec<ExprNode>,
+    nodes: &mut Nodes,
     place: Place,
-    sign: Unary,
+    prefix: Prefix,
     part: Option<ExprId>,
-) -> Result<Option<ExprId>, ElabFault>
+) -> Numbered
     requires sound { IsSound mode (scope_seen scope.now) nodes.old.items }
     requires part { IfSome part (λ n. n < length nodes.old.items) }
     ensures step { Steps
-        (unary_pushed mode (scope_seen scope.now) place sign part nodes.old.items) result
+        (prefixed mode (scope_seen scope.now) place prefix part nodes.old.items) result
         nodes.new.items }
     ensures sound { OnOk result (IsSound mode (scope_seen scope.now) nodes.new.items) }
     ensures below { IfOk result (λ o. IfSome o (λ n. n < length nodes.new.items)) }
     ensures grows { OnOk result (length nodes.old.items ≤ length nodes.new.items) }
 {
-    match part {
-        None => Ok(None),
-        Some(part) => {
+    let Some(part) = part else {
+        return Ok(None);
+    };
+    match prefix {
+        Prefix::Mark { signed } => {
+            push(scope, mode, nodes, place, ExprKind::Marked { part, signed })
+        }
+        Prefix::Sign(sign) => {
             let op = unary_of(sign);
             push(scope, mode, nodes, place, ExprKind::Unary { op, part })
         }
@@ -156,12 +144,12 @@ pub fn push_links(
     alloc: Global,
     scope: &Scope,
     mode: Mode,
-    nodes: &mut Vec<ExprNode>,
+    nodes: &mut Nodes,
     place: Place,
     operators: &[Operator],
     first: Option<ExprId>,
     rest: Option<ExprIds>,
-) -> Result<Option<ExprId>, ElabFault>
+) -> Numbered
     requires sound { IsSound mode (scope_seen scope.now) nodes.old.items }
     requires first { IfSome first (λ n. n < length nodes.old.items) }
     requires rest { IfSome rest (λ ns. all_before (length nodes.old.items) ns ≡ true) }
@@ -195,10 +183,10 @@ pub fn push_concat(
     alloc: Global,
     scope: &Scope,
     mode: Mode,
-    nodes: &mut Vec<ExprNode>,
+    nodes: &mut Nodes,
     place: Place,
     parts: Option<ExprIds>,
-) -> Result<Option<ExprId>, ElabFault>
+) -> Numbered
     requires sound { IsSound mode (scope_seen scope.now) nodes.old.items }
     requires parts { IfSome parts (λ ns. all_before (length nodes.old.items) ns ≡ true) }
     ensures step { Steps
@@ -218,11 +206,11 @@ pub fn push_concat(
 pub fn push_times(
     scope: &Scope,
     mode: Mode,
-    nodes: &mut Vec<ExprNode>,
+    nodes: &mut Nodes,
     place: Place,
     count: Option<u64>,
     part: Option<ExprId>,
-) -> Result<Option<ExprId>, ElabFault>
+) -> Numbered
     requires sound { IsSound mode (scope_seen scope.now) nodes.old.items }
     requires part { IfSome part (λ n. n < length nodes.old.items) }
     ensures step { Steps
@@ -245,12 +233,12 @@ pub fn push_times(
 pub fn push_choice(
     scope: &Scope,
     mode: Mode,
-    nodes: &mut Vec<ExprNode>,
+    nodes: &mut Nodes,
     place: Place,
     condition: Option<ExprId>,
     yes: Option<ExprId>,
     no: Option<ExprId>,
-) -> Result<Option<ExprId>, ElabFault>
+) -> Numbered
     requires sound { IsSound mode (scope_seen scope.now) nodes.old.items }
     requires condition { IfSome condition (λ n. n < length nodes.old.items) }
     requires yes { IfSome yes (λ n. n < length nodes.old.items) }
