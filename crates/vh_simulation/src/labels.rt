@@ -323,11 +323,11 @@ impl Simulation {
             return Err(StepFault::NoMemory);
         }
         self.is_broken = true;
-        let d = self.design.design();
+        let design = self.design.design();
         let mut made = self.threads.take_list(alloc);
-        take_changes(d, &mut self.store, work, &mut made)?;
+        take_changes(design, &mut self.store, work, &mut made)?;
         enter_all(
-            d,
+            design,
             &self.store,
             &mut self.threads,
             &mut self.sense,
