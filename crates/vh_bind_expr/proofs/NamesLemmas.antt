@@ -1,5 +1,5 @@
 -- Lemmas on `specs/Constants.antt` of vh_bind: names where a value is wanted, and the arguments of calls.
-use Rattle.std.proofs.Common.{◌≡◌, ◌∙◌, ◌<◌, ◌≤◌, ◌+◌, ◌++◌, ◌∷◌, [], ℕ, suc, Bool, true, false, List, length, get_or, drop, Option, Some, None, Result, Ok, Err, refl, sym, ap}
+use Rattle.std.proofs.Common.{◌≡◌, ◌∙◌, ◌<◌, ◌≤◌, ◌+◌, ◌++◌, ◌∷◌, [], ℕ, suc, Bool, true, false, List, length, get_or, drop, Option, Some, None, Result, Ok, Err, refl, sym, ap, arith}
 use Rattle.std.specs.Prelude.{map, is_some, if◌then◌else◌, nat_lt, IfSome}
 use Rattle.std.proofs.lemmas.List.{at_drop_more}
 use Rattle.std.specs.Cmp.Derive.{both_true}
@@ -9,23 +9,23 @@ use Rattle.vh_base.specs.declared.place.Place.{Place}
 use Rattle.vh_ast.specs.declared.routine.TaskDirection.{TaskDirection}
 use Rattle.vh_ast.specs.declared.token.Id.{Id}
 use Rattle.vh_nodes.specs.Fits.{all_before}
-use Rattle.vh_bind_expr.specs.Rows.{output_bound}
+use Rattle.vh_bind_expr.specs.declared.functions.Side.{Side}
+use Rattle.vh_bind_expr.specs.declared.functions.Side.TheVariants as side
+use Rattle.vh_bind_expr.specs.Rows.{argument_bound, is_on, side_bound}
 use Rattle.vh_ast.specs.declared.name.Name.{Name}
 use Rattle.vh_ast.specs.declared.name.Step.{Step as NameStep}
-use Rattle.vh_ast.specs.declared.expr.Expr.{Expr, out-Expr}
-use Rattle.vh_ast.specs.declared.expr.ExprForm.TheVariants as form
-use Rattle.vh_ast.specs.declared.expr.Primary.{Primary}
-use Rattle.vh_ast.specs.Expressions.{expr, name, exprs, Exprs, one_expr}
+use Rattle.vh_ast.specs.declared.expr.Expr.{Expr}
+use Rattle.vh_ast.specs.Expressions.{name, exprs, Exprs, one_expr}
 use Rattle.vh_ast.specs.Views.{expr_tree, name_tree, index_by}
 use Rattle.vh_bind.specs.declared.scope.Mode.TheVariants as mode
 use Rattle.vh_bind.specs.Steps.{Fault, Nodes, Step, ◌>>=◌, and_then, pure, refused}
 use Rattle.vh_bind.specs.Scopes.{Scope}
-use Rattle.vh_bind.specs.Objects.{alone_read, goes_so, is_given, is_taken}
-use Rattle.vh_bind.specs.Views.{primary_tree}
-use Rattle.vh_bind.specs.Constants.{argument_row, bound, given_bound, taken_bound, with_number, with_numbers, count_of, name_meant, name_read, path_outcome, time_pushed}
+use Rattle.vh_bind.specs.Objects.{alone_read, goes_so}
+use Rattle.vh_bind.specs.Nodes.{IsSound}
+use Rattle.vh_bind.specs.Constants.{argument_row, with_number, with_numbers, count_of, name_meant, name_read, path_outcome, time_pushed}
 use Rattle.vh_bind.proofs.NodesLemmas.{all_before-later}
 use Rattle.vh_bind.proofs.PathsLemmas.{steps_seen}
-use Rattle.vh_bind.proofs.TreesLemmas.{tree-Primary}
+use Rattle.vh_bind.proofs.FoldsLemmas.{Bound, numbers-below}
 
 -- A name alone, and a path.
 alone : (s : Scope) (id : Id) (i : Option Expr) (all : List (NameStep Expr)) → is_some i ≡ false → all ≡ []
@@ -61,12 +61,6 @@ time-argument b s place [] ns h = absurd (h refl)
 time-argument true s place (e ∷ all) ns h = refl
 time-argument false s place (e ∷ all) ns h = refl
 
--- An expression of the code by its primary.
-pub tree-of : (e : Expr) (p q : Primary Expr) → (out-Expr e).form ≡ form.Primary p → p ≡ q
-    → expr_tree e ≡ expr (out-Expr e).place (primary_tree q)
-tree-of e p q is same =
-    tree-Primary e p is ∙ ap (λ (x : Primary Expr). expr (out-Expr e).place (primary_tree x)) same
-
 -- One argument of a call, which counts or not, and what is left behind it.
 arguments-one : (F : ℕ → Option (List ℕ) → Exprs → Step (Option (List ℕ))) (goes : ℕ → Bool) (row : Expr → Step (Option ℕ))
     → ((i : ℕ) (nums : Option (List ℕ)) (e : Expr) (es : Exprs)
@@ -80,15 +74,11 @@ arguments-one F goes row opens parts i d nums ns b inside so =
     ∙ ap (λ (p : Step (Option (List ℕ))). p ns) (opens i nums (get_or parts i d) rest)
     ∙ ap (λ (c : Bool). (argument_row c nums (row (get_or parts i d)) >>= (λ js. F (i + 1) js rest)) ns) so
 
-given-opens : (s : Scope) (ds : List TaskDirection) (i : ℕ) (nums : Option (List ℕ)) (e : Expr) (es : Exprs)
-    → given_bound s ds i nums (one_expr (expr_tree e) es)
-    ≡ (argument_row (goes_so is_given ds i) nums (bound mode.Value s (expr_tree e)) >>= (λ js. given_bound s ds (i + 1) js es))
-given-opens s ds i nums e es = refl
-
-taken-opens : (s : Scope) (ds : List TaskDirection) (i : ℕ) (nums : Option (List ℕ)) (e : Expr) (es : Exprs)
-    → taken_bound s ds i nums (one_expr (expr_tree e) es)
-    ≡ (argument_row (goes_so is_taken ds i) nums (output_bound s (expr_tree e)) >>= (λ js. taken_bound s ds (i + 1) js es))
-taken-opens s ds i nums e es = refl
+side-opens : (s : Scope) (x : Side) (ds : List TaskDirection) (i : ℕ) (nums : Option (List ℕ)) (e : Expr) (es : Exprs)
+    → side_bound s x ds i nums (one_expr (expr_tree e) es)
+    ≡ (argument_row (goes_so (is_on x) ds i) nums (argument_bound s x (expr_tree e)) >>= (λ js. side_bound s x ds (i + 1) js es))
+side-opens s side.Given ds i nums e es = refl
+side-opens s side.Taken ds i nums e es = refl
 
 -- It counts: it is bound; or it doesn't.
 row-counts : (row : Step (Option ℕ)) (more : Option (List ℕ) → Step (Option (List ℕ))) (nums nums' : Option (List ℕ)) (ns ns' : Nodes)
@@ -98,43 +88,34 @@ row-counts row more nums nums' ns ns' a one same =
     ap (λ (r : Result (Option ℕ × Nodes) Fault). and_then (and_then r (λ b. pure (with_number nums b))) more) one
     ∙ ap (λ (n : Option (List ℕ)). more n ns') (sym same)
 
-pub given-counts : (s : Scope) (ds : List TaskDirection) (parts : List Expr) (i : ℕ) (d : Expr) (nums nums' : Option (List ℕ))
-    (ns ns' : Nodes) (a : Option ℕ) (target : Result (Option (List ℕ) × Nodes) Fault) → i < length parts → goes_so is_given ds i ≡ true
-    → given_bound s ds i nums (exprs (map expr_tree (drop i parts))) ns ≡ target
-    → bound mode.Value s (expr_tree (get_or parts i d)) ns ≡ Ok (a, ns') → nums' ≡ with_number nums a
-    → given_bound s ds (i + 1) nums' (exprs (map expr_tree (drop (i + 1) parts))) ns' ≡ target
-given-counts s ds parts i d nums nums' ns ns' a target inside so is one same =
+-- The arguments of one side so far, with those that are left, are those of the call.
+pub record SideSoFar (s : Scope) (x : Side) (ds : List TaskDirection) (start : Nodes) (parts : List Expr) (i : ℕ) (nums : Option (List ℕ)) (ns : Nodes) : Type 0 where
+  pub step : side_bound s x ds i nums (exprs (map expr_tree (drop i parts))) ns ≡ side_bound s x ds 0 (Some []) (exprs (map expr_tree parts)) start
+  pub sound : IsSound mode.Value s ns
+  pub below : IfSome nums (λ es. all_before (length ns) es ≡ true)
+  pub grows : length start ≤ length ns
+
+pub side-counts : (s : Scope) (x : Side) (ds : List TaskDirection) (start : Nodes) (parts : List Expr) (i : ℕ) (d e : Expr) (nums nums' : Option (List ℕ))
+    (ns ns' : Nodes) (a : Option ℕ) → SideSoFar s x ds start parts i nums ns → i < length parts → e ≡ get_or parts i d → goes_so (is_on x) ds i ≡ true
+    → nums' ≡ with_number nums a → Bound mode.Value s (argument_bound s x (expr_tree e)) ns a ns' → SideSoFar s x ds start parts (i + 1) nums' ns'
+side-counts s x ds start parts i d e nums nums' ns ns' a before inside is so same b =
     let rest = exprs (map expr_tree (drop (i + 1) parts)) in
-    sym (row-counts (bound mode.Value s (expr_tree (get_or parts i d))) (λ js. given_bound s ds (i + 1) js rest) nums nums' ns ns' a one same)
-    ∙ sym (arguments-one (given_bound s ds) (goes_so is_given ds) (λ e. bound mode.Value s (expr_tree e)) (given-opens s ds) parts i d nums ns true inside so)
-    ∙ is
+    let one = ap (λ (y : Expr). argument_bound s x (expr_tree y) ns) (sym is) ∙ b.step in
+    let counts = row-counts (argument_bound s x (expr_tree (get_or parts i d))) (λ js. side_bound s x ds (i + 1) js rest) nums nums' ns ns' a one same in
+    let opened = arguments-one (side_bound s x ds) (goes_so (is_on x) ds) (λ e. argument_bound s x (expr_tree e)) (side-opens s x ds) parts i d nums ns true inside so in
+    record {
+      step = sym counts ∙ sym opened ∙ before.step;
+      sound = b.sound;
+      below = numbers-below nums nums' a (length ns) (length ns') before.below b.grows b.below same;
+      grows = omega (arith, before.grows, b.grows);
+    }
 
-pub given-skips : (s : Scope) (ds : List TaskDirection) (parts : List Expr) (i : ℕ) (d : Expr) (nums : Option (List ℕ)) (ns : Nodes)
-    (target : Result (Option (List ℕ) × Nodes) Fault) → i < length parts → goes_so is_given ds i ≡ false
-    → given_bound s ds i nums (exprs (map expr_tree (drop i parts))) ns ≡ target
-    → given_bound s ds (i + 1) nums (exprs (map expr_tree (drop (i + 1) parts))) ns ≡ target
-given-skips s ds parts i d nums ns target inside so is =
-    sym (arguments-one (given_bound s ds) (goes_so is_given ds) (λ e. bound mode.Value s (expr_tree e)) (given-opens s ds) parts i d nums ns false inside so)
-    ∙ is
-
-pub taken-counts : (s : Scope) (ds : List TaskDirection) (parts : List Expr) (i : ℕ) (d : Expr) (nums nums' : Option (List ℕ))
-    (ns ns' : Nodes) (a : Option ℕ) (target : Result (Option (List ℕ) × Nodes) Fault) → i < length parts → goes_so is_taken ds i ≡ true
-    → taken_bound s ds i nums (exprs (map expr_tree (drop i parts))) ns ≡ target
-    → output_bound s (expr_tree (get_or parts i d)) ns ≡ Ok (a, ns') → nums' ≡ with_number nums a
-    → taken_bound s ds (i + 1) nums' (exprs (map expr_tree (drop (i + 1) parts))) ns' ≡ target
-taken-counts s ds parts i d nums nums' ns ns' a target inside so is one same =
-    let rest = exprs (map expr_tree (drop (i + 1) parts)) in
-    sym (row-counts (output_bound s (expr_tree (get_or parts i d))) (λ js. taken_bound s ds (i + 1) js rest) nums nums' ns ns' a one same)
-    ∙ sym (arguments-one (taken_bound s ds) (goes_so is_taken ds) (λ e. output_bound s (expr_tree e)) (taken-opens s ds) parts i d nums ns true inside so)
-    ∙ is
-
-pub taken-skips : (s : Scope) (ds : List TaskDirection) (parts : List Expr) (i : ℕ) (d : Expr) (nums : Option (List ℕ)) (ns : Nodes)
-    (target : Result (Option (List ℕ) × Nodes) Fault) → i < length parts → goes_so is_taken ds i ≡ false
-    → taken_bound s ds i nums (exprs (map expr_tree (drop i parts))) ns ≡ target
-    → taken_bound s ds (i + 1) nums (exprs (map expr_tree (drop (i + 1) parts))) ns ≡ target
-taken-skips s ds parts i d nums ns target inside so is =
-    sym (arguments-one (taken_bound s ds) (goes_so is_taken ds) (λ e. output_bound s (expr_tree e)) (taken-opens s ds) parts i d nums ns false inside so)
-    ∙ is
+pub side-skips : (s : Scope) (x : Side) (ds : List TaskDirection) (start : Nodes) (parts : List Expr) (i : ℕ) (d : Expr) (nums : Option (List ℕ))
+    (ns : Nodes) → SideSoFar s x ds start parts i nums ns → i < length parts → goes_so (is_on x) ds i ≡ false
+    → SideSoFar s x ds start parts (i + 1) nums ns
+side-skips s x ds start parts i d nums ns before inside so =
+    let opened = arguments-one (side_bound s x ds) (goes_so (is_on x) ds) (λ e. argument_bound s x (expr_tree e)) (side-opens s x ds) parts i d nums ns false inside so in
+    record { step = sym opened ∙ before.step; sound = before.sound; below = before.below; grows = before.grows }
 
 -- Numbers stay below those of the nodes, where there are more of these.
 pub later-below : (o : Option (List ℕ)) (m k : ℕ) → IfSome o (λ ns. all_before m ns ≡ true) → m ≤ k → IfSome o (λ ns. all_before k ns ≡ true)

@@ -1,17 +1,21 @@
 -- What rows of `specs/Constants.antt` of vh_bind say behind the parts that are bound already.
 -- (IEEE 1364-2005, 5.1.14, 5.2 and 12.4.1)
-use Rattle.std.specs.Prelude.{ℕ, ◌-◌, ◌^◌, List, [], Option}
+use Rattle.std.specs.Prelude.{ℕ, ◌-◌, ◌^◌, List, [], Bool, Option}
 use Rattle.vh_base.specs.declared.place.Place.{Place}
 use Rattle.vh_logic.specs.declared.vector.TheConstants.{MAX_WIDTH}
 use Rattle.vh_logic.specs.Vector.{Vector}
 use Rattle.vh_nodes.specs.declared.expr.Range.{Range}
 use Rattle.vh_nodes.specs.declared.expr.Select.{Select}
-use Rattle.vh_ast.specs.Expressions.{ExprTree, NameTree, SelTree, place_of}
+use Rattle.vh_ast.specs.declared.routine.TaskDirection.{TaskDirection}
+use Rattle.vh_ast.specs.Expressions.{ExprTree, Exprs, NameTree, SelTree, place_of}
 use Rattle.vh_bind.specs.declared.scope.Mode.TheVariants as mode
 use Rattle.vh_bind.specs.Steps.{Nodes, Step, ◌>>=◌, lifted}
 use Rattle.vh_bind.specs.Scopes.{Scope, here}
 use Rattle.vh_bind.specs.Selects.{Outcome, with_ok, number_in, part_select}
-use Rattle.vh_bind.specs.Constants.{concat_pushed, constant, genvar_bounded, literal, memory_bound, name_read, sel_value, target_pieces, target_row, times_pushed, vector_bound}
+use Rattle.vh_bind.specs.Objects.{is_given, is_taken}
+use Rattle.vh_bind.specs.Constants.{bound, concat_pushed, constant, genvar_bounded, given_bound, literal, memory_bound, name_read, sel_value, taken_bound, target_pieces, target_row, times_pushed, vector_bound}
+use Rattle.vh_bind_expr.specs.declared.functions.Side.{Side}
+use Rattle.vh_bind_expr.specs.declared.functions.Side.TheVariants as side
 
 -- A constant, where parameters have their values in some expressions.
 abbrev pub constant_at : Scope → Nodes → ExprTree → Outcome (Option Vector)
@@ -49,3 +53,18 @@ variable_bound s place n sel =
 -- An output of a call: a concatenation of what it is assigned to. (10.2.2)
 abbrev pub output_bound : Scope → ExprTree → Step (Option ℕ)
 output_bound s e = target_pieces s [] e >>= concat_pushed mode.Value s (place_of e)
+
+-- The two sides of a call: the arguments that are given a value at its begin, and those that are assigned at its end. (10.2.2)
+abbrev pub is_on : Side → TaskDirection → Bool
+is_on side.Given d = is_given d
+is_on side.Taken d = is_taken d
+
+-- An argument: its value, or what it is assigned to,
+abbrev pub argument_bound : Scope → Side → ExprTree → Step (Option ℕ)
+argument_bound s side.Given e = bound mode.Value s e
+argument_bound s side.Taken e = output_bound s e
+
+-- and those of one side, in their order, from the one of this number on.
+abbrev pub side_bound : Scope → Side → List TaskDirection → ℕ → Option (List ℕ) → Exprs → Step (Option (List ℕ))
+side_bound s side.Given ds k ids es = given_bound s ds k ids es
+side_bound s side.Taken ds k ids es = taken_bound s ds k ids es

@@ -12,9 +12,9 @@ ghost use Rattle.vh_bind.specs.Nodes.{IsSound};
 ghost use Rattle.vh_bind.specs.Constants.{bound, call_row, entries_bound, entry, form_bound, given_bound, links_bound, mark_of, memory_bound, part_bound, sole_bound, system_row, taken_bound, target_pieces, targets_pieces, vector_bound};
 ghost use Rattle.vh_bind.specs.Views.{scope_seen};
 ghost use Rattle.vh_bind_expr.specs.Kinds.{IsFunction};
-ghost use Rattle.vh_bind_expr.specs.Rows.{output_bound, variable_bound};
+ghost use Rattle.vh_bind_expr.specs.Rows.{argument_bound, output_bound, side_bound, variable_bound};
 
-use crate::functions::{any_taken, directions_of, is_given_at, is_taken_at};
+use crate::functions::{Side, any_taken, directions_of, is_at};
 use crate::names::{function_called, name_read};
 use crate::reads::{
     add_number, bit_select, indexed_select, push_begin, push_call, push_selected, push_system,
@@ -26,23 +26,19 @@ use std::alloc::Global;
 use vh_ast::{Esel, Expr, ExprForm, Id, Link, Name, Part, Primary, Sel, TaskDirection};
 use vh_base::{DesignFault, ExprId, ObjId, Place, Sequence};
 use vh_bind::{
-    ElabFault, Function, Mode, Readable, Scope, is_unsized, mark_of, push, push_choice,
-    push_concat, push_literal, push_marked, push_text, push_unary, sequence, with_number,
+    ElabFault, Function, Mode, Nodes, Numbered, Numbers, Prefix, Readable, Scope, is_unsized,
+    mark_of, push, push_choice, push_concat, push_literal, push_prefixed, push_text, sequence,
+    with_number,
 };
 use vh_least::lesser;
-use vh_nodes::{ExprIds, ExprKind, ExprNode, Range, Select, is_variable_at};
+use vh_nodes::{ExprKind, Range, Select, is_variable_at};
 
 /// Adds the nodes of an expression over the objects of a design to the design's expressions, and
 /// answers the number of the last one (IEEE 1364-2005, clause 5). None where it needs a parameter
 /// that has no value. An error is the first fault of the expression, or want of memory; after it
 /// what was added is not used. The expressions of the scope are not read: parameters have their
 /// values in `exprs`.
-pub fn bind_expr(
-    alloc: Global,
-    exprs: &mut Vec<ExprNode>,
-    scope: &Scope,
-    e: &Expr,
-) -> Result<Option<ExprId>, ElabFault>
+pub fn bind_expr(alloc: Global, exprs: &mut Nodes, scope: &Scope, e: &Expr) -> Numbered
     requires sound { IsSound mode.Value (scope_seen scope.now) exprs.old.items }
     requires unit { is_unit (scope_seen scope.now).precision (scope_seen scope.now).unit ≡ true }
     ensures step { Steps
@@ -55,14 +51,15 @@ pub fn bind_expr(
     bind(alloc, scope, exprs, e)
 }
 
+// What may stand behind a name.
+type Brackets = Option<Boxed<Sel<Expr>>>;
+
+// Where a name stands, and the object that it stands for, with its range.
+type Found = (Place, ObjId, Range);
+
 // The nodes of an expression, a row for each form.
 #[cycle(bind)]
-fn bind(
-    alloc: Global,
-    scope: &Scope,
-    nodes: &mut Vec<ExprNode>,
-    e: &Expr,
-) -> Result<Option<ExprId>, ElabFault>
+fn bind(alloc: Global, scope: &Scope, nodes: &mut Nodes, e: &Expr) -> Numbered
     requires sound { IsSound mode.Value (scope_seen scope.now) nodes.old.items }
     requires unit { is_unit (scope_seen scope.now).precision (scope_seen scope.now).unit ≡ true }
     ensures step { Steps
@@ -103,7 +100,7 @@ fn bind(
         },
         ExprForm::Unary(sign, operand) => {
             let part = bind(alloc, scope, nodes, operand.get())?;
-            push_unary(scope, Mode::Value, nodes, place, *sign, part)
+            push_prefixed(scope, Mode::Value, nodes, place, Prefix::Sign(*sign), part)
         }
         ExprForm::Chain(first, links) => {
             let first = bind(alloc, scope, nodes, first.get())?;
@@ -124,11 +121,11 @@ fn bind(
 fn bind_name(
     alloc: Global,
     scope: &Scope,
-    nodes: &mut Vec<ExprNode>,
+    nodes: &mut Nodes,
     place: Place,
-    sel: &Option<Boxed<Sel<Expr>>>,
+    sel: &Brackets,
     name: &Name<Expr>,
-) -> Result<Option<ExprId>, ElabFault>
+) -> Numbered
     requires sound { IsSound mode.Value (scope_seen scope.now) nodes.old.items }
     requires unit { is_unit (scope_seen scope.now).precision (scope_seen scope.now).unit ≡ true }
     ensures step { Steps
@@ -147,38 +144,31 @@ fn bind_name(
             if sel.is_none() {
                 return push_literal(scope, Mode::Value, nodes, place, Some(value));
             }
-            bind_vector(alloc, scope, nodes, place, object, range, sel)
+            bind_bits(alloc, scope, nodes, (place, object, range), sel)
         }
         Readable::Vector(object, range) => {
-            bind_vector(alloc, scope, nodes, place, object, range, sel)
+            bind_bits(alloc, scope, nodes, (place, object, range), sel)
         }
         Readable::Memory(object, range) => {
-            bind_memory(alloc, scope, nodes, place, object, range, sel)
+            bind_word(alloc, scope, nodes, (place, object, range), sel)
         }
     }
 }
 
 // Digits of a net, a variable or a parameter.
 #[cycle(bind)]
-fn bind_vector(
-    alloc: Global,
-    scope: &Scope,
-    nodes: &mut Vec<ExprNode>,
-    place: Place,
-    object: ObjId,
-    range: Range,
-    sel: &Option<Boxed<Sel<Expr>>>,
-) -> Result<Option<ExprId>, ElabFault>
+fn bind_bits(alloc: Global, scope: &Scope, nodes: &mut Nodes, of: Found, sel: &Brackets) -> Numbered
     requires sound { IsSound mode.Value (scope_seen scope.now) nodes.old.items }
     requires unit { is_unit (scope_seen scope.now).precision (scope_seen scope.now).unit ≡ true }
-    requires object { has_kind is_vector (scope_seen scope.now).objects object ≡ true }
+    requires object { has_kind is_vector (scope_seen scope.now).objects of.1 ≡ true }
     ensures step { Steps
-        (vector_bound (scope_seen scope.now) place object range (sel_tree sel.now) nodes.old.items)
-        result nodes.new.items }
+        (vector_bound (scope_seen scope.now) of.0 of.1 of.2 (sel_tree sel.now)
+        nodes.old.items) result nodes.new.items }
     ensures sound { OnOk result (IsSound mode.Value (scope_seen scope.now) nodes.new.items) }
     ensures below { IfOk result (λ o. IfSome o (λ n. n < length nodes.new.items)) }
     ensures grows { OnOk result (length nodes.old.items ≤ length nodes.new.items) }
 {
+    let (place, object, range) = of;
     let of = whole_of(object);
     let Some(sel) = sel else {
         return push_selected(scope, nodes, place, of, Some(Select::Whole));
@@ -198,25 +188,18 @@ fn bind_vector(
 
 // A word of a memory, or digits of one.
 #[cycle(bind)]
-fn bind_memory(
-    alloc: Global,
-    scope: &Scope,
-    nodes: &mut Vec<ExprNode>,
-    place: Place,
-    object: ObjId,
-    range: Range,
-    sel: &Option<Boxed<Sel<Expr>>>,
-) -> Result<Option<ExprId>, ElabFault>
+fn bind_word(alloc: Global, scope: &Scope, nodes: &mut Nodes, of: Found, sel: &Brackets) -> Numbered
     requires sound { IsSound mode.Value (scope_seen scope.now) nodes.old.items }
     requires unit { is_unit (scope_seen scope.now).precision (scope_seen scope.now).unit ≡ true }
-    requires object { has_kind is_memory (scope_seen scope.now).objects object ≡ true }
+    requires object { has_kind is_memory (scope_seen scope.now).objects of.1 ≡ true }
     ensures step { Steps
-        (memory_bound (scope_seen scope.now) place object range (sel_tree sel.now) nodes.old.items)
-        result nodes.new.items }
+        (memory_bound (scope_seen scope.now) of.0 of.1 of.2 (sel_tree sel.now)
+        nodes.old.items) result nodes.new.items }
     ensures sound { OnOk result (IsSound mode.Value (scope_seen scope.now) nodes.new.items) }
     ensures below { IfOk result (λ o. IfSome o (λ n. n < length nodes.new.items)) }
     ensures grows { OnOk result (length nodes.old.items ≤ length nodes.new.items) }
 {
+    let (place, object, range) = of;
     let Some(sel) = sel else {
         return Err(ElabFault::Refused(DesignFault::N1, place));
     };
@@ -240,12 +223,13 @@ fn bind_memory(
     }
 }
 
-// Which digits the last bracket of a select names.
+/// Which digits the last bracket of a select names (IEEE 1364-2005, 5.2.1), with the nodes of an
+/// index or a base; none where it needs a parameter that has no value; or its first fault.
 #[cycle(bind)]
-fn bind_part(
+pub fn bind_part(
     alloc: Global,
     scope: &Scope,
-    nodes: &mut Vec<ExprNode>,
+    nodes: &mut Nodes,
     range: Range,
     last: &Esel<Expr>,
 ) -> Result<Option<Select>, ElabFault>
@@ -295,10 +279,10 @@ fn bind_part(
 fn bind_system(
     alloc: Global,
     scope: &Scope,
-    nodes: &mut Vec<ExprNode>,
+    nodes: &mut Nodes,
     id: &Id,
     arguments: &Items<Expr>,
-) -> Result<Option<ExprId>, ElabFault>
+) -> Numbered
     requires sound { IsSound mode.Value (scope_seen scope.now) nodes.old.items }
     requires unit { is_unit (scope_seen scope.now).precision (scope_seen scope.now).unit ≡ true }
     ensures step { Steps
@@ -318,17 +302,13 @@ fn bind_system(
         return Err(ElabFault::Refused(DesignFault::N10, id.place));
     }
     let part = bind(alloc, scope, nodes, &arguments[0])?;
-    push_marked(scope, Mode::Value, nodes, id.place, signed, part)
+    let mark = Prefix::Mark { signed };
+    push_prefixed(scope, Mode::Value, nodes, id.place, mark, part)
 }
 
 // An entry of a concatenation.
 #[cycle(bind)]
-fn bind_entry(
-    alloc: Global,
-    scope: &Scope,
-    nodes: &mut Vec<ExprNode>,
-    e: &Expr,
-) -> Result<Option<ExprId>, ElabFault>
+fn bind_entry(alloc: Global, scope: &Scope, nodes: &mut Nodes, e: &Expr) -> Numbered
     requires sound { IsSound mode.Value (scope_seen scope.now) nodes.old.items }
     requires unit { is_unit (scope_seen scope.now).precision (scope_seen scope.now).unit ≡ true }
     ensures step { Steps
@@ -346,12 +326,7 @@ fn bind_entry(
 
 // The entries of a concatenation, from the left.
 #[cycle(bind)]
-fn bind_entries(
-    alloc: Global,
-    scope: &Scope,
-    nodes: &mut Vec<ExprNode>,
-    parts: &Items<Expr>,
-) -> Result<Option<ExprIds>, ElabFault>
+fn bind_entries(alloc: Global, scope: &Scope, nodes: &mut Nodes, parts: &Items<Expr>) -> Numbers
     requires sound { IsSound mode.Value (scope_seen scope.now) nodes.old.items }
     requires unit { is_unit (scope_seen scope.now).precision (scope_seen scope.now).unit ≡ true }
     ensures step { Steps
@@ -376,11 +351,11 @@ fn bind_entries(
 fn bind_call(
     alloc: Global,
     scope: &Scope,
-    nodes: &mut Vec<ExprNode>,
+    nodes: &mut Nodes,
     place: Place,
     function: &Function,
     values: &[Expr],
-) -> Result<Option<ExprId>, ElabFault>
+) -> Numbered
     requires sound { IsSound mode.Value (scope_seen scope.now) nodes.old.items }
     requires unit { is_unit (scope_seen scope.now).precision (scope_seen scope.now).unit ≡ true }
     requires function { IsFunction (scope_seen scope.now).objects function.now }
@@ -394,26 +369,26 @@ fn bind_call(
 {
     let directions = directions_of(scope, function.id);
     if !any_taken(directions) {
-        let given = bind_given(alloc, scope, nodes, directions, values)?;
+        let given = bind_side(alloc, scope, nodes, Side::Given, directions, values)?;
         return push_call(alloc, scope, nodes, place, function, given);
     }
     let given = bind_beside(alloc, scope, nodes, directions, values)?;
     let given = push_begin(alloc, scope, nodes, place, function, given)?;
-    let taken = bind_taken(alloc, scope, nodes, directions, values)?;
+    let taken = bind_side(alloc, scope, nodes, Side::Taken, directions, values)?;
     let all = with_numbers(given, taken)?;
     push_call(alloc, scope, nodes, place, function, all)
 }
 
-// The same arguments as those of `bind_given`; where one of them is wrong and an argument that is
+// The arguments that are given a value; where one of them is wrong and an argument that is
 // assigned too, the fault that stands first.
 #[cycle(bind)]
 fn bind_beside(
     alloc: Global,
     scope: &Scope,
-    nodes: &mut Vec<ExprNode>,
+    nodes: &mut Nodes,
     directions: &[TaskDirection],
     values: &[Expr],
-) -> Result<Option<ExprIds>, ElabFault>
+) -> Numbers
     requires sound { IsSound mode.Value (scope_seen scope.now) nodes.old.items }
     requires unit { is_unit (scope_seen scope.now).precision (scope_seen scope.now).unit ≡ true }
     ensures step { let s = scope_seen scope.now in let es = exprs (map expr_tree values.now) in
@@ -425,12 +400,12 @@ fn bind_beside(
         (λ o. IfSome o (λ ns. all_before (length nodes.new.items) ns ≡ true)) }
     ensures grows { OnOk result (length nodes.old.items ≤ length nodes.new.items) }
 {
-    match bind_given(alloc, scope, nodes, directions, values) {
+    match bind_side(alloc, scope, nodes, Side::Given, directions, values) {
         Ok(given) => Ok(given),
         Err(ElabFault::NoMemory) => Err(ElabFault::NoMemory),
         Err(ElabFault::Refused(fault, at)) => {
             let mut apart = Vec::new(alloc);
-            match bind_taken(alloc, scope, &mut apart, directions, values) {
+            match bind_side(alloc, scope, &mut apart, Side::Taken, directions, values) {
                 Ok(_) => Err(ElabFault::Refused(fault, at)),
                 Err(ElabFault::NoMemory) => Err(ElabFault::NoMemory),
                 Err(ElabFault::Refused(other, there)) => {
@@ -442,20 +417,22 @@ fn bind_beside(
     }
 }
 
-// The arguments that are given a value, in their order.
+// The arguments of one side, in their order.
 #[cycle(bind)]
-fn bind_given(
+fn bind_side(
     alloc: Global,
     scope: &Scope,
-    nodes: &mut Vec<ExprNode>,
+    nodes: &mut Nodes,
+    side: Side,
     directions: &[TaskDirection],
     values: &[Expr],
-) -> Result<Option<ExprIds>, ElabFault>
+) -> Numbers
     requires sound { IsSound mode.Value (scope_seen scope.now) nodes.old.items }
     requires unit { is_unit (scope_seen scope.now).precision (scope_seen scope.now).unit ≡ true }
     ensures step { Steps
-        (given_bound (scope_seen scope.now) directions.now 0 (Some [])
-        (exprs (map expr_tree values.now)) nodes.old.items) result nodes.new.items }
+        (side_bound (scope_seen scope.now) side directions.now 0 (Some [])
+        (exprs (map expr_tree values.now)) nodes.old.items)
+        result nodes.new.items }
     ensures sound { OnOk result (IsSound mode.Value (scope_seen scope.now) nodes.new.items) }
     ensures below { IfOk result
         (λ o. IfSome o (λ ns. all_before (length nodes.new.items) ns ≡ true)) }
@@ -463,51 +440,35 @@ fn bind_given(
 {
     let mut numbers = Some(Vec::new(alloc));
     for (k, value) in values.iter().enumerate() {
-        if is_given_at(directions, k) {
-            let number = bind(alloc, scope, nodes, value)?;
+        if is_at(side, directions, k) {
+            let number = bind_argument(alloc, scope, nodes, side, value)?;
             numbers = with_number(numbers, number)?;
         }
     }
     Ok(sequence(numbers))
 }
 
-// The arguments that are assigned, in their order, each as a concatenation.
+// An argument: its value, or what it is assigned to.
 #[cycle(bind)]
-fn bind_taken(
-    alloc: Global,
-    scope: &Scope,
-    nodes: &mut Vec<ExprNode>,
-    directions: &[TaskDirection],
-    values: &[Expr],
-) -> Result<Option<ExprIds>, ElabFault>
+fn bind_argument(alloc: Global, scope: &Scope, nodes: &mut Nodes, side: Side, e: &Expr) -> Numbered
     requires sound { IsSound mode.Value (scope_seen scope.now) nodes.old.items }
     requires unit { is_unit (scope_seen scope.now).precision (scope_seen scope.now).unit ≡ true }
     ensures step { Steps
-        (taken_bound (scope_seen scope.now) directions.now 0 (Some [])
-        (exprs (map expr_tree values.now)) nodes.old.items) result nodes.new.items }
+        (argument_bound (scope_seen scope.now) side (expr_tree e.now) nodes.old.items)
+        result nodes.new.items }
     ensures sound { OnOk result (IsSound mode.Value (scope_seen scope.now) nodes.new.items) }
-    ensures below { IfOk result
-        (λ o. IfSome o (λ ns. all_before (length nodes.new.items) ns ≡ true)) }
+    ensures below { IfOk result (λ o. IfSome o (λ n. n < length nodes.new.items)) }
     ensures grows { OnOk result (length nodes.old.items ≤ length nodes.new.items) }
 {
-    let mut numbers = Some(Vec::new(alloc));
-    for (k, value) in values.iter().enumerate() {
-        if is_taken_at(directions, k) {
-            let number = bind_output(alloc, scope, nodes, value)?;
-            numbers = with_number(numbers, number)?;
-        }
+    match side {
+        Side::Given => bind(alloc, scope, nodes, e),
+        Side::Taken => bind_output(alloc, scope, nodes, e),
     }
-    Ok(sequence(numbers))
 }
 
 // An output: a concatenation of what it is assigned to.
 #[cycle(bind)]
-fn bind_output(
-    alloc: Global,
-    scope: &Scope,
-    nodes: &mut Vec<ExprNode>,
-    e: &Expr,
-) -> Result<Option<ExprId>, ElabFault>
+fn bind_output(alloc: Global, scope: &Scope, nodes: &mut Nodes, e: &Expr) -> Numbered
     requires sound { IsSound mode.Value (scope_seen scope.now) nodes.old.items }
     requires unit { is_unit (scope_seen scope.now).precision (scope_seen scope.now).unit ≡ true }
     ensures step { Steps
@@ -530,7 +491,7 @@ fn bind_output(
 fn bind_target(
     alloc: Global,
     scope: &Scope,
-    nodes: &mut Vec<ExprNode>,
+    nodes: &mut Nodes,
     parts: &mut Vec<ExprId>,
     e: &Expr,
 ) -> Result<bool, ElabFault>
@@ -574,7 +535,7 @@ fn bind_target(
 fn bind_targets(
     alloc: Global,
     scope: &Scope,
-    nodes: &mut Vec<ExprNode>,
+    nodes: &mut Nodes,
     parts: &mut Vec<ExprId>,
     entries: &Items<Expr>,
 ) -> Result<bool, ElabFault>
@@ -602,11 +563,11 @@ fn bind_targets(
 fn bind_variable(
     alloc: Global,
     scope: &Scope,
-    nodes: &mut Vec<ExprNode>,
+    nodes: &mut Nodes,
     place: Place,
-    sel: &Option<Boxed<Sel<Expr>>>,
+    sel: &Brackets,
     name: &Name<Expr>,
-) -> Result<Option<ExprId>, ElabFault>
+) -> Numbered
     requires sound { IsSound mode.Value (scope_seen scope.now) nodes.old.items }
     requires unit { is_unit (scope_seen scope.now).precision (scope_seen scope.now).unit ≡ true }
     ensures step { Steps
@@ -625,22 +586,17 @@ fn bind_variable(
             if !is_variable_at(scope.objects, object) {
                 return Err(ElabFault::Refused(DesignFault::N5, place));
             }
-            bind_vector(alloc, scope, nodes, place, object, range, sel)
+            bind_bits(alloc, scope, nodes, (place, object, range), sel)
         }
         Readable::Memory(object, range) => {
-            bind_memory(alloc, scope, nodes, place, object, range, sel)
+            bind_word(alloc, scope, nodes, (place, object, range), sel)
         }
     }
 }
 
 // The operands of a chain behind the first, from the left.
 #[cycle(bind)]
-fn bind_links(
-    alloc: Global,
-    scope: &Scope,
-    nodes: &mut Vec<ExprNode>,
-    links: &Items<Link<Expr>>,
-) -> Result<Option<ExprIds>, ElabFault>
+fn bind_links(alloc: Global, scope: &Scope, nodes: &mut Nodes, links: &Items<Link<Expr>>) -> Numbers
     requires sound { IsSound mode.Value (scope_seen scope.now) nodes.old.items }
     requires unit { is_unit (scope_seen scope.now).precision (scope_seen scope.now).unit ≡ true }
     ensures step { Steps

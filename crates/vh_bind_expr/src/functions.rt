@@ -5,6 +5,7 @@ ghost use Rattle.vh_nodes.specs.Kinds.{is_function};
 ghost use Rattle.vh_nodes.specs.Fits.{has_kind};
 ghost use Rattle.vh_bind.specs.Objects.{with_result, routine_of, directions_of, is_given, is_taken, goes_so, function_at, function_meant};
 ghost use Rattle.vh_bind.specs.Views.{scope_seen};
+ghost use Rattle.vh_bind_expr.specs.Rows.{is_on};
 
 use vh_ast::TaskDirection;
 use vh_base::ObjId;
@@ -61,23 +62,30 @@ pub fn is_taken(direction: TaskDirection) -> bool
     }
 }
 
-/// Whether the argument of this number is given a value.
-pub(crate) fn is_given_at(directions: &[TaskDirection], number: usize) -> bool
-    ensures { result ≡ goes_so is_given directions.now number }
+/// The arguments of a call that are given a value at its begin, or those that are assigned at its end.
+#[derive(Clone, Copy)]
+pub(crate) enum Side {
+    Given,
+    Taken,
+}
+
+// Whether an argument stands there.
+fn is_on(side: Side, direction: TaskDirection) -> bool
+    ensures { result ≡ is_on side direction }
 {
-    match directions.get(number) {
-        None => false,
-        Some(direction) => is_given(*direction),
+    match side {
+        Side::Given => is_given(direction),
+        Side::Taken => is_taken(direction),
     }
 }
 
-/// Whether it is assigned.
-pub(crate) fn is_taken_at(directions: &[TaskDirection], number: usize) -> bool
-    ensures { result ≡ goes_so is_taken directions.now number }
+/// Whether the argument of this number stands there.
+pub(crate) fn is_at(side: Side, directions: &[TaskDirection], number: usize) -> bool
+    ensures { result ≡ goes_so (is_on side) directions.now number }
 {
     match directions.get(number) {
         None => false,
-        Some(direction) => is_taken(*direction),
+        Some(direction) => is_on(side, *direction),
     }
 }
 

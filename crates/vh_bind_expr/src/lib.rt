@@ -15,7 +15,7 @@ mod names;
 mod reads;
 mod rows;
 
-pub use expr::bind_expr;
+pub use expr::{bind_expr, bind_part};
 pub use functions::{is_given, is_taken};
 pub use names::{constant_at, name_read};
 pub use reads::{bit_select, indexed_select, push_selected, whole_of, word_of};
