@@ -19,7 +19,7 @@ use sqlite_items::Boxed;
 use std::alloc::Global;
 use vh_ast::{Delay, Expr, GateType, Unary};
 use vh_base::{DesignFault, ExprId, NoMemory, ObjId, Place, Sequence};
-use vh_bind::{ElabFault, Mode, Operator, Scope, push_links, push_unary};
+use vh_bind::{ElabFault, Mode, Operator, Prefix, Scope, push_links, push_prefixed};
 use vh_bind_expr::{push_selected, whole_of};
 use vh_bind_stmt::{Surroundings, add_calls};
 use vh_code::{Code, Delay as Wait, DriverIds, Operation};
@@ -87,7 +87,7 @@ fn inverted(
     ensures sound { OnOk result (IsSound mode.Value (scope_seen scope.now) nodes.new.items) }
     ensures below { IfOk result (λ o. IfSome o (λ n. n < length nodes.new.items)) }
 {
-    push_unary(scope, Mode::Value, nodes, place, Unary::Invert, value)
+    push_prefixed(scope, Mode::Value, nodes, place, Prefix::Sign(Unary::Invert), value)
 }
 
 // Inverted as often as a gate does.

@@ -1,5 +1,5 @@
 use Rattle.std.proofs.Common.{rules}
-use Rattle.vh_bind_expr.proofs.NamesLemmas.{tree-of}
+use Rattle.vh_bind.proofs.TreesLemmas.{tree-of}
 use Rattle.vh_bind_stmt.proofs.events.expr_terms.Goals as goal
 
 pub returns-in-Name : goal.returns-in-Name

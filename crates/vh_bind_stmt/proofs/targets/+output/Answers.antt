@@ -1,5 +1,5 @@
 use Rattle.std.proofs.Common.{rules}
-use Rattle.vh_bind_expr.proofs.NamesLemmas.{tree-of}
+use Rattle.vh_bind.proofs.TreesLemmas.{tree-of}
 use Rattle.vh_bind_stmt.proofs.targets.+output.Goals as goal
 
 pub output_pieces-returns-in-Name-clause-step : goal.output_pieces-returns-in-Name-clause-step

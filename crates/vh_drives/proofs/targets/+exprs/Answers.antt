@@ -1,5 +1,5 @@
 use Rattle.std.proofs.Common.{rules}
-use Rattle.vh_bind_expr.proofs.NamesLemmas.{tree-of}
+use Rattle.vh_bind.proofs.TreesLemmas.{tree-of}
 use Rattle.vh_drives.proofs.targets.+exprs.Goals as goal
 
 pub add_expr-returns-in-Name : goal.add_expr-returns-in-Name
