@@ -1,6 +1,6 @@
 -- What a continuous assignment does to its drivers: each compares its new value with its scheduled update. (IEEE
 -- 1364-2005, 6.1; which update stays and which goes is own)
-use Rattle.std.specs.Prelude.{ℕ, ◌+◌, List, [], ◌∷◌, Bool, false, if◌then◌else◌, ◌==◌, Option, Some, None, Result, Ok}
+use Rattle.std.specs.Prelude.{◌≡◌, ◌≤◌, IfSome, ℕ, ◌+◌, List, [], ◌∷◌, Bool, false, if◌then◌else◌, ◌==◌, Option, Some, None, Result, Ok}
 use Rattle.std.specs.BTreeMap.{is_at, insert_entry}
 use Rattle.std.specs.Map.{lookup}
 use Rattle.std.specs.Option.{option_and_then}
@@ -67,6 +67,11 @@ region_at now time = if time == now then region.Active else region.Inactive
 
 abbrev pub noted : ℕ → ℕ → List (ℕ × ℕ) → List (ℕ × ℕ)
 noted x serial us = insert_entry nat_cmp us x serial
+
+-- Updates come at present or later, and the store and the queue stand at one time.
+pub record AreInTime (s : Contents) (q : Events) (time : Option ℕ) : Type 0 where
+  pub later : IfSome time (λ t. s.time ≤ t)
+  pub now : s.time ≡ q.time
 
 abbrev pub with_update : Contents → Option ℕ → ℕ → Vector → Driving → Result Driving (Option Fault)
 with_update s time x v b =

@@ -6,7 +6,7 @@ ghost use Rattle.vh_nodes.specs.Widths.{driver_width};
 ghost use Rattle.vh_code.specs.Targets.{fits_drivers};
 ghost use Rattle.vh_queue.specs.Entries.{IsPresent};
 ghost use Rattle.vh_turn.specs.Own.{Comes, FailsBy};
-ghost use Rattle.vh_turn.specs.Drives.{driving, update_value, value_at, scheduled_value, has_value, without_update, region_at, with_update, rescheduled, one_driven, digits_driven, all_driven};
+ghost use Rattle.vh_turn.specs.Drives.{AreInTime, driving, update_value, value_at, scheduled_value, has_value, without_update, region_at, with_update, rescheduled, one_driven, digits_driven, all_driven};
 
 use crate::fault::StepFault;
 use crate::updates::Updates;
@@ -89,8 +89,7 @@ fn add_update(
     x: DriverId,
     v: &Vec4,
 ) -> Result<(), StepFault>
-    requires later { IfSome time (λ t. s.now.time ≤ t) }
-    requires now { s.now.time ≡ q.old.time }
+    requires time { AreInTime s.now q.old time }
     ensures comes { Comes (with_update s.now time x v.now (driving updates.old q.old)) result
         (driving updates.new q.new) }
     ensures now { q.new.time ≡ q.old.time }
@@ -113,8 +112,7 @@ fn reschedule(
     x: DriverId,
     v: &Vec4,
 ) -> Result<(), StepFault>
-    requires later { IfSome time (λ t. s.now.time ≤ t) }
-    requires now { s.now.time ≡ q.old.time }
+    requires time { AreInTime s.now q.old time }
     ensures comes { Comes (rescheduled s.now time x v.now (driving updates.old q.old)) result
         (driving updates.new q.new) }
     ensures now { q.new.time ≡ q.old.time }
@@ -134,8 +132,7 @@ fn drive_one(
     x: DriverId,
     v: &Vec4,
 ) -> Result<(), StepFault>
-    requires later { IfSome time (λ t. s.now.time ≤ t) }
-    requires now { s.now.time ≡ q.old.time }
+    requires time { AreInTime s.now q.old time }
     ensures comes { Comes (one_driven s.now time x v.now (driving updates.old q.old)) result
         (driving updates.new q.new) }
     ensures now { q.new.time ≡ q.old.time }
@@ -175,8 +172,7 @@ fn drive_next(
     left: u32,
 ) -> Result<u32, StepFault>
     requires known { x < length d.now.drivers }
-    requires later { IfSome time (λ t. s.now.time ≤ t) }
-    requires now { s.now.time ≡ q.old.time }
+    requires time { AreInTime s.now q.old time }
     requires wide { driver_width d.now.drivers x ≤ left }
     requires inside { left ≤ digits_in v.now }
     ensures left { let w = driver_width d.now.drivers x in IfOk result (λ rest. rest ≡ left - w) }
@@ -207,8 +203,7 @@ pub(crate) fn drive_all(
     v: &Vec4,
 ) -> Result<(), StepFault>
     requires known { fits_drivers d.now.drivers drivers.now ≡ true }
-    requires later { IfSome time (λ t. s.now.time ≤ t) }
-    requires now { s.now.time ≡ q.old.time }
+    requires time { AreInTime s.now q.old time }
     requires wide { digits_driven d.now.drivers drivers.now ≤ digits_in v.now }
     ensures driven { OnOk result (all_driven d.now.drivers s.now time drivers.now v.now
         (driving updates.old q.old) ≡ Ok (driving updates.new q.new)) }
