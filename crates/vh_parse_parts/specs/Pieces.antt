@@ -10,7 +10,7 @@ use Rattle.vh_syntax.specs.Parts.{G, the, at_the, an_id, comma_more, in_parens}
 use Rattle.vh_syntax.specs.Declarations.{a_type, bare_id, assigned, a_net}
 use Rattle.vh_syntax.specs.Statements.{all_of, delay}
 use Rattle.vh_syntax.specs.Items as parts
-use Rattle.vh_syntax.specs.Items.{Declared, Delayed, Targs, direction_rows, port_bare, pdecl, with_pdecl, with_port, next_port, delayed_first, more_delayed, delayed_nets, with_delay, terminals, conns, begins_conns, targ_rows, targ_bare, targ_one, with_targ, with_id, next_targ, local, begins_local}
+use Rattle.vh_syntax.specs.Items.{Declared, Delayed, Targs, direction_rows, port_bare, pdecl, with_pdecl, with_port, next_port, delayed_first, more_delayed, delayed_nets, with_delay, terminals, conns, begins_conns, next_targ, local, begins_local}
 
 -- pdecl | ID, behind a comma, and further ports (IEEE 1364-2005, A.1.3).
 abbrev pub port_or_name : Declared → G Declared
@@ -48,12 +48,7 @@ written_conns = act all_of (opt begins_conns conns)
 abbrev pub overrides : G (Option (List ConnTree))
 overrides = opt (is sign.Hash) (after (the sign.Hash) (in_parens conns))
 
--- targ | ID, behind a comma, and further ones (IEEE 1364-2005, A.2.7).
-abbrev pub targ_or_name : Targs → G Targs
-targ_or_name s =
-    alt (in_rows targ_rows) (act (with_targ s) targ_one)
-    (act (with_id s) (bare_id (targ_bare (s.last).variable)))
-
+-- Further arguments of a task (IEEE 1364-2005, A.2.7).
 abbrev pub more_targs : Targs → G Targs
 more_targs s = iter (λ t. is sign.Comma) next_targ s
 

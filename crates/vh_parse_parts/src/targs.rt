@@ -9,7 +9,7 @@ ghost use Rattle.vh_syntax.specs.Declarations.{bare_id};
 ghost use Rattle.vh_syntax.specs.Items as parts;
 ghost use Rattle.vh_syntax.specs.Items.{targ_bare, with_targ, with_id};
 ghost use Rattle.vh_parse_expr.specs.Views.{Reads};
-ghost use Rattle.vh_parse_parts.specs.Pieces.{targ_or_name, more_targs, locals};
+ghost use Rattle.vh_parse_parts.specs.Pieces.{more_targs, locals};
 ghost use Rattle.vh_parse_parts.specs.Views.{targ_head_tree, argument_tree, targs_tree};
 
 use crate::boxed::boxed_type;
@@ -160,23 +160,16 @@ fn next_name<'t>(all: Arguments, at: At<'t>) -> Read<'t, Arguments>
     Ok((all, rest))
 }
 
-// `targ | ID`, behind a comma
-fn targ_or_name<'t>(alloc: Global, depth: usize, all: Arguments, at: At<'t>) -> Read<'t, Arguments>
-    ensures { Reads targs_tree depth (targ_or_name (targs_tree all)) at.entry result }
-{
-    if at.next_is(Class::Row(Rows::Targ)) {
-        return next_head(alloc, depth, all, at);
-    }
-    next_name(all, at)
-}
-
 // `"," ( targ | ID )`
 #[tactic(auto, unfolding(vh_syntax::specs::Items::next_targ))]
 fn next_targ<'t>(alloc: Global, depth: usize, all: Arguments, at: At<'t>) -> Read<'t, Arguments>
     ensures { Reads targs_tree depth (parts.next_targ (targs_tree all)) at.entry result }
 {
     let next = at.take(Class::Is(Sign::Comma))?;
-    targ_or_name(alloc, depth, all, next)
+    if next.next_is(Class::Row(Rows::Targ)) {
+        return next_head(alloc, depth, all, next);
+    }
+    next_name(all, next)
 }
 
 // `{ "," ( targ | ID ) }`
