@@ -4,7 +4,7 @@ ghost use Rattle.std.specs.Prelude.{Option, option_map};
 ghost use Rattle.vh_ast.specs.Views.{result_tree, item_tree};
 ghost use Rattle.vh_syntax.specs.Items as parts;
 ghost use Rattle.vh_syntax.specs.Items.{process_rows};
-ghost use Rattle.vh_syntax.specs.Parts.{placed_row};
+ghost use Rattle.vh_syntax.specs.Parts;
 ghost use Rattle.vh_parse_expr.specs.Views.{Reads};
 ghost use Rattle.vh_parse_items.specs.Views.{routine_tree};
 
@@ -14,10 +14,11 @@ use std::alloc::Global;
 use vh_ast::{Id, Item, Local, ProcessWord, ResultType, Stmt, Targ};
 use vh_base::Place;
 use vh_parse_decl::data_type;
-use vh_parse_expr::{At, Read, id, sign, then_sign};
+use vh_parse_expr::{At, Read, id, placed_row, sign, then_sign};
 use vh_parse_parts::{locals, maybe_targs};
 use vh_parse_stmt::inner_statement;
-use vh_syntax::{Class, Group, Sign, Word};
+use vh_syntax::tables::PROCESS;
+use vh_syntax::{Class, Group, Sign};
 
 // A task or function, but for the words around it.
 #[derive(Drop)]
@@ -97,15 +98,9 @@ pub(crate) fn function_item<'t>(alloc: Global, depth: usize, at: At<'t>) -> Read
 
 // `"initial" | "always"`
 fn process_word<'t>(at: At<'t>) -> Read<'t, (Place, ProcessWord)>
-    ensures { Reads (λ w. w) 0 (placed_row process_rows) at.entry result }
+    ensures { Reads (λ w. w) 0 (Parts.placed_row process_rows) at.entry result }
 {
-    let [first, rest @ ..] = at.tokens else {
-        return Err(at.lost());
-    };
-    match (Word { token: first }).process_word() {
-        Some(word) => Ok(((first.place, word), at.before(rest))),
-        None => Err(at.lost()),
-    }
+    placed_row(&PROCESS, at)
 }
 
 // `( "initial" | "always" ) stmt`
