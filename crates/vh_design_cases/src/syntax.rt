@@ -5,6 +5,7 @@ use vh_ast::{Binary, NetType, PortType};
 use vh_base::Place;
 use vh_grammar::{Cursor, Stop};
 use vh_lex::{Keyword, Kind, Mark, Token};
+use vh_syntax::tables::{NET, PORT_TYPE};
 use vh_syntax::{Class, Group, Rows, Sign, Start, Syntax, Word, syntax_laws};
 
 fn token(kind: Kind) -> Token {
@@ -26,8 +27,8 @@ fn words(rt: HostRuntime) -> Result<(), Fail> {
     ];
     let wire = Word { token: &tokens[0] };
     let semicolon = Word { token: &tokens[1] };
-    assert!(rt; wire.net_type() == Some(NetType::Wire));
-    assert!(rt; wire.port_type() == Some(PortType::Net(NetType::Wire)));
+    assert!(rt; wire.row(&NET) == Some(NetType::Wire));
+    assert!(rt; wire.row(&PORT_TYPE) == Some(PortType::Net(NetType::Wire)));
     assert!(rt; semicolon.operator(1).is_none());
     let at: Cursor<'_, Token, Class> = Cursor::new(&tokens);
     assert!(rt; at.next_is(Class::Begins(Start::Item)));
