@@ -1,5 +1,6 @@
 //! Constant expressions with their values, or their faults and places.
 
+use crate::genvar::two;
 use std::alloc::Global;
 use std::test::Fail;
 use vh_ast::{Expr, ExprForm, Name, Primary};
@@ -15,6 +16,7 @@ use vh_scope::{Meaning, Names, Top};
 // signed, `U` has no value; and a name of each other kind.
 #[derive(Drop)]
 struct World {
+    top: Top<'static>,
     names: Names,
     around: Vec<ObjId>,
     genvars: Vec<Genvar>,
@@ -27,6 +29,10 @@ const TOP: u32 = 0;
 impl World {
     fn new(alloc: Global) -> Result<World, NoMemory> {
         let mut world = World {
+            top: Top {
+                id: ObjId::new(TOP),
+                name: b"top",
+            },
             names: Names::new(alloc),
             around: Vec::from_slice(alloc, &[ObjId::new(TOP)])?,
             genvars: Vec::new(alloc),
@@ -86,12 +92,7 @@ impl World {
     // `i` is 2.
     fn genvar(&mut self, alloc: Global) -> Result<(), NoMemory> {
         self.mean(alloc, b"i", Meaning::Genvar)?;
-        let genvar = Genvar {
-            scope: ObjId::new(TOP),
-            name: Sequence::from_slice(alloc, b"i")?,
-            value: Vec4::from_planes(32, 2, 0, true),
-        };
-        self.genvars.push(genvar)?;
+        self.genvars.push(two(alloc)?)?;
         Ok(())
     }
 
@@ -162,14 +163,10 @@ impl World {
 
 // What is answered for an expression in the module, in so many digits at least.
 fn value_of(alloc: Global, world: &World, e: &Expr, least: u32) -> Result<Option<Vec4>, ElabFault> {
-    let top = Top {
-        id: ObjId::new(TOP),
-        name: b"top",
-    };
     let scope = Scope {
         names: &world.names,
         around: &world.around,
-        top,
+        top: world.top,
         genvars: &world.genvars,
         objects: &world.objects,
         exprs: &world.exprs,
@@ -187,14 +184,10 @@ fn meaning_of(
     name: &Name<Expr>,
     call: bool,
 ) -> Result<Option<Meaning>, ElabFault> {
-    let top = Top {
-        id: ObjId::new(TOP),
-        name: b"top",
-    };
     let scope = Scope {
         names: &world.names,
         around: &world.around,
-        top,
+        top: world.top,
         genvars: &world.genvars,
         objects: &world.objects,
         exprs: &world.exprs,

@@ -1,5 +1,6 @@
 //! Expressions over the objects of a module, with their values, or their faults and places.
 
+use crate::genvar::two;
 use std::alloc::Global;
 use std::test::Fail;
 use vh_ast::{Expr, ExprForm, Primary, TaskDirection};
@@ -107,12 +108,7 @@ impl World {
         self.mean(alloc, b"lp", Meaning::Blocks)?;
         self.mean(alloc, b"i", Meaning::Genvar)?;
         self.mean(alloc, b"j", Meaning::Genvar)?;
-        let genvar = Genvar {
-            scope: ObjId::new(TOP),
-            name: Sequence::from_slice(alloc, b"i")?,
-            value: Vec4::from_planes(32, 2, 0, true),
-        };
-        self.genvars.push(genvar)?;
+        self.genvars.push(two(alloc)?)?;
         Ok(())
     }
 

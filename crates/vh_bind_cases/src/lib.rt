@@ -7,3 +7,5 @@
 mod constants;
 #[cfg(test)]
 mod expressions;
+#[cfg(test)]
+mod genvar;

@@ -33,12 +33,13 @@ fn object(alloc: Global, kind: Kind, detail: Detail) -> Result<ObjectInfo, NoMem
 
 fn objects(alloc: Global) -> Result<Vec<ObjectInfo>, NoMemory> {
     let mut all = Vec::new(alloc);
-    all.push(object(alloc, Kind::Module, Detail::Plain)?)?;
-    all.push(object(alloc, Kind::Reg, Detail::Plain)?)?;
-    all.push(object(alloc, Kind::Net, Detail::Net(NetType::Wire))?)?;
-    all.push(object(alloc, Kind::Net, Detail::Net(NetType::Wand))?)?;
-    all.push(object(alloc, Kind::Net, Detail::Net(NetType::Wor))?)?;
-    all.push(object(alloc, Kind::Net, Detail::Net(NetType::Tri))?)?;
+    let nets = [NetType::Wire, NetType::Wand, NetType::Wor, NetType::Tri];
+    for kind in [Kind::Module, Kind::Reg] {
+        all.push(object(alloc, kind, Detail::Plain)?)?;
+    }
+    for net in nets {
+        all.push(object(alloc, Kind::Net, Detail::Net(net))?)?;
+    }
     Ok(all)
 }
 

@@ -827,60 +827,51 @@ wait (x) f_2050 = x; :: S3 1
 a_2230.t(1); :: S3 1
 ";
 
-#[test]
-fn given_texts(rt: HostRuntime) -> Result<(), Fail> {
-    let all = differing(rt.alloc(), false, GIVEN)?;
+// No text is answered otherwise than its row says.
+fn check(rt: &HostRuntime, alloc: Global, inside: bool, texts: &str) -> Result<(), Fail> {
+    let all = differing(alloc, inside, texts)?;
     assert_eq!(rt; all.as_str(), "");
     Ok(())
+}
+
+#[test]
+fn given_texts(rt: HostRuntime) -> Result<(), Fail> {
+    check(&rt, rt.alloc(), false, GIVEN)
 }
 
 #[test]
 fn given_function_texts(rt: HostRuntime) -> Result<(), Fail> {
-    let all = differing(rt.alloc(), true, GIVEN_INSIDE)?;
-    assert_eq!(rt; all.as_str(), "");
-    Ok(())
+    check(&rt, rt.alloc(), true, GIVEN_INSIDE)
 }
 
 #[test]
 fn simple_texts(rt: HostRuntime) -> Result<(), Fail> {
-    let all = differing(rt.alloc(), false, SIMPLE)?;
-    assert_eq!(rt; all.as_str(), "");
-    Ok(())
+    check(&rt, rt.alloc(), false, SIMPLE)
 }
 
 #[test]
 fn nested_texts(rt: HostRuntime) -> Result<(), Fail> {
-    let all = differing(rt.alloc(), false, NESTED)?;
-    assert_eq!(rt; all.as_str(), "");
-    Ok(())
+    check(&rt, rt.alloc(), false, NESTED)
 }
 
 #[test]
 fn lost_texts(rt: HostRuntime) -> Result<(), Fail> {
-    let all = differing(rt.alloc(), false, LOST)?;
-    assert_eq!(rt; all.as_str(), "");
-    Ok(())
+    check(&rt, rt.alloc(), false, LOST)
 }
 
 #[test]
 fn lost_inside_texts(rt: HostRuntime) -> Result<(), Fail> {
-    let all = differing(rt.alloc(), false, LOST_INSIDE)?;
-    assert_eq!(rt; all.as_str(), "");
-    Ok(())
+    check(&rt, rt.alloc(), false, LOST_INSIDE)
 }
 
 #[test]
 fn left_out_texts(rt: HostRuntime) -> Result<(), Fail> {
-    let all = differing(rt.alloc(), false, LEFT_OUT)?;
-    assert_eq!(rt; all.as_str(), "");
-    Ok(())
+    check(&rt, rt.alloc(), false, LEFT_OUT)
 }
 
 #[test]
 fn function_texts(rt: HostRuntime) -> Result<(), Fail> {
-    let all = differing(rt.alloc(), true, INSIDE)?;
-    assert_eq!(rt; all.as_str(), "");
-    Ok(())
+    check(&rt, rt.alloc(), true, INSIDE)
 }
 
 // As many times the first text, then the middle one, and as many times the last.
