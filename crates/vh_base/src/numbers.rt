@@ -6,8 +6,8 @@ use std::marker::{Model, PhantomData};
 /// number of one kind is none of another.
 #[derive(Clone, Copy, Debug, PartialEq, Eq, PartialOrd, Ord)]
 pub struct Id<N, K> {
-    number: N,
     kind: PhantomData<K>,
+    number: N,
 }
 
 impl<N, K> Model for Id<N, K> {
@@ -15,7 +15,7 @@ impl<N, K> Model for Id<N, K> {
 
     ghost view = { λ n. n.number };
 
-    ghost inverse = { λ n. record { number = n; kind = _ } };
+    ghost inverse = { λ n. record { kind = _; number = n } };
 }
 
 impl<N, K> Id<N, K> {
@@ -24,8 +24,8 @@ impl<N, K> Id<N, K> {
         ensures { result ≡ number }
     {
         Id {
-            number,
             kind: PhantomData,
+            number,
         }
     }
 }
