@@ -111,12 +111,8 @@ pub(crate) fn add_task<'a>(
         task_sites scope (task_tree task.now) (sites_seen sites.old)) }
 {
     let inside = sites.next;
-    add_named(
-        scope,
-        &task.id,
-        Declared::Code(CodeWord::Task, &task.body),
-        sites,
-    )?;
+    let code = Declared::Code(CodeWord::Task, &task.body);
+    add_named(scope, &task.id, code, sites)?;
     add_inner(
         inside,
         task.targs.as_slice(),
@@ -147,12 +143,8 @@ pub(crate) fn add_function<'a>(
         function_sites scope (function_tree function.now) (sites_seen sites.old)) }
 {
     let inside = sites.next;
-    add_named(
-        scope,
-        &function.id,
-        Declared::Code(CodeWord::Function, &function.body),
-        sites,
-    )?;
+    let code = Declared::Code(CodeWord::Function, &function.body);
+    add_named(scope, &function.id, code, sites)?;
     let var_type = result_type(&function.result_type);
     add_named(
         inside,
