@@ -21,29 +21,34 @@ use Rattle.vh_bind.specs.Scopes.{Scope, here}
 use Rattle.vh_bind.specs.Objects.{word_of, bit_select}
 use Rattle.vh_bind.specs.Constants.{bound, part_bound, name_read, whole_of}
 
--- One target more, where no part of it is passed over.
-abbrev pub with_selected : List Selected → Option Chosen → Option Select → Option (List Selected)
-with_selected ts None x = None
-with_selected ts (Some c) None = None
-with_selected ts (Some c) (Some x) = Some (ts ++ record { of = c; select = x } ∷ [])
+-- What is selected, where no part of it is passed over.
+abbrev pub selected_by : Option Chosen → Option Select → Option Selected
+selected_by None x = None
+selected_by (Some c) None = None
+selected_by (Some c) (Some x) = Some (record { of = c; select = x })
 
--- A variable, or digits of one, behind some targets. (5.2.1)
-abbrev pub vector_target : Scope → List Selected → Place → ℕ → Range → SelTree → Step (Option (List Selected))
-vector_target s ts place o r no_sel = pure (with_selected ts (whole_of o) (Some select.Whole))
-vector_target s ts place o r (index_sel bracket i) =
-    bound mode.Value s i >>= (λ a. pure (with_selected ts (whole_of o) (bit_select r a)))
-vector_target s ts place o r (both_sel bracket i last part) = refused N1 place
-vector_target s ts place o r (part_sel bracket part) =
-    part_bound s bracket r part >>= (λ x. pure (with_selected ts (whole_of o) x))
+-- A variable, or digits of one. (5.2.1)
+abbrev pub vector_selected : Scope → Place → ℕ → Range → SelTree → Step (Option Selected)
+vector_selected s place o r no_sel = pure (selected_by (whole_of o) (Some select.Whole))
+vector_selected s place o r (index_sel bracket i) =
+    bound mode.Value s i >>= (λ a. pure (selected_by (whole_of o) (bit_select r a)))
+vector_selected s place o r (both_sel bracket i last part) = refused N1 place
+vector_selected s place o r (part_sel bracket part) =
+    part_bound s bracket r part >>= (λ x. pure (selected_by (whole_of o) x))
 
 -- A word of a memory, or digits of one. (5.2.2)
-abbrev pub memory_target : Scope → List Selected → Place → ℕ → Range → SelTree → Step (Option (List Selected))
-memory_target s ts place o r no_sel = refused N1 place
-memory_target s ts place o r (index_sel bracket i) =
-    bound mode.Value s i >>= (λ a. pure (with_selected ts (word_of o a) (Some select.Whole)))
-memory_target s ts place o r (both_sel bracket i last part) =
-    bound mode.Value s i >>= (λ a. part_bound s last r part >>= (λ x. pure (with_selected ts (word_of o a) x)))
-memory_target s ts place o r (part_sel bracket part) = refused N1 place
+abbrev pub memory_selected : Scope → Place → ℕ → Range → SelTree → Step (Option Selected)
+memory_selected s place o r no_sel = refused N1 place
+memory_selected s place o r (index_sel bracket i) =
+    bound mode.Value s i >>= (λ a. pure (selected_by (word_of o a) (Some select.Whole)))
+memory_selected s place o r (both_sel bracket i last part) =
+    bound mode.Value s i >>= (λ a. part_bound s last r part >>= (λ x. pure (selected_by (word_of o a) x)))
+memory_selected s place o r (part_sel bracket part) = refused N1 place
+
+-- One target more, where it isn't passed over.
+abbrev pub with_target : List Selected → Option Selected → Option (List Selected)
+with_target ts None = None
+with_target ts (Some t) = Some (ts ++ t ∷ [])
 
 -- By what its name stands for: a net and a parameter can't take an assignment. (9.2)
 abbrev pub target_row : Scope → List Selected → Place → SelTree → Readable → Step (Option (List Selected))
@@ -52,8 +57,8 @@ target_row s ts place sel read.Unknown = pure None
 target_row s ts place sel (read.Genvar v) = refused N1 place
 target_row s ts place sel (read.Parameter o r v) = refused N5 place
 target_row s ts place sel (read.Vector o r) =
-    if has_kind is_variable s.objects o then vector_target s ts place o r sel else refused N5 place
-target_row s ts place sel (read.Memory o r) = memory_target s ts place o r sel
+    if has_kind is_variable s.objects o then (vector_selected s place o r sel >>= (λ t. pure (with_target ts t))) else refused N5 place
+target_row s ts place sel (read.Memory o r) = memory_selected s place o r sel >>= (λ t. pure (with_target ts t))
 
 -- A name with its select, behind some targets.
 abbrev pub name_piece : Scope → List Selected → NameTree → SelTree → Step (Option (List Selected))

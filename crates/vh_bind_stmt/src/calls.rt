@@ -106,7 +106,12 @@ fn selected_in(kind: &ExprKind) -> Option<Selected>
     }
 }
 
-fn add_one(targets: &mut Vec<Selected>, of: Chosen, select: Select) -> Result<(), NoMemory>
+// One target more.
+pub(crate) fn add_one(
+    targets: &mut Vec<Selected>,
+    of: Chosen,
+    select: Select,
+) -> Result<(), NoMemory>
     ensures { OnOk result
         (targets.new.items ≡ targets.old.items ++ record { of = of; select = select } ∷ []) }
 {
@@ -374,24 +379,13 @@ pub fn add_calls(
 }
 
 // The object whose value an expression itself reads, where it reads one.
+#[tactic(auto, using(crate::proofs::CallsLemmas::object_selected))]
 fn object_in(kind: &ExprKind) -> Option<ObjId>
     ensures { result ≡ object_in kind.now }
 {
-    match kind {
-        ExprKind::Selected(selected) => Some(selected.of.object),
-        ExprKind::Literal(_)
-        | ExprKind::Unary { .. }
-        | ExprKind::Arithmetic { .. }
-        | ExprKind::Shift { .. }
-        | ExprKind::Comparison { .. }
-        | ExprKind::Logic { .. }
-        | ExprKind::Choice { .. }
-        | ExprKind::Join { .. }
-        | ExprKind::Repeat { .. }
-        | ExprKind::Marked { .. }
-        | ExprKind::Time { .. }
-        | ExprKind::Call { .. }
-        | ExprKind::SysCall(_) => None,
+    match selected_in(kind) {
+        None => None,
+        Some(selected) => Some(selected.of.object),
     }
 }
 

@@ -11,10 +11,9 @@ ghost use Rattle.vh_bind_stmt.specs.Shows.{show_task, is_letter, wants_argument,
 use std::alloc::Global;
 use vh_ast::{Expr, ExprForm, Primary};
 use vh_base::{NoMemory, Sequence};
-use vh_bind::{ElabFault, Scope};
+use vh_bind::{ElabFault, Nodes, Scope};
 use vh_bind_expr::bind_expr;
 use vh_code::{ShowArg, ShowArgs, ShowTask};
-use vh_nodes::ExprNode;
 use vh_shared::SharedBytes;
 
 /// The display task of this name (IEEE 1364-2005, 17.1).
@@ -225,8 +224,14 @@ pub fn arguments_fit(arguments: &[Option<Expr>]) -> bool
     wanted == 0
 }
 
+// The arguments of a display call so far.
+type Shown = Vec<ShowArg>;
+
+// Whether what is added isn't passed over; or the first fault.
+type Adding = Result<bool, ElabFault>;
+
 // An argument more.
-fn add_argument(all: &mut Vec<ShowArg>, argument: ShowArg) -> Result<(), NoMemory>
+fn add_argument(all: &mut Shown, argument: ShowArg) -> Result<(), NoMemory>
     ensures { OnOk result (all.new.items ≡ with_show all.old.items argument) }
 {
     all.push(argument)?;
@@ -234,13 +239,7 @@ fn add_argument(all: &mut Vec<ShowArg>, argument: ShowArg) -> Result<(), NoMemor
 }
 
 // A value more; whether it isn't passed over.
-fn bind_value(
-    alloc: Global,
-    scope: &Scope,
-    nodes: &mut Vec<ExprNode>,
-    all: &mut Vec<ShowArg>,
-    e: &Expr,
-) -> Result<bool, ElabFault>
+fn bind_value(alloc: Global, scope: &Scope, nodes: &mut Nodes, all: &mut Shown, e: &Expr) -> Adding
     requires sound { IsSound mode.Value (scope_seen scope.now) nodes.old.items }
     requires unit { is_unit (scope_seen scope.now).precision (scope_seen scope.now).unit ≡ true }
     ensures step { StepsOn
@@ -259,10 +258,10 @@ fn bind_value(
 fn format_or_value(
     alloc: Global,
     scope: &Scope,
-    nodes: &mut Vec<ExprNode>,
-    all: &mut Vec<ShowArg>,
+    nodes: &mut Nodes,
+    all: &mut Shown,
     e: &Expr,
-) -> Result<bool, ElabFault>
+) -> Adding
     requires sound { IsSound mode.Value (scope_seen scope.now) nodes.old.items }
     requires unit { is_unit (scope_seen scope.now).precision (scope_seen scope.now).unit ≡ true }
     ensures step { StepsOn
@@ -285,11 +284,11 @@ fn format_or_value(
 fn bind_argument(
     alloc: Global,
     scope: &Scope,
-    nodes: &mut Vec<ExprNode>,
-    all: &mut Vec<ShowArg>,
+    nodes: &mut Nodes,
+    all: &mut Shown,
     wanted: usize,
     argument: &Option<Expr>,
-) -> Result<bool, ElabFault>
+) -> Adding
     requires sound { IsSound mode.Value (scope_seen scope.now) nodes.old.items }
     requires unit { is_unit (scope_seen scope.now).precision (scope_seen scope.now).unit ≡ true }
     ensures step { StepsOn
@@ -319,7 +318,7 @@ fn bind_argument(
 pub fn bind_arguments(
     alloc: Global,
     scope: &Scope,
-    nodes: &mut Vec<ExprNode>,
+    nodes: &mut Nodes,
     arguments: &[Option<Expr>],
 ) -> Result<Option<ShowArgs>, ElabFault>
     requires sound { IsSound mode.Value (scope_seen scope.now) nodes.old.items }

@@ -1,149 +1,94 @@
 ghost use Rattle.std.specs.Prelude.{◌≡◌, [], ◌∷◌, ◌++◌, true, map, OnOk};
 ghost use Rattle.vh_nodes.specs.Fits.{is_unit};
 ghost use Rattle.vh_code.specs.Targets.{targets_width};
-ghost use Rattle.vh_ast.specs.Views.{expr_tree, name_tree, part_by, sel_tree, lv_tree, lv_part_tree};
+ghost use Rattle.vh_ast.specs.Views.{expr_tree, name_tree, sel_tree, lv_tree, lv_part_tree};
 ghost use Rattle.vh_bind.specs.declared.scope.Mode.TheVariants as mode;
 ghost use Rattle.vh_bind.specs.Steps.{Steps, StepsOn, Gives};
 ghost use Rattle.vh_bind.specs.Nodes.{IsSound};
-ghost use Rattle.vh_bind.specs.Constants.{part_bound};
 ghost use Rattle.vh_bind.specs.Views.{scope_seen};
-ghost use Rattle.vh_bind_stmt.specs.Targets.{with_selected, vector_target, memory_target, name_piece, piece_bound, pieces_bound, in_width, targets_bound, output_pieces, outputs_pieces, output_bound};
+ghost use Rattle.vh_bind_stmt.specs.Targets.{selected_by, with_target, vector_selected, memory_selected, name_piece, piece_bound, pieces_bound, in_width, targets_bound, output_pieces, outputs_pieces, output_bound};
 ghost use Rattle.vh_ast.specs.Expressions.{exprs};
 ghost use Rattle.vh_bind_stmt.specs.Views.{AddsTo};
 
+use crate::calls::add_one;
 use sqlite_items::Boxed;
 use std::alloc::Global;
-use vh_ast::{Esel, Expr, ExprForm, Lv, LvPart, Name, Part, Primary, Sel};
+use vh_ast::{Expr, ExprForm, Lv, LvPart, Name, Primary, Sel};
 use vh_base::{DesignFault, ExprId, NoMemory, ObjId, Place, Sequence};
-use vh_bind::{ElabFault, Readable, Scope};
-use vh_bind_expr::{
-    bind_expr, bit_select, indexed_select, name_read, range_at, whole_of, width_at, word_of,
-};
+use vh_bind::{ElabFault, Nodes, Readable, Scope};
+use vh_bind_expr::{bind_expr, bind_part, bit_select, name_read, whole_of, word_of};
 use vh_code::Targets;
 use vh_nodes::{
-    Chosen, ExprNode, ObjectInfo, Range, Select, Selected, is_variable_at, is_width,
-    selected_width, side_by_side,
+    Chosen, ObjectInfo, Range, Select, Selected, is_variable_at, is_width, selected_width,
+    side_by_side,
 };
 
-// One target more, where no part of it is passed over; whether that is so.
-fn with_selected(
-    targets: &mut Vec<Selected>,
-    of: Option<Chosen>,
-    select: Option<Select>,
-) -> Result<bool, NoMemory>
-    ensures { AddsTo (with_selected targets.old.items of select) result targets.new.items }
+// What may stand behind a name.
+type Brackets = Option<Boxed<Sel<Expr>>>;
+
+// Where a name stands, and the object that it stands for, with its range.
+type Found = (Place, ObjId, Range);
+
+// What is selected; none where something that it needs is passed over; or the first fault.
+type Choosing = Result<Option<Selected>, ElabFault>;
+
+// What is selected, where no part of it is passed over.
+fn selected_by(of: Option<Chosen>, select: Option<Select>) -> Option<Selected>
+    ensures { result ≡ selected_by of select }
 {
-    let Some(of) = of else {
+    let of = of?;
+    let select = select?;
+    Some(Selected { of, select })
+}
+
+// One target more, where it isn't passed over; whether that is so.
+fn with_target(targets: &mut Vec<Selected>, target: Option<Selected>) -> Result<bool, NoMemory>
+    ensures { AddsTo (with_target targets.old.items target) result targets.new.items }
+{
+    let Some(target) = target else {
         return Ok(false);
     };
-    let Some(select) = select else {
-        return Ok(false);
-    };
-    targets.push(Selected { of, select })?;
+    add_one(targets, target.of, target.select)?;
     Ok(true)
 }
 
-// Which digits the last bracket of a select names.
-fn bind_part(
-    alloc: Global,
-    scope: &Scope,
-    nodes: &mut Vec<ExprNode>,
-    range: Range,
-    last: &Esel<Expr>,
-) -> Result<Option<Select>, ElabFault>
+// A variable, or digits of one.
+fn in_vector(alloc: Global, scope: &Scope, nodes: &mut Nodes, of: Found, sel: &Brackets) -> Choosing
     requires sound { IsSound mode.Value (scope_seen scope.now) nodes.old.items }
     requires unit { is_unit (scope_seen scope.now).precision (scope_seen scope.now).unit ≡ true }
     ensures step { Steps
-        (part_bound (scope_seen scope.now) last.now.place range
-        (part_by expr_tree last.now.part) nodes.old.items)
+        (vector_selected (scope_seen scope.now) of.0 of.1 of.2 (sel_tree sel.now) nodes.old.items)
         result nodes.new.items }
     ensures sound { OnOk result (IsSound mode.Value (scope_seen scope.now) nodes.new.items) }
 {
-    let bracket = last.place;
-    match &last.part {
-        Part::Index(index) => {
-            let index = bind_expr(alloc, nodes, scope, index.get())?;
-            Ok(bit_select(range, index))
-        }
-        Part::Range(left, right) => {
-            range_at(
-                alloc,
-                scope,
-                scope.exprs,
-                bracket,
-                range,
-                left.get(),
-                right.get(),
-            )
-        }
-        Part::Up(base, width) => {
-            let base = bind_expr(alloc, nodes, scope, base.get())?;
-            let width = width_at(alloc, scope, scope.exprs, bracket, width.get())?;
-            Ok(indexed_select(true, range, base, width))
-        }
-        Part::Down(base, width) => {
-            let base = bind_expr(alloc, nodes, scope, base.get())?;
-            let width = width_at(alloc, scope, scope.exprs, bracket, width.get())?;
-            Ok(indexed_select(false, range, base, width))
-        }
-    }
-}
-
-// A variable, or digits of one.
-fn vector_target(
-    alloc: Global,
-    scope: &Scope,
-    nodes: &mut Vec<ExprNode>,
-    targets: &mut Vec<Selected>,
-    place: Place,
-    object: ObjId,
-    range: Range,
-    sel: &Option<Boxed<Sel<Expr>>>,
-) -> Result<bool, ElabFault>
-    requires sound { IsSound mode.Value (scope_seen scope.now) nodes.old.items }
-    requires unit { is_unit (scope_seen scope.now).precision (scope_seen scope.now).unit ≡ true }
-    ensures step { StepsOn
-        (vector_target (scope_seen scope.now) targets.old.items place object range
-        (sel_tree sel.now) nodes.old.items)
-        result targets.new.items nodes.new.items }
-    ensures sound { OnOk result (IsSound mode.Value (scope_seen scope.now) nodes.new.items) }
-{
+    let (place, object, range) = of;
     let of = whole_of(object);
     let Some(sel) = sel else {
-        return Ok(with_selected(targets, of, Some(Select::Whole))?);
+        return Ok(selected_by(of, Some(Select::Whole)));
     };
     match sel.get() {
         Sel::Index(_, index) => {
             let index: Option<ExprId> = bind_expr(alloc, nodes, scope, index.get())?;
-            Ok(with_selected(targets, of, bit_select(range, index))?)
+            Ok(selected_by(of, bit_select(range, index)))
         }
         Sel::Both { .. } => Err(ElabFault::Refused(DesignFault::N1, place)),
         Sel::Part(last) => {
             let select = bind_part(alloc, scope, nodes, range, last)?;
-            Ok(with_selected(targets, of, select)?)
+            Ok(selected_by(of, select))
         }
     }
 }
 
 // A word of a memory, or digits of one.
-fn memory_target(
-    alloc: Global,
-    scope: &Scope,
-    nodes: &mut Vec<ExprNode>,
-    targets: &mut Vec<Selected>,
-    place: Place,
-    object: ObjId,
-    range: Range,
-    sel: &Option<Boxed<Sel<Expr>>>,
-) -> Result<bool, ElabFault>
+fn in_memory(alloc: Global, scope: &Scope, nodes: &mut Nodes, of: Found, sel: &Brackets) -> Choosing
     requires sound { IsSound mode.Value (scope_seen scope.now) nodes.old.items }
     requires unit { is_unit (scope_seen scope.now).precision (scope_seen scope.now).unit ≡ true }
-    ensures step { StepsOn
-        (memory_target (scope_seen scope.now) targets.old.items place object range
-        (sel_tree sel.now) nodes.old.items)
-        result targets.new.items nodes.new.items }
+    ensures step { Steps
+        (memory_selected (scope_seen scope.now) of.0 of.1 of.2 (sel_tree sel.now) nodes.old.items)
+        result nodes.new.items }
     ensures sound { OnOk result (IsSound mode.Value (scope_seen scope.now) nodes.new.items) }
 {
+    let (place, object, range) = of;
     let Some(sel) = sel else {
         return Err(ElabFault::Refused(DesignFault::N1, place));
     };
@@ -151,12 +96,12 @@ fn memory_target(
         Sel::Part(_) => Err(ElabFault::Refused(DesignFault::N1, place)),
         Sel::Index(_, index) => {
             let index = bind_expr(alloc, nodes, scope, index.get())?;
-            Ok(with_selected(targets, word_of(object, index), Some(Select::Whole))?)
+            Ok(selected_by(word_of(object, index), Some(Select::Whole)))
         }
         Sel::Both { index, last, .. } => {
             let index = bind_expr(alloc, nodes, scope, index.get())?;
             let select = bind_part(alloc, scope, nodes, range, last)?;
-            Ok(with_selected(targets, word_of(object, index), select)?)
+            Ok(selected_by(word_of(object, index), select))
         }
     }
 }
@@ -165,10 +110,10 @@ fn memory_target(
 fn bind_name(
     alloc: Global,
     scope: &Scope,
-    nodes: &mut Vec<ExprNode>,
+    nodes: &mut Nodes,
     targets: &mut Vec<Selected>,
     name: &Name<Expr>,
-    sel: &Option<Boxed<Sel<Expr>>>,
+    sel: &Brackets,
 ) -> Result<bool, ElabFault>
     requires sound { IsSound mode.Value (scope_seen scope.now) nodes.old.items }
     requires unit { is_unit (scope_seen scope.now).precision (scope_seen scope.now).unit ≡ true }
@@ -187,10 +132,12 @@ fn bind_name(
             if !is_variable_at(scope.objects, object) {
                 return Err(ElabFault::Refused(DesignFault::N5, place));
             }
-            vector_target(alloc, scope, nodes, targets, place, object, range, sel)
+            let target = in_vector(alloc, scope, nodes, (place, object, range), sel)?;
+            Ok(with_target(targets, target)?)
         }
         Readable::Memory(object, range) => {
-            memory_target(alloc, scope, nodes, targets, place, object, range, sel)
+            let target = in_memory(alloc, scope, nodes, (place, object, range), sel)?;
+            Ok(with_target(targets, target)?)
         }
     }
 }
@@ -199,7 +146,7 @@ fn bind_name(
 fn bind_piece(
     alloc: Global,
     scope: &Scope,
-    nodes: &mut Vec<ExprNode>,
+    nodes: &mut Nodes,
     targets: &mut Vec<Selected>,
     piece: &LvPart,
 ) -> Result<bool, ElabFault>
@@ -221,7 +168,7 @@ fn bind_piece(
 fn bind_pieces(
     alloc: Global,
     scope: &Scope,
-    nodes: &mut Vec<ExprNode>,
+    nodes: &mut Nodes,
     pieces: &[LvPart],
 ) -> Result<Option<Targets>, ElabFault>
     requires sound { IsSound mode.Value (scope_seen scope.now) nodes.old.items }
@@ -273,7 +220,7 @@ fn in_width(
 pub fn bind_targets(
     alloc: Global,
     scope: &Scope,
-    nodes: &mut Vec<ExprNode>,
+    nodes: &mut Nodes,
     lv: &Lv,
 ) -> Result<Option<Targets>, ElabFault>
     requires sound { IsSound mode.Value (scope_seen scope.now) nodes.old.items }
@@ -293,7 +240,7 @@ pub fn bind_targets(
 fn output_pieces(
     alloc: Global,
     scope: &Scope,
-    nodes: &mut Vec<ExprNode>,
+    nodes: &mut Nodes,
     targets: &mut Vec<Selected>,
     e: &Expr,
 ) -> Result<bool, ElabFault>
@@ -328,7 +275,7 @@ fn output_pieces(
 fn outputs_pieces(
     alloc: Global,
     scope: &Scope,
-    nodes: &mut Vec<ExprNode>,
+    nodes: &mut Nodes,
     targets: &mut Vec<Selected>,
     parts: &[Expr],
 ) -> Result<bool, ElabFault>
@@ -352,7 +299,7 @@ fn outputs_pieces(
 pub fn bind_output(
     alloc: Global,
     scope: &Scope,
-    nodes: &mut Vec<ExprNode>,
+    nodes: &mut Nodes,
     e: &Expr,
 ) -> Result<Option<Targets>, ElabFault>
     requires sound { IsSound mode.Value (scope_seen scope.now) nodes.old.items }
