@@ -1,11 +1,11 @@
-ghost use Rattle.std.specs.Prelude.{◌≡◌, ◌≤◌, ◌∷◌, ◌++◌, ◌^◌, ◌<ℤ◌, neg_ℤ, pos, true, false, [], Some, map, is_some, not, IfOk, IfSome, OnOk};
+ghost use Rattle.std.specs.Prelude.{◌≡◌, ◌≤◌, ◌∷◌, ◌++◌, ◌^◌, ◌<ℤ◌, neg_ℤ, pos, true, false, [], Some, map, is_some, IfOk, IfSome, OnOk};
 ghost use Rattle.vh_base.specs.declared.faults.DesignFault.TheVariants.{N6};
 ghost use Rattle.vh_logic.specs.Number.{integer_of};
 ghost use Rattle.vh_eval.specs.Selects.{place_of, lowest_index};
 ghost use Rattle.vh_ast.specs.Views.{ev_tree, expr_tree, name_tree, part_by, sel_tree};
 ghost use Rattle.vh_bind.specs.Steps.{Gives};
 ghost use Rattle.vh_bind.specs.Views.{scope_seen};
-ghost use Rattle.vh_bind_stmt.specs.Events.{edge_of, digits_term, below_term, select_term, index_term, indexed_term, slice_term, by_index, by_base, part_terms, sel_terms, never, width_at, read_terms, event_terms, event_at, event_of, or_event, name_terms, expr_terms, all_terms};
+ghost use Rattle.vh_bind_stmt.specs.Events.{edge_of, digits_term, below_term, select_term, index_term, indexed_term, slice_term, by_index, by_base, part_terms, sel_terms, never, width_at, read_terms, event_terms, event_at, event_of, name_terms, expr_terms, all_terms};
 
 use crate::meant::object_of;
 use sqlite_items::Boxed;
@@ -15,7 +15,7 @@ use vh_base::{DesignFault, NoMemory, ObjId, Place, Sequence};
 use vh_bind::{ElabFault, Readable, Scope, constant, meaning, number_in, part_select};
 use vh_bind_expr::name_read;
 use vh_code::{Edge, Term, Terms};
-use vh_eval::integer;
+use vh_eval::{integer, lowest_index, place_of};
 use vh_logic::{MAX_WIDTH, Vec4};
 use vh_nodes::{Range, Select, is_event_at};
 use vh_scope::Meaning;
@@ -96,39 +96,6 @@ fn select_term(alloc: Global, of: Watched, count: u32, low: i128) -> Result<Term
         return digits_term(alloc, of, 0, 0);
     }
     digits_term(alloc, of, low as u32, (last - low) as u32)
-}
-
-// The place of an index.
-fn place_of(range: Range, index: i128) -> i128
-    requires below { index <ℤ pos (2 ^ 65) }
-    requires above { neg_ℤ (pos (2 ^ 65)) <ℤ index }
-    ensures value { result ≡ place_of range index }
-    ensures below { result <ℤ pos (2 ^ 66) }
-    ensures above { neg_ℤ (pos (2 ^ 66)) <ℤ result }
-{
-    let right = i128::from(range.right);
-    if range.left >= range.right {
-        index - right
-    } else {
-        right - index
-    }
-}
-
-// The index of the lowest digit of so many.
-fn lowest_index(range: Range, up: bool, index: i128, width: u32) -> i128
-    requires least { 1 ≤ width }
-    requires below { index <ℤ pos (2 ^ 64) }
-    requires above { neg_ℤ (pos (2 ^ 64)) <ℤ index }
-    ensures value { result ≡ lowest_index range up index width }
-    ensures below { result <ℤ pos (2 ^ 65) }
-    ensures above { neg_ℤ (pos (2 ^ 65)) <ℤ result }
-{
-    let further = i128::from(width - 1);
-    match (range.left >= range.right, up) {
-        (true, true) | (false, false) => index,
-        (true, false) => index - further,
-        (false, true) => index + further,
-    }
 }
 
 // By an index: one that isn't known names no digit.
