@@ -3,6 +3,7 @@ ghost use Rattle.vh_ast.specs.Items as tree;
 ghost use Rattle.vh_ast.specs.Views.{assigned_tree, decl_tree, gate_tree, gblock_tree, gelse_tree, init_tree, inst_tree, item_tree, net_tree, par_tree, plain_tree, var_tree};
 ghost use Rattle.vh_ports.specs.Views.{directed_seen, ids_seen};
 ghost use Rattle.vh_instances.specs.Instances;
+ghost use Rattle.vh_instances.specs.Views.{AddsIds};
 
 use sqlite_items::Boxed;
 use std::alloc::Global;
@@ -11,14 +12,14 @@ use vh_base::NoMemory;
 use vh_ports::Directed;
 
 fn see<'a>(id: &'a Id, ids: &mut Vec<&'a Id>) -> Result<(), NoMemory>
-    ensures { OnOk result (ids_seen ids.new.items ≡ ids_seen ids.old.items ++ id.now ∷ []) }
+    ensures { OnOk result (AddsIds (id.now ∷ []) ids.old ids.new) }
 {
     ids.push(id)?;
     Ok(())
 }
 
 fn see_ids<'a>(all: &'a [Id], ids: &mut Vec<&'a Id>) -> Result<(), NoMemory>
-    ensures { OnOk result (ids_seen ids.new.items ≡ ids_seen ids.old.items ++ all.now) }
+    ensures { OnOk result (AddsIds all.now ids.old ids.new) }
 {
     for id in all {
         see(id, ids)?;
@@ -27,8 +28,7 @@ fn see_ids<'a>(all: &'a [Id], ids: &mut Vec<&'a Id>) -> Result<(), NoMemory>
 }
 
 fn see_vars<'a>(vars: &'a [Var], ids: &mut Vec<&'a Id>) -> Result<(), NoMemory>
-    ensures { OnOk result (ids_seen ids.new.items
-        ≡ ids_seen ids.old.items ++ map (λ v. v.id) (map var_tree vars.now)) }
+    ensures { OnOk result (AddsIds (map (λ v. v.id) (map var_tree vars.now)) ids.old ids.new) }
 {
     for var in vars {
         see(&var.id, ids)?;
@@ -37,8 +37,7 @@ fn see_vars<'a>(vars: &'a [Var], ids: &mut Vec<&'a Id>) -> Result<(), NoMemory>
 }
 
 fn see_inits<'a>(inits: &'a [Init], ids: &mut Vec<&'a Id>) -> Result<(), NoMemory>
-    ensures { OnOk result (ids_seen ids.new.items
-        ≡ ids_seen ids.old.items ++ map (λ i. i.id) (map init_tree inits.now)) }
+    ensures { OnOk result (AddsIds (map (λ i. i.id) (map init_tree inits.now)) ids.old ids.new) }
 {
     for init in inits {
         see(&init.id, ids)?;
@@ -47,8 +46,7 @@ fn see_inits<'a>(inits: &'a [Init], ids: &mut Vec<&'a Id>) -> Result<(), NoMemor
 }
 
 fn see_decl<'a>(decl: &'a Decl, ids: &mut Vec<&'a Id>) -> Result<(), NoMemory>
-    ensures { OnOk result (ids_seen ids.new.items
-        ≡ ids_seen ids.old.items ++ Instances.decl_ids (decl_tree decl.now)) }
+    ensures { OnOk result (AddsIds (Instances.decl_ids (decl_tree decl.now)) ids.old ids.new) }
 {
     match decl {
         Decl::Reg { vars, .. } => see_vars(vars.as_slice(), ids),
@@ -57,8 +55,7 @@ fn see_decl<'a>(decl: &'a Decl, ids: &mut Vec<&'a Id>) -> Result<(), NoMemory>
 }
 
 fn see_nets<'a>(nets: &'a [Net], ids: &mut Vec<&'a Id>) -> Result<(), NoMemory>
-    ensures { OnOk result (ids_seen ids.new.items
-        ≡ ids_seen ids.old.items ++ map (λ n. n.id) (map net_tree nets.now)) }
+    ensures { OnOk result (AddsIds (map (λ n. n.id) (map net_tree nets.now)) ids.old ids.new) }
 {
     for net in nets {
         see(&net.id, ids)?;
@@ -67,8 +64,7 @@ fn see_nets<'a>(nets: &'a [Net], ids: &mut Vec<&'a Id>) -> Result<(), NoMemory>
 }
 
 fn see_constants<'a>(all: &'a [Assigned], ids: &mut Vec<&'a Id>) -> Result<(), NoMemory>
-    ensures { OnOk result (ids_seen ids.new.items
-        ≡ ids_seen ids.old.items ++ map (λ a. a.id) (map assigned_tree all.now)) }
+    ensures { OnOk result (AddsIds (map (λ a. a.id) (map assigned_tree all.now)) ids.old ids.new) }
 {
     for assigned in all {
         see(&assigned.id, ids)?;
@@ -77,8 +73,7 @@ fn see_constants<'a>(all: &'a [Assigned], ids: &mut Vec<&'a Id>) -> Result<(), N
 }
 
 fn see_written<'a>(id: &'a Option<Id>, ids: &mut Vec<&'a Id>) -> Result<(), NoMemory>
-    ensures { OnOk result (ids_seen ids.new.items
-        ≡ ids_seen ids.old.items ++ Instances.written_id id.now) }
+    ensures { OnOk result (AddsIds (Instances.written_id id.now) ids.old ids.new) }
 {
     match id {
         None => Ok(()),
@@ -87,8 +82,7 @@ fn see_written<'a>(id: &'a Option<Id>, ids: &mut Vec<&'a Id>) -> Result<(), NoMe
 }
 
 fn see_gates<'a>(gates: &'a [Gate], ids: &mut Vec<&'a Id>) -> Result<(), NoMemory>
-    ensures { OnOk result (ids_seen ids.new.items
-        ≡ ids_seen ids.old.items ++ Instances.gate_ids (map gate_tree gates.now)) }
+    ensures { OnOk result (AddsIds (Instances.gate_ids (map gate_tree gates.now)) ids.old ids.new) }
 {
     for gate in gates {
         see_written(&gate.id, ids)?;
@@ -97,8 +91,7 @@ fn see_gates<'a>(gates: &'a [Gate], ids: &mut Vec<&'a Id>) -> Result<(), NoMemor
 }
 
 fn see_insts<'a>(insts: &'a [Inst], ids: &mut Vec<&'a Id>) -> Result<(), NoMemory>
-    ensures { OnOk result (ids_seen ids.new.items
-        ≡ ids_seen ids.old.items ++ map (λ i. i.id) (map inst_tree insts.now)) }
+    ensures { OnOk result (AddsIds (map (λ i. i.id) (map inst_tree insts.now)) ids.old ids.new) }
 {
     for inst in insts {
         see(&inst.id, ids)?;
@@ -108,8 +101,7 @@ fn see_insts<'a>(insts: &'a [Inst], ids: &mut Vec<&'a Id>) -> Result<(), NoMemor
 
 // The names that an item declares.
 fn see_plain<'a>(plain: &'a Plain, ids: &mut Vec<&'a Id>) -> Result<(), NoMemory>
-    ensures { OnOk result (ids_seen ids.new.items
-        ≡ ids_seen ids.old.items ++ Instances.plain_ids (plain_tree plain.now)) }
+    ensures { OnOk result (AddsIds (Instances.plain_ids (plain_tree plain.now)) ids.old ids.new) }
 {
     match plain {
         Plain::Port { ids: all, .. } => see_ids(all.as_slice(), ids),
@@ -127,8 +119,7 @@ fn see_plain<'a>(plain: &'a Plain, ids: &mut Vec<&'a Id>) -> Result<(), NoMemory
 
 // The name that is written of a generate block counts, taken or not.
 fn see_block<'a>(block: &'a Gblock<Item>, ids: &mut Vec<&'a Id>) -> Result<(), NoMemory>
-    ensures { OnOk result (ids_seen ids.new.items
-        ≡ ids_seen ids.old.items ++ Instances.gblock_ids (gblock_tree block.now)) }
+    ensures { OnOk result (AddsIds (Instances.gblock_ids (gblock_tree block.now)) ids.old ids.new) }
 {
     match block {
         Gblock::Block { id, .. } => see_written(id, ids),
@@ -140,8 +131,7 @@ fn see_else<'a>(
     block: &'a Option<Boxed<Gblock<Item>>>,
     ids: &mut Vec<&'a Id>,
 ) -> Result<(), NoMemory>
-    ensures { OnOk result (ids_seen ids.new.items
-        ≡ ids_seen ids.old.items ++ Instances.else_ids (gelse_tree block.now)) }
+    ensures { OnOk result (AddsIds (Instances.else_ids (gelse_tree block.now)) ids.old ids.new) }
 {
     match block {
         None => Ok(()),
@@ -150,8 +140,7 @@ fn see_else<'a>(
 }
 
 fn see_item<'a>(item: &'a Item, ids: &mut Vec<&'a Id>) -> Result<(), NoMemory>
-    ensures { OnOk result (ids_seen ids.new.items
-        ≡ ids_seen ids.old.items ++ Instances.item_ids (item_tree item.now)) }
+    ensures { OnOk result (AddsIds (Instances.item_ids (item_tree item.now)) ids.old ids.new) }
 {
     match &item.form {
         ItemForm::Plain(plain) => see_plain(plain, ids),
@@ -166,8 +155,8 @@ fn see_item<'a>(item: &'a Item, ids: &mut Vec<&'a Id>) -> Result<(), NoMemory>
 
 /// The names that items declare in their scope, behind some others.
 pub(crate) fn see_items<'a>(items: &'a [Item], ids: &mut Vec<&'a Id>) -> Result<(), NoMemory>
-    ensures { OnOk result (ids_seen ids.new.items
-        ≡ ids_seen ids.old.items ++ Instances.items_ids (tree.items (map item_tree items.now))) }
+    ensures { let all = Instances.items_ids (tree.items (map item_tree items.now)) in
+        OnOk result (AddsIds all ids.old ids.new) }
 {
     for item in items {
         see_item(item, ids)?;
@@ -176,8 +165,7 @@ pub(crate) fn see_items<'a>(items: &'a [Item], ids: &mut Vec<&'a Id>) -> Result<
 }
 
 fn see_pars<'a>(pars: &'a [Par], ids: &mut Vec<&'a Id>) -> Result<(), NoMemory>
-    ensures { OnOk result (ids_seen ids.new.items
-        ≡ ids_seen ids.old.items ++ map (λ p. p.id) (map par_tree pars.now)) }
+    ensures { OnOk result (AddsIds (map (λ p. p.id) (map par_tree pars.now)) ids.old ids.new) }
 {
     for par in pars {
         see(&par.id, ids)?;
@@ -186,8 +174,7 @@ fn see_pars<'a>(pars: &'a [Par], ids: &mut Vec<&'a Id>) -> Result<(), NoMemory>
 }
 
 fn see_directed<'a>(all: &[Directed<'a>], ids: &mut Vec<&'a Id>) -> Result<(), NoMemory>
-    ensures { OnOk result (ids_seen ids.new.items
-        ≡ ids_seen ids.old.items ++ map (λ d. d.id) (map directed_seen all.now)) }
+    ensures { OnOk result (AddsIds (map (λ d. d.id) (map directed_seen all.now)) ids.old ids.new) }
 {
     for directed in all {
         see(directed.id, ids)?;
