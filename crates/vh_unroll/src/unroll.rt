@@ -652,24 +652,31 @@ fn begin_loop(
     Ok(first_turn(own, is_right, value))
 }
 
+// The head of a `for`, and where that stands.
+#[derive(Clone, Copy)]
+struct ForHead<'b> {
+    place: Place,
+    start: &'b Assigned,
+    test: &'b Expr,
+    step: &'b Assigned,
+}
+
 // The turns of a loop that begins, if it does.
 #[cycle(unroll)]
 fn begin_turns<'a>(
     alloc: Global,
     instance: Instance<'a, '_>,
     scope: u32,
-    place: Place,
+    head: ForHead<'_>,
     body: &'a Gblock<Item>,
-    id: &Id,
-    test: &Expr,
-    step: &Expr,
     word: BlockText<'a>,
     first: &Option<FirstTurn>,
     state: &mut Unrolling<'a>,
 ) -> Result<(), NoMemory>
     ensures { OnOk result (unrolling_seen state.new
-        ≡ Constructs.with_turns (home_of instance.entry) scope place id.now
-        (expr_tree test.now) (expr_tree step.now) (block_place (gblock_tree body.now))
+        ≡ Constructs.with_turns (home_of instance.entry) scope head.entry.place
+        head.entry.start.now.id (expr_tree head.entry.test.now)
+        (expr_tree head.entry.step.now.value) (block_place (gblock_tree body.now))
         (Constructs.turn_unrolled (home_of instance.entry) (tree_of instance.entry) scope
         (block_text_seen word.entry) (gblock_tree body.now))
         (first.now, unrolling_seen state.old)) }
@@ -679,7 +686,7 @@ fn begin_turns<'a>(
     };
     let looping = Looping {
         scope,
-        place,
+        place: head.place,
         declaring: first.declaring,
         block_place: block_place(body),
     };
@@ -688,47 +695,11 @@ fn begin_turns<'a>(
         instance,
         &looping,
         body,
-        id,
-        test,
-        step,
+        &head.start.id,
+        head.test,
+        &head.step.value,
         word,
         &first.value,
-        state,
-    )
-}
-
-// A loop, behind its name.
-#[cycle(unroll)]
-fn unroll_named<'a>(
-    alloc: Global,
-    instance: Instance<'a, '_>,
-    scope: u32,
-    place: Place,
-    body: &'a Gblock<Item>,
-    start: &Assigned,
-    test: &Expr,
-    step: &Assigned,
-    word: BlockText<'a>,
-    state: &mut Unrolling<'a>,
-) -> Result<(), NoMemory>
-    ensures { OnOk result (unrolling_seen state.new
-        ≡ Constructs.looped (home_of instance.entry) scope place (assigned_tree start.now)
-        (expr_tree test.now) (assigned_tree step.now) (block_place (gblock_tree body.now))
-        (Constructs.turn_unrolled (home_of instance.entry) (tree_of instance.entry) scope
-        (block_text_seen word.entry) (gblock_tree body.now)) (unrolling_seen state.old)) }
-{
-    let first = begin_loop(alloc, instance, scope, start, step, state)?;
-    begin_turns(
-        alloc,
-        instance,
-        scope,
-        place,
-        body,
-        &start.id,
-        test,
-        &step.value,
-        word,
-        &first,
         state,
     )
 }
@@ -739,25 +710,22 @@ fn unroll_loop<'a>(
     alloc: Global,
     instance: Instance<'a, '_>,
     scope: u32,
-    place: Place,
+    head: ForHead<'_>,
     body: &'a Gblock<Item>,
-    start: &Assigned,
-    test: &Expr,
-    step: &Assigned,
     word: BlockText<'a>,
     state: &mut Unrolling<'a>,
 ) -> Result<(), NoMemory>
     ensures { OnOk result (unrolling_seen state.new
         ≡ Constructs.loop_unrolled (Constructs.turn_unrolled (home_of instance.entry)
         (tree_of instance.entry) scope (block_text_seen word.entry) (gblock_tree body.now))
-        (home_of instance.entry) scope place (assigned_tree start.now)
-        (expr_tree test.now) (assigned_tree step.now) (block_place (gblock_tree body.now))
-        (block_text_seen word.entry) (unrolling_seen state.old)) }
+        (home_of instance.entry) scope head.entry.place (assigned_tree head.entry.start.now)
+        (expr_tree head.entry.test.now) (assigned_tree head.entry.step.now)
+        (block_place (gblock_tree body.now)) (block_text_seen word.entry)
+        (unrolling_seen state.old)) }
 {
     add_choice(Choice::Loop(word), state)?;
-    unroll_named(
-        alloc, instance, scope, place, body, start, test, step, word, state,
-    )?;
+    let first = begin_loop(alloc, instance, scope, head.start, head.step, state)?;
+    begin_turns(alloc, instance, scope, head, body, word, &first, state)?;
     add_choice(Choice::End, state)
 }
 
@@ -767,24 +735,20 @@ fn unroll_for<'a>(
     alloc: Global,
     instance: Instance<'a, '_>,
     scope: u32,
-    place: Place,
+    head: ForHead<'_>,
     body: &'a Gblock<Item>,
-    start: &Assigned,
-    test: &Expr,
-    step: &Assigned,
     counted: BlockText<'a>,
     state: &mut Unrolling<'a>,
 ) -> Result<(), NoMemory>
     ensures { OnOk result (unrolling_seen state.new
-        ≡ Constructs.form_unrolled (home_of instance.entry) (tree_of instance.entry) scope place
-        (block_text_seen counted.entry) (Items.for_item (assigned_tree start.now)
-        (expr_tree test.now) (assigned_tree step.now) (gblock_tree body.now))
+        ≡ Constructs.form_unrolled (home_of instance.entry) (tree_of instance.entry) scope
+        head.entry.place (block_text_seen counted.entry)
+        (Items.for_item (assigned_tree head.entry.start.now) (expr_tree head.entry.test.now)
+        (assigned_tree head.entry.step.now) (gblock_tree body.now))
         (unrolling_seen state.old)) }
 {
     let word = block_word(body, counted);
-    unroll_loop(
-        alloc, instance, scope, place, body, start, test, step, word, state,
-    )
+    unroll_loop(alloc, instance, scope, head, body, word, state)
 }
 
 // What stands behind `else`.
@@ -835,50 +799,6 @@ fn test_if<'a>(
     Ok(Branch::Holds)
 }
 
-// The first branch of an `if`, where it is taken.
-#[cycle(unroll)]
-fn unroll_first<'a>(
-    alloc: Global,
-    instance: Instance<'a, '_>,
-    scope: u32,
-    counted: BlockText<'a>,
-    holds: &'a Gblock<Item>,
-    taken: Branch,
-    state: &mut Unrolling<'a>,
-) -> Result<(), NoMemory>
-    ensures { OnOk result (unrolling_seen state.new
-        ≡ Constructs.by_first (λ u. Constructs.branch_unrolled (home_of instance.entry)
-        (tree_of instance.entry) scope (block_text_seen counted.entry)
-        (gblock_tree holds.now) u) taken (unrolling_seen state.old)) }
-{
-    match taken {
-        Branch::Holds => unroll_branch(alloc, instance, scope, holds, counted, state),
-        Branch::Fails | Branch::Neither => Ok(()),
-    }
-}
-
-// The other branch.
-#[cycle(unroll)]
-fn unroll_other<'a>(
-    alloc: Global,
-    instance: Instance<'a, '_>,
-    scope: u32,
-    counted: BlockText<'a>,
-    fails: &'a Option<Boxed<Gblock<Item>>>,
-    taken: Branch,
-    state: &mut Unrolling<'a>,
-) -> Result<(), NoMemory>
-    ensures { OnOk result (unrolling_seen state.new
-        ≡ Constructs.by_other (λ u. Constructs.else_unrolled (home_of instance.entry)
-        (tree_of instance.entry) scope (block_text_seen counted.entry)
-        (gelse_tree fails.now) u) taken (unrolling_seen state.old)) }
-{
-    match taken {
-        Branch::Fails => unroll_else(alloc, instance, scope, counted, fails, state),
-        Branch::Holds | Branch::Neither => Ok(()),
-    }
-}
-
 // A generate construct, or an item that is none.
 #[cycle(unroll)]
 fn unroll_item<'a>(
@@ -901,26 +821,23 @@ fn unroll_item<'a>(
             step,
             body,
         } => {
-            let place = item.place;
-            unroll_for(
-                alloc,
-                instance,
-                scope,
-                place,
-                body.get(),
-                start.get(),
-                test.get(),
-                step.get(),
-                counted,
-                state,
-            )
+            let head = ForHead {
+                place: item.place,
+                start: start.get(),
+                test: test.get(),
+                step: step.get(),
+            };
+            unroll_for(alloc, instance, scope, head, body.get(), counted, state)
         }
         ItemForm::If { test, holds, fails } => {
             let holds = holds.get();
             let word = block_word(holds, counted);
             let taken = test_if(alloc, instance, scope, test.get(), word, state)?;
-            unroll_first(alloc, instance, scope, counted, holds, taken, state)?;
-            unroll_other(alloc, instance, scope, counted, fails, taken, state)
+            match taken {
+                Branch::Holds => unroll_branch(alloc, instance, scope, holds, counted, state),
+                Branch::Fails => unroll_else(alloc, instance, scope, counted, fails, state),
+                Branch::Neither => Ok(()),
+            }
         }
     }
 }

@@ -29,8 +29,8 @@ unroll_turns-returns t c =
 
 pub unroll_for-returns : goal.unroll_for-returns
 unroll_for-returns t c =
-    for-loop c.unroll_loop.result (home_of c.args.instance) (tree_of c.args.instance) c.args.scope c.args.place
-    (block_text_seen c.args.counted) (block_text_seen c.block_word-word.result) (assigned_tree c.args.start.now)
-    (assigned_tree c.args.step.now) (expr_tree c.args.test.now) (gblock_tree c.args.body.now)
+    for-loop c.unroll_loop.result (home_of c.args.instance) (tree_of c.args.instance) c.args.scope c.args.head.place
+    (block_text_seen c.args.counted) (block_text_seen c.block_word-word.result) (assigned_tree c.args.head.start.now)
+    (assigned_tree c.args.head.step.now) (expr_tree c.args.head.test.now) (gblock_tree c.args.body.now)
     (unrolling_seen c.args.state.now) (unrolling_seen c.unroll_loop.new.state)
     c.block_word-word.ensures c.unroll_loop.ensures

@@ -63,14 +63,11 @@ decreases-unroll_turns l = 16 * goal.size-unroll_turns l + 8
 abbrev pub decreases-begin_turns : goal.decreases-begin_turns
 decreases-begin_turns l = 16 * goal.size-begin_turns l + 9
 
-abbrev pub decreases-unroll_named : goal.decreases-unroll_named
-decreases-unroll_named l = 16 * goal.size-unroll_named l + 10
+abbrev pub decreases-unroll_loop : goal.decreases-unroll_loop
+decreases-unroll_loop l = 16 * goal.size-unroll_loop l + 11
 
 abbrev pub decreases-unroll_for : goal.decreases-unroll_for
 decreases-unroll_for l = 16 * goal.size-unroll_for l + 12
-
-abbrev pub decreases-unroll_loop : goal.decreases-unroll_loop
-decreases-unroll_loop l = 16 * goal.size-unroll_loop l + 11
 
 abbrev pub decreases-unroll_lone : goal.decreases-unroll_lone
 decreases-unroll_lone l = 16 * goal.size-unroll_lone l + 1
@@ -80,12 +77,6 @@ decreases-unroll_branch l = 16 * goal.size-unroll_branch l + 4
 
 abbrev pub decreases-unroll_else : goal.decreases-unroll_else
 decreases-unroll_else l = 16 * goal.size-unroll_else l + 5
-
-abbrev pub decreases-unroll_first : goal.decreases-unroll_first
-decreases-unroll_first l = 16 * goal.size-unroll_first l + 6
-
-abbrev pub decreases-unroll_other : goal.decreases-unroll_other
-decreases-unroll_other l = 16 * goal.size-unroll_other l + 6
 
 abbrev pub decreases-unroll_made : goal.decreases-unroll_made
 decreases-unroll_made l = 16 * goal.size-unroll_made l + 3
