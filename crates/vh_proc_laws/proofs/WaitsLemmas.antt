@@ -27,11 +27,11 @@ use Rattle.vh_turn.specs.Turns.{turn_of, turn_at}
 use Rattle.vh_turn.specs.Turns as T
 use Rattle.vh_proc.specs.Disabled.{Stopped, stopped, left_in, ended_in, all_ended, all_left, all_resumed, all_stopped, disable_all}
 use Rattle.vh_proc.specs.Processes.{Scheduled, Step, World, queued, process_at, without_process, changed, joined}
-use Rattle.vh_proc.specs.Steps.{step_of_process, step_in, step_at, single_step}
+use Rattle.vh_proc.specs.Steps.{step_of, step_of_process, step_in, step_at, single_step}
 use Rattle.vh_proc.specs.Steps as S
 use Rattle.vh_proc_laws.specs.Disable.{WaitsRise}
 use Rattle.vh_proc_laws.specs.Laws.{OpensWaits, KeepsWaits, WakesInOrder}
-use Rattle.vh_proc.proofs.KinLemmas.{Gives, ok-same, ok-then, some-then, unless-then}
+use Rattle.vh_proc_laws.proofs.NumbersLemmas.{Gives, ok-then, ok-same, some-then, unless-then}
 
 -- One waits no more, or waits for something.
 without-rises : (p : ℕ) (s : Sensitivity) → WaitsRise s → WaitsRise (without_wait p s)
