@@ -16,7 +16,6 @@ use vh_scope::{Meaning, Names, Top};
 // signed, `U` has no value; and a name of each other kind.
 #[derive(Drop)]
 struct World {
-    top: Top<'static>,
     names: Names,
     around: Vec<ObjId>,
     genvars: Vec<Genvar>,
@@ -29,10 +28,6 @@ const TOP: u32 = 0;
 impl World {
     fn new(alloc: Global) -> Result<World, NoMemory> {
         let mut world = World {
-            top: Top {
-                id: ObjId::new(TOP),
-                name: b"top",
-            },
             names: Names::new(alloc),
             around: Vec::from_slice(alloc, &[ObjId::new(TOP)])?,
             genvars: Vec::new(alloc),
@@ -163,10 +158,14 @@ impl World {
 
 // What is answered for an expression in the module, in so many digits at least.
 fn value_of(alloc: Global, world: &World, e: &Expr, least: u32) -> Result<Option<Vec4>, ElabFault> {
+    let top = Top {
+        id: ObjId::new(TOP),
+        name: b"top",
+    };
     let scope = Scope {
         names: &world.names,
         around: &world.around,
-        top: world.top,
+        top,
         genvars: &world.genvars,
         objects: &world.objects,
         exprs: &world.exprs,
@@ -184,10 +183,14 @@ fn meaning_of(
     name: &Name<Expr>,
     call: bool,
 ) -> Result<Option<Meaning>, ElabFault> {
+    let top = Top {
+        id: ObjId::new(TOP),
+        name: b"top",
+    };
     let scope = Scope {
         names: &world.names,
         around: &world.around,
-        top: world.top,
+        top,
         genvars: &world.genvars,
         objects: &world.objects,
         exprs: &world.exprs,

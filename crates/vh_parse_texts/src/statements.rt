@@ -3,6 +3,7 @@
 use sqlite_items::Boxed;
 use std::alloc::Global;
 use std::fmt::Write;
+use std::process::Abort;
 use std::test::Fail;
 use vh_ast::{
     AssignWord, BlockWord, CaseWord, DataType, Decl, Delay, DelayValue, Edge, Ev, Event, Expr,
@@ -828,7 +829,7 @@ a_2230.t(1); :: S3 1
 ";
 
 // No text is answered otherwise than its row says.
-fn check(rt: &HostRuntime, alloc: Global, inside: bool, texts: &str) -> Result<(), Fail> {
+fn check(rt: &impl Abort, alloc: Global, inside: bool, texts: &str) -> Result<(), Fail> {
     let all = differing(alloc, inside, texts)?;
     assert_eq!(rt; all.as_str(), "");
     Ok(())
