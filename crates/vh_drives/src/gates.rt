@@ -87,7 +87,14 @@ fn inverted(
     ensures sound { OnOk result (IsSound mode.Value (scope_seen scope.now) nodes.new.items) }
     ensures below { IfOk result (λ o. IfSome o (λ n. n < length nodes.new.items)) }
 {
-    push_prefixed(scope, Mode::Value, nodes, place, Prefix::Sign(Unary::Invert), value)
+    push_prefixed(
+        scope,
+        Mode::Value,
+        nodes,
+        place,
+        Prefix::Sign(Unary::Invert),
+        value,
+    )
 }
 
 // Inverted as often as a gate does.
