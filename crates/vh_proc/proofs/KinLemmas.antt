@@ -44,7 +44,7 @@ Gives o x = o ≡ Ok x
 pub ok-same : {X F : Type 0} (x y : X) → Gives {F = F} (Ok x) y → x ≡ y
 ok-same x y h = cc
 
--- A label that touches differ other process leaves its parent, and the process of the design that it comes from.
+-- A label that touches no other process leaves its parent, and the process of the design that it comes from.
 abbrev pub kin : Process → Option ℕ × ℕ
 kin t = (t.parent, t.thread.root)
 

@@ -5,7 +5,7 @@ mod StandsLemmas
 -- One turn of the loops over processes
 mod LoopsLemmas
 -- A label leaves what has begun a process and where it comes from
-mod KinLemmas
+pub mod KinLemmas
 -- What holds of each task and function that a thread is in holds after every change of it
 mod CallsLemmas
 -- Sets of numbers in a list, after a change of one

@@ -4,6 +4,8 @@ pub mod DigitsLemmas
 pub mod FoundLemmas
 -- Those that leave are found once each
 pub mod ApartLemmas
+-- What holds after each way in which a process steps holds after every step
+pub mod StepsLemmas
 -- Each label keeps the processes by their numbers
 pub mod NumbersLemmas
 -- Those that wait stand by rising numbers

@@ -1,13 +1,11 @@
 -- Each label keeps the processes by their numbers, and gives a branch the next one.
-use Rattle.std.proofs.Common.{◌≡◌, ◌∙◌, ℕ, zero, suc, ◌+◌, ◌<◌, ◌≤◌, ◌⊎◌, ⊎_elim, inl, inr, List, [], ◌∷◌, Bool, true, false, ◌==◌, cond, map, length, Option, Some, None, is_some, Result, Ok, Err, nat_lt, refl, ap, sym, subst, arith}
+use Rattle.std.proofs.Common.{◌≡◌, ◌∙◌, ℕ, zero, suc, ◌+◌, ◌<◌, ◌≤◌, ◌⊎◌, ⊎_elim, inl, inr, List, [], ◌∷◌, Bool, true, false, ◌==◌, cond, map, length, Option, Some, None, is_some, Ok, nat_lt, refl, ap, sym, subst, arith}
 use Rattle.std.specs.Prelude.{nat_eq, if◌then◌else◌}
 use Rattle.std.specs.BTreeMap.{is_at}
 use Rattle.std.specs.List.{range_with_len}
 use Rattle.std.specs.Option.{option_map}
 use Rattle.std.specs.Ordering.{nat_cmp}
 use Rattle.std.proofs.lemmas.Bool.{eqb-true}
-use Rattle.vh_base.specs.Checks.{unless, with_ok, with_some}
-use Rattle.vh_base.specs.declared.faults.Fault.{Fault}
 use Rattle.vh_base.specs.declared.faults.Fault.TheVariants as fault
 use Rattle.vh_base.specs.declared.limits.TheConstants.{MOST_NUMBERS}
 use Rattle.vh_callbacks.specs.Callbacks.{Rise, live_at, without}
@@ -15,33 +13,20 @@ use Rattle.vh_callbacks.specs.Callbacks as C
 use Rattle.vh_callbacks.proofs.CallbacksLemmas.{known_below, rise_without, live_without_same, live_without_other, live_insert, rise_insert, rise_to, live_changed_same, live_changed_other, rise_changed}
 use Rattle.vh_code.specs.declared.code.Goes.{Goes}
 use Rattle.vh_code.specs.declared.code.Instruction.{Instruction}
-use Rattle.vh_code.specs.declared.operation.Operation.{Operation}
-use Rattle.vh_code.specs.declared.operation.Operation.TheVariants as op
-use Rattle.vh_code.specs.declared.operation.Single.{Single}
-use Rattle.vh_code.specs.declared.operation.Single.TheVariants as single
-use Rattle.vh_code.specs.declared.operation.Pause.{Pause}
-use Rattle.vh_code.specs.declared.operation.Pause.TheVariants as pause
-use Rattle.vh_code.specs.declared.operation.Loop.{Loop}
 use Rattle.vh_code.specs.declared.operation.Loop.TheVariants as turn
 use Rattle.vh_design.specs.Shape.{Shape}
 use Rattle.vh_thread.specs.Control.{next_of, is_inside}
 use Rattle.vh_turn.specs.declared.process.Process.{Process}
-use Rattle.vh_turn.specs.declared.next.Next.TheVariants as next
-use Rattle.vh_turn.specs.Drives.{digits_driven, all_driven, driving}
-use Rattle.vh_assign.specs.declared.piece.Piece.{Piece}
-use Rattle.vh_assign.specs.Values.{right_side}
-use Rattle.vh_code.specs.declared.target.Delay.{Delay}
-use Rattle.vh_code.specs.declared.operation.Drive.{Drive}
-use Rattle.vh_turn.specs.Own.{Own, Turn, own_of, going, arriving, with_entry}
-use Rattle.vh_turn.specs.Own as O
-use Rattle.vh_turn.specs.Turns.{turn_of, turn_at}
-use Rattle.vh_turn.specs.Turns as T
+use Rattle.vh_turn.specs.Own.{Own, Turn, own_of, going, arriving}
+use Rattle.vh_turn.specs.Turns.{turn_of}
+use Rattle.vh_proc.proofs.KinLemmas.{ok-same, ok-then, turn-kept, unless-then}
 use Rattle.vh_proc.specs.Disabled.{Stopped, stopped, left_by, ended_in, left_in, all_ended, all_left, resumed_but, all_resumed, all_stopped, disable_all}
 use Rattle.vh_proc.specs.Processes.{Processes, Queued, Scheduled, Step, World, opening, opening_process, queued, process_at, with_process, without_process, changed, changed_in, with_branch, branch, branch_in, branch_begun, branches_begun, evaluated_now, resumed, noted, with_serial, one_less, one_joined, joined_in, joined, gone_on, goes_behind, with_left}
-use Rattle.vh_proc.specs.Steps.{step_of, step_of_process, step_in, step_at, single_step}
+use Rattle.vh_proc.specs.Steps.{step_of}
 use Rattle.vh_proc.specs.Steps as S
 use Rattle.vh_proc_laws.specs.Disable.{AreNumbered}
 use Rattle.vh_proc_laws.specs.Laws.{OpensNumbered, KeepsNumbers, NotesNumbers, GivesFreshNumbers, NextNeverFalls}
+use Rattle.vh_proc_laws.proofs.StepsLemmas.{AfterEach, after-step}
 
 -- What some processes come to: they stay numbered, the next number doesn't fall, and each that is there was there before or has a fresh one.
 pub record Grows (ps qs : Processes) : Type 0 where
@@ -212,25 +197,6 @@ inserts p t u ps at parent = record {
     was q x true is here = let one = eqb-true ps.next q is in inr (omega (arith, one))
     was q x false is here = inl (ap is_some here)
 
--- What stands before a step that succeeds, succeeds.
-pub ok-then : {X Y F : Type 0} (o : Result X F) (f : X → Result Y F) (y : Y) → with_ok o f ≡ Ok y → (x : X) × (o ≡ Ok x) × (f x ≡ Ok y)
-ok-then (Ok x) f y h = (x, refl, h)
-ok-then (Err e) f y h = absurd (cc)
-
-pub unless-then : {X F : Type 0} (b : Bool) (e : F) (rest : Result X F) (x : X) → unless b e rest ≡ Ok x → rest ≡ Ok x
-unless-then true e rest x h = absurd (cc)
-unless-then false e rest x h = h
-
-pub some-then : {X Y F : Type 0} (o : Option X) (e : F) (f : X → Result Y F) (y : Y) → with_some o e f ≡ Ok y → (x : X) × (o ≡ Some x) × (f x ≡ Ok y)
-some-then None e f y h = absurd (cc)
-some-then (Some x) e f y h = (x, refl, h)
-
-abbrev pub Gives : {X F : Type 0} → Result X F → X → Type 0
-Gives o x = o ≡ Ok x
-
-pub ok-same : {X F : Type 0} (x y : X) → Gives {F = F} (Ok x) y → x ≡ y
-ok-same x y h = cc
-
 -- Who goes on by an entry, begins, or joins.
 pub resumes : (p : ℕ) (b c : Queued) → resumed p b ≡ Ok c → Grows b.processes c.processes
 resumes p b c h =
@@ -277,72 +243,9 @@ joins d None b c h = subst (λ (x : Queued). Grows b.processes x.processes) (ok-
 joins d (Some p) b c h = joins-in d (process_at p b.processes) p b c h
 
 -- A label that touches no other process leaves its parent.
-kept : (x turn : Turn) (parent : Option ℕ) → Gives {F = Option Fault} (Ok x) turn → x.own.process.parent ≡ parent → turn.own.process.parent ≡ parent
-kept x turn parent h is = ap (λ (y : Turn). y.own.process.parent) (sym (ok-same x turn h)) ∙ is
-
-module _ (d : Shape) (p : ℕ) (i : Instruction) where
-  waits-kept : (wait : ℕ) (o : Own) (turn : Turn) → T.waiting p wait o ≡ Ok turn → turn.own.process.parent ≡ o.process.parent
-  waits-kept wait o turn h = kept _ turn _ h refl
-
-  resumes-kept : (delay : _) (o : Own) (turn : Turn) → T.resuming d p delay o ≡ Ok turn → turn.own.process.parent ≡ o.process.parent
-  resumes-kept delay o turn h = let q = ok-then (T.resumption d o.store p delay o.queue) _ turn h in kept _ turn _ q.2 refl
-
-  pauses-kept : (it : Pause) (o : Own) (turn : Turn) → T.pausing d p i.next it o ≡ Ok turn → turn.own.process.parent ≡ o.process.parent
-  pauses-kept (pause.Wait delay) o turn h = resumes-kept delay (O.gone d i.next o) turn h
-  pauses-kept (pause.Await wait) o turn h = waits-kept wait (O.gone d i.next o) turn h
-  pauses-kept (pause.WaitFor condition wait) o turn h = by (T.is_true d o.store condition) refl
-    where
-      by : (b : Bool) → T.is_true d o.store condition ≡ b → turn.own.process.parent ≡ o.process.parent
-      by true is = kept _ turn _ (rw is at h) refl
-      by false is = waits-kept wait o turn (rw is at h)
-
-  repeats-kept : (done : Goes) (n : ℕ) (t : Process) (b : Bool) → nat_lt 0 n ≡ b → (T.repeat_of d i done n t).parent ≡ t.parent
-  repeats-kept done n t true is = rw is refl
-  repeats-kept done n t false is = rw is refl
-
-  loops-kept : (it : Loop) (o : Own) → (T.turning d o.store i it o.process).parent ≡ o.process.parent
-  loops-kept (turn.Repeat count done) o = repeats-kept done _ o.process (nat_lt 0 _) refl
-  loops-kept (turn.Again done) o = refl
-  loops-kept turn.Turn o = refl
-
-  singles-kept : (it : Single) (o : Own) (turn : Turn) → T.single_turn d it o ≡ Ok turn → turn.own.process.parent ≡ o.process.parent
-  singles-kept it o turn h = let n = some-then (T.single_next it) None _ turn h in kept _ turn _ n.2 refl
-
-  schedules-kept : (delay : Option Delay) (ps : List Piece) (o : Own) (turn : Turn) → T.scheduling d delay ps o ≡ Ok turn
-      → turn.own.process.parent ≡ o.process.parent
-  schedules-kept delay ps o turn h =
-      let q = ok-then (T.schedule_of d o.store delay ps o.queue) (λ q. O.quietly next.On (record o { queue = q })) turn h in
-      kept _ turn _ q.2 refl
-
-  drives-kept : (it : Drive) (o : Own) (turn : Turn) → T.driving_all d p it o ≡ Ok turn → turn.own.process.parent ≡ o.process.parent
-  drives-kept it o turn h =
-      let v = right_side d o.store it.value (digits_driven d.drivers it.drivers) in
-      let time = O.update_time d o.store it.delay in
-      let b = ok-then (all_driven d.drivers o.store time it.drivers v (driving o.process.updates o.queue))
-      (λ b. T.waiting p it.wait (record o { process = record o.process { updates = b.updates }; queue = b.queue })) turn h in
-      kept _ turn _ b.2 refl
-
-  row-kept : (op : Operation) (o : Own) (turn : Turn) → turn_at d p i op o ≡ Ok turn → turn.own.process.parent ≡ o.process.parent
-  row-kept (op.Assign e targets) o turn h = kept _ turn _ h refl
-  row-kept (op.Hold e width delay) o turn h = resumes-kept delay (T.holding (_) (O.gone d i.next o)) turn h
-  row-kept (op.Store targets) o turn h = kept _ turn _ h refl
-  row-kept (op.Schedule s) o turn h = schedules-kept s.delay _ (O.gone d i.next o) turn h
-  row-kept (op.Pause it) o turn h = pauses-kept it o turn h
-  row-kept (op.Test condition otherwise) o turn h = kept _ turn _ h refl
-  row-kept (op.Case c) o turn h = kept _ turn _ h refl
-  row-kept (op.Loop it) o turn h = kept _ turn _ h (loops-kept it o)
-  row-kept (op.Fork places) o turn h = absurd (cc)
-  row-kept op.End o turn h = kept _ turn _ h refl
-  row-kept (op.Enter routine inputs) o turn h = kept _ turn _ (unless-then _ _ _ turn h) refl
-  row-kept (op.Leave l) o turn h = kept _ turn _ h refl
-  row-kept (op.SysCall call) o turn h = kept _ turn _ h refl
-  row-kept (op.SysFunc call) o turn h = kept _ turn _ h refl
-  row-kept (op.Single it) o turn h = singles-kept it (O.gone d i.next o) turn h
-  row-kept (op.Drive it) o turn h = drives-kept it (O.gone d i.next o) turn h
-  row-kept (op.Initial object e) o turn h = kept _ turn _ h refl
-
-  turn-kept : (o : Own) (turn : Turn) → turn_of d p i o ≡ Ok turn → turn.own.process.parent ≡ o.process.parent
-  turn-kept o turn h = row-kept i.operation (record o { process = arriving d o.process }) turn h
+parent-kept : (d : Shape) (p : ℕ) (i : Instruction) (o : Own) (turn : Turn) → turn_of d p i o ≡ Ok turn
+    → turn.own.process.parent ≡ o.process.parent
+parent-kept d p i o turn h = ap (λ (k : Option ℕ × ℕ). k.0) (turn-kept d p i o turn h)
 
 -- What a disable does.
 pub ends-one : (p : ℕ) (t : Option Process) (o : Scheduled) → Grows o.processes (ended_in t p o).processes
@@ -402,7 +305,7 @@ module _ (d : Shape) (p : ℕ) (t : Process) (i : Instruction) (w : World) (at :
   alone-grows s h =
       let x = ok-then (S.own_turn d p t i w) _ s h in
       subst (λ (y : Step). Grows w.processes y.world.processes) (ok-same _ s x.2)
-      (puts p t x.0.own.process w.processes at (turn-kept d p i (own_of t w.store w.sense w.queue) x.0 x.1))
+      (puts p t x.0.own.process w.processes at (parent-kept d p i (own_of t w.store w.sense w.queue) x.0 x.1))
 
   initial-grows : (s : Step) → S.initializing d p t i w ≡ Ok s → Grows w.processes s.world.processes
   initial-grows s h =
@@ -410,7 +313,7 @@ module _ (d : Shape) (p : ℕ) (t : Process) (i : Instruction) (w : World) (at :
       let mid = with_process p x.0.own.process w.processes in
       subst (λ (y : Step). Grows w.processes y.world.processes) (ok-same _ s x.2)
       (then_ w.processes mid (without_process p mid)
-      (puts p t x.0.own.process w.processes at (turn-kept d p i (own_of t w.store w.sense w.queue) x.0 x.1)) (removes p mid))
+      (puts p t x.0.own.process w.processes at (parent-kept d p i (own_of t w.store w.sense w.queue) x.0 x.1)) (removes p mid))
 
   ending-grows : (s : Step) → S.ending d p t w ≡ Ok s → Grows w.processes s.world.processes
   ending-grows s h =
@@ -443,48 +346,17 @@ module _ (d : Shape) (p : ℕ) (t : Process) (i : Instruction) (w : World) (at :
       (then_ arrived before x.0.processes (passes d p target goes (process_at p arrived) arrived)
       (disables d target p (stopped d target arrived) _ x.0 x.1)))
 
-  single-grows : (it : Single) (s : Step) → single_step d p t i it w ≡ Ok s → Grows w.processes s.world.processes
-  single-grows (single.Show show) s h = alone-grows s h
-  single-grows single.Finish s h = alone-grows s h
-  single-grows single.Stop s h = alone-grows s h
-  single-grows (single.Trigger event) s h = alone-grows s h
-  single-grows (single.Disable target) s h = disabling-grows target i.next s h
-  single-grows (single.Force object e) s h = alone-grows s h
-  single-grows (single.Release object) s h = alone-grows s h
-  single-grows (single.Procedural object e) s h = alone-grows s h
-  single-grows (single.Deassign object) s h = alone-grows s h
-
-  row-grows : (op : Operation) (s : Step) → step_at d p t i op w ≡ Ok s → Grows w.processes s.world.processes
-  row-grows (op.Assign e targets) s h = alone-grows s h
-  row-grows (op.Hold e width delay) s h = alone-grows s h
-  row-grows (op.Store targets) s h = alone-grows s h
-  row-grows (op.Schedule it) s h = alone-grows s h
-  row-grows (op.Pause it) s h = alone-grows s h
-  row-grows (op.Test condition otherwise) s h = alone-grows s h
-  row-grows (op.Case c) s h = alone-grows s h
-  row-grows (op.Loop it) s h = alone-grows s h
-  row-grows (op.Fork places) s h = forking-grows i.next places s h
-  row-grows op.End s h = ending-grows s h
-  row-grows (op.Enter routine inputs) s h = alone-grows s h
-  row-grows (op.Leave l) s h = alone-grows s h
-  row-grows (op.SysCall call) s h = alone-grows s h
-  row-grows (op.SysFunc call) s h = alone-grows s h
-  row-grows (op.Single it) s h = single-grows it s h
-  row-grows (op.Drive it) s h = alone-grows s h
-  row-grows (op.Initial object e) s h = initial-grows s h
-
-step-in : (d : Shape) (p : ℕ) (t : Process) (o : Option Instruction) (w : World) (s : Step) → process_at p w.processes ≡ Some t
-    → step_in d p t o w ≡ Ok s → Grows w.processes s.world.processes
-step-in d p t None w s at h = absurd (cc)
-step-in d p t (Some i) w s at h = row-grows d p t i w at i.operation s h
-
-step-of : (d : Shape) (p : ℕ) (o : Option Process) (w : World) (s : Step) → process_at p w.processes ≡ o
-    → step_of_process d p o w ≡ Ok s → Grows w.processes s.world.processes
-step-of d p None w s at h = absurd (cc)
-step-of d p (Some t) w s at h = step-in d p t (next_of d t.thread) w s at h
+  each-grows : AfterEach (λ v. Grows w.processes v.processes) d p t i w
+  each-grows = record {
+    own = alone-grows;
+    initial = initial-grows;
+    ends = ending-grows;
+    forks = forking-grows;
+    disables = disabling-grows;
+  }
 
 pub grows : (d : Shape) (p : ℕ) (w : World) (s : Step) → step_of d p w ≡ Ok s → Grows w.processes s.world.processes
-grows d p w s h = step-of d p (process_at p w.processes) w s refl h
+grows d p w = after-step (λ v. Grows w.processes v.processes) d p w (λ t at i. each-grows d p t i w at)
 
 pub keeps-numbers : KeepsNumbers
 keeps-numbers d p w s numbered h = (grows d p w s h).numbered numbered

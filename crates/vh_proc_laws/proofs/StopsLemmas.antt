@@ -27,7 +27,8 @@ use Rattle.vh_proc_laws.specs.Disable.{AreNumbered, Ends, Leaves, IsUntouched, S
 use Rattle.vh_proc_laws.specs.Laws.{FindsWhoStops, DisableStops}
 use Rattle.vh_proc_laws.proofs.FoundLemmas.{or-cases, finds-all}
 use Rattle.vh_proc_laws.proofs.ApartLemmas.{Apart, leaves-apart}
-use Rattle.vh_proc_laws.proofs.NumbersLemmas.{at-changed, changes, passes, ok-then, unless-then, ok-same, ends-one}
+use Rattle.vh_proc.proofs.KinLemmas.{ok-then, unless-then, ok-same}
+use Rattle.vh_proc_laws.proofs.NumbersLemmas.{at-changed, changes, passes, ends-one}
 
 or-false : (a b : Bool) → (a || b) ≡ false → (a ≡ false) × (b ≡ false)
 or-false true b h = absurd (cc)

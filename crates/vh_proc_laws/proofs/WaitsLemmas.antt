@@ -8,7 +8,6 @@ use Rattle.vh_code.specs.declared.code.Instruction.{Instruction}
 use Rattle.vh_code.specs.declared.operation.Operation.{Operation}
 use Rattle.vh_code.specs.declared.operation.Operation.TheVariants as op
 use Rattle.vh_code.specs.declared.operation.Single.{Single}
-use Rattle.vh_code.specs.declared.operation.Single.TheVariants as single
 use Rattle.vh_code.specs.declared.operation.Pause.{Pause}
 use Rattle.vh_code.specs.declared.operation.Pause.TheVariants as pause
 use Rattle.vh_code.specs.declared.operation.Drive.{Drive}
@@ -17,7 +16,6 @@ use Rattle.vh_assign.specs.declared.piece.Piece.{Piece}
 use Rattle.vh_assign.specs.Values.{right_side}
 use Rattle.vh_design.specs.Shape.{Shape}
 use Rattle.vh_sense.specs.Sensitivity.{Sensitivity, with_wait, without_wait}
-use Rattle.vh_thread.specs.Control.{next_of}
 use Rattle.vh_turn.specs.declared.next.Next.TheVariants as next
 use Rattle.vh_turn.specs.declared.process.Process.{Process}
 use Rattle.vh_turn.specs.Drives.{digits_driven, all_driven, driving}
@@ -25,13 +23,13 @@ use Rattle.vh_turn.specs.Own.{Own, Turn, own_of, arriving}
 use Rattle.vh_turn.specs.Own as O
 use Rattle.vh_turn.specs.Turns.{turn_of, turn_at}
 use Rattle.vh_turn.specs.Turns as T
+use Rattle.vh_proc.proofs.KinLemmas.{Gives, ok-then, ok-same, some-then, unless-then}
 use Rattle.vh_proc.specs.Disabled.{Stopped, stopped, left_in, ended_in, all_ended, all_left, all_resumed, all_stopped, disable_all}
 use Rattle.vh_proc.specs.Processes.{Scheduled, Step, World, queued, process_at, without_process, changed, joined}
-use Rattle.vh_proc.specs.Steps.{step_of, step_of_process, step_in, step_at, single_step}
 use Rattle.vh_proc.specs.Steps as S
 use Rattle.vh_proc_laws.specs.Disable.{WaitsRise}
 use Rattle.vh_proc_laws.specs.Laws.{OpensWaits, KeepsWaits, WakesInOrder}
-use Rattle.vh_proc_laws.proofs.NumbersLemmas.{Gives, ok-then, ok-same, some-then, unless-then}
+use Rattle.vh_proc_laws.proofs.StepsLemmas.{AfterEach, after-step}
 
 -- One waits no more, or waits for something.
 without-rises : (p : ℕ) (s : Sensitivity) → WaitsRise s → WaitsRise (without_wait p s)
@@ -163,48 +161,17 @@ module _ (d : Shape) (p : ℕ) (t : Process) (i : Instruction) (w : World) (rise
       let x = ok-then (S.disabled_by d target p goes _) _ s h in
       subst (λ (y : Step). WaitsRise y.world.sense) (ok-same _ s x.2) (disables d target p (stopped d target arrived) _ x.0 x.1 rise)
 
-  single-rises : (it : Single) (s : Step) → single_step d p t i it w ≡ Ok s → WaitsRise s.world.sense
-  single-rises (single.Show show) s h = alone-rises s h
-  single-rises single.Finish s h = alone-rises s h
-  single-rises single.Stop s h = alone-rises s h
-  single-rises (single.Trigger event) s h = alone-rises s h
-  single-rises (single.Disable target) s h = disabling-rises target i.next s h
-  single-rises (single.Force object e) s h = alone-rises s h
-  single-rises (single.Release object) s h = alone-rises s h
-  single-rises (single.Procedural object e) s h = alone-rises s h
-  single-rises (single.Deassign object) s h = alone-rises s h
-
-  row-rises : (op : Operation) (s : Step) → step_at d p t i op w ≡ Ok s → WaitsRise s.world.sense
-  row-rises (op.Assign e targets) s h = alone-rises s h
-  row-rises (op.Hold e width delay) s h = alone-rises s h
-  row-rises (op.Store targets) s h = alone-rises s h
-  row-rises (op.Schedule it) s h = alone-rises s h
-  row-rises (op.Pause it) s h = alone-rises s h
-  row-rises (op.Test condition otherwise) s h = alone-rises s h
-  row-rises (op.Case c) s h = alone-rises s h
-  row-rises (op.Loop it) s h = alone-rises s h
-  row-rises (op.Fork places) s h = forking-rises i.next places s h
-  row-rises op.End s h = ending-rises s h
-  row-rises (op.Enter routine inputs) s h = alone-rises s h
-  row-rises (op.Leave l) s h = alone-rises s h
-  row-rises (op.SysCall call) s h = alone-rises s h
-  row-rises (op.SysFunc call) s h = alone-rises s h
-  row-rises (op.Single it) s h = single-rises it s h
-  row-rises (op.Drive it) s h = alone-rises s h
-  row-rises (op.Initial object e) s h = initial-rises s h
-
-step-in : (d : Shape) (p : ℕ) (t : Process) (o : Option Instruction) (w : World) (s : Step) → WaitsRise w.sense
-    → step_in d p t o w ≡ Ok s → WaitsRise s.world.sense
-step-in d p t None w s rise h = absurd (cc)
-step-in d p t (Some i) w s rise h = row-rises d p t i w rise i.operation s h
-
-step-by : (d : Shape) (p : ℕ) (o : Option Process) (w : World) (s : Step) → WaitsRise w.sense
-    → step_of_process d p o w ≡ Ok s → WaitsRise s.world.sense
-step-by d p None w s rise h = absurd (cc)
-step-by d p (Some t) w s rise h = step-in d p t (next_of d t.thread) w s rise h
+  each-rises : AfterEach (λ v. WaitsRise v.sense) d p t i w
+  each-rises = record {
+    own = alone-rises;
+    initial = initial-rises;
+    ends = ending-rises;
+    forks = forking-rises;
+    disables = disabling-rises;
+  }
 
 pub keeps-waits : KeepsWaits
-keeps-waits d p w s rise h = step-by d p (process_at p w.processes) w s rise h
+keeps-waits d p w s rise h = after-step (λ v. WaitsRise v.sense) d p w (λ t at i. each-rises d p t i w rise) s h
 
 pub opens-waits : OpensWaits
 opens-waits d s opening = (0, subst (λ (es : List (ℕ × ℕ)). Rise 0 es 0) (sym opening.nobody) (omega arith))

@@ -23,8 +23,7 @@ pub returns-then-before-eq0 : goal.returns-then-before-eq0
 returns-then-before-eq0 c c' =
     let R = c.K.Ord.cmp in let o = c.met.K.Ord.total in
     let xs = c'.self.inside.near.items in let ys = c'.self.inside.far.keys in let first = c'.args.first.now in let end = c'.args.end.now in
-    let empty : c'.range.result ≡ [] = search rules in
-    let none : filter (between R o first end) ys ≡ [] = sym (c'.range.ensures.between (search rules)) ∙ empty in
+    let none : filter (between R o first end) ys ≡ [] = sym (c'.range.ensures.between (search rules)) ∙ search rules in
     let n_is : c'.row_from-before.result ≡ before_len R end xs = c'.row_from-before.ensures ∙ ap (before_len R end) c'.deref.ensures.value in
     sym (ap last_key (last-none R o first end xs (rises-front R o xs ys c'.self.invariant) (sym n_is ∙ c'.if-before-eq0.true)))
     ∙ ap last_key (sym (last-row R o first end xs ys none))
@@ -34,8 +33,7 @@ pub returns-in_err-last : goal.returns-in_err-last
 returns-in_err-last c c' =
     let R = c.K.Ord.cmp in let o = c.met.K.Ord.total in
     let xs = c'.self.inside.near.items in let ys = c'.self.inside.far.keys in let first = c'.args.first.now in let end = c'.args.end.now in
-    let empty : c'.range.result ≡ [] = search rules in
-    let none : filter (between R o first end) ys ≡ [] = sym (c'.range.ensures.between (search rules)) ∙ empty in
+    let none : filter (between R o first end) ys ≡ [] = sym (c'.range.ensures.between (search rules)) ∙ search rules in
     let n_is : c'.row_from-before.result ≡ before_len R end xs = c'.row_from-before.ensures ∙ ap (before_len R end) c'.deref.ensures.value in
     let most = before-most R o end xs in
     let past = ltb-false _ _ (sym c'.in_err-last.ensures.lookup.0) in
@@ -47,8 +45,7 @@ pub returns-then-le : goal.returns-then-le
 returns-then-le c c' =
     let R = c.K.Ord.cmp in let o = c.met.K.Ord.total in
     let xs = c'.self.inside.near.items in let ys = c'.self.inside.far.keys in let first = c'.args.first.now in let end = c'.args.end.now in
-    let empty : c'.range.result ≡ [] = search rules in
-    let none : filter (between R o first end) ys ≡ [] = sym (c'.range.ensures.between (search rules)) ∙ empty in
+    let none : filter (between R o first end) ys ≡ [] = sym (c'.range.ensures.between (search rules)) ∙ search rules in
     let n_is : c'.row_from-before.result ≡ before_len R end xs = c'.row_from-before.ensures ∙ ap (before_len R end) c'.deref.ensures.value in
     let x = c'.in_ok-last.last.now in let n = c'.row_from-before.result in
     let got : slice_get xs (n - 1) ≡ Some x =
@@ -64,8 +61,7 @@ pub returns-else-le : goal.returns-else-le
 returns-else-le c c' =
     let R = c.K.Ord.cmp in let o = c.met.K.Ord.total in
     let xs = c'.self.inside.near.items in let ys = c'.self.inside.far.keys in let first = c'.args.first.now in let end = c'.args.end.now in
-    let empty : c'.range.result ≡ [] = search rules in
-    let none : filter (between R o first end) ys ≡ [] = sym (c'.range.ensures.between (search rules)) ∙ empty in
+    let none : filter (between R o first end) ys ≡ [] = sym (c'.range.ensures.between (search rules)) ∙ search rules in
     let n_is : c'.row_from-before.result ≡ before_len R end xs = c'.row_from-before.ensures ∙ ap (before_len R end) c'.deref.ensures.value in
     let x = c'.in_ok-last.last.now in let n = c'.row_from-before.result in
     let got : slice_get xs (n - 1) ≡ Some x =
