@@ -57,11 +57,11 @@ module _ (holds : World → Type 0) (d : Shape) (p : ℕ) (w : World) where
 
   after-in : (t : Process) (o : Option Instruction) → ((i : Instruction) → AfterEach holds d p t i w) → After holds (step_in d p t o w)
   after-in t None each s h = absurd (cc)
-  after-in t (Some i) each = after-row t i (each i) i.operation
+  after-in t (Some i) each s h = after-row t i (each i) i.operation s h
 
   after-by : (o : Option Process) → ((t : Process) → o ≡ Some t → (i : Instruction) → AfterEach holds d p t i w) → After holds (step_of_process d p o w)
   after-by None each s h = absurd (cc)
-  after-by (Some t) each = after-in t (next_of d t.thread) (each t refl)
+  after-by (Some t) each s h = after-in t (next_of d t.thread) (each t refl) s h
 
   pub after-step : ((t : Process) → process_at p w.processes ≡ Some t → (i : Instruction) → AfterEach holds d p t i w) → After holds (step_of d p w)
   after-step each = after-by (process_at p w.processes) each
