@@ -56,11 +56,15 @@ with_exprs ns a = record a { exprs = ns }
 abbrev pub calls_between : Surroundings → Nodes → ℕ → List Operation
 calls_between w ns from = calls_of w ns (length ns - from) from
 
+abbrev pub called_behind : {A : Type 0} → Surroundings → List Operation → ℕ → Option A → Added
+    → Result ((A × List Operation) × Added) (Option Fault)
+called_behind w before from None a = Err None
+called_behind w before from (Some x) a = Ok ((x, before ++ calls_between w a.exprs from), a)
+
 abbrev pub called_in : {A : Type 0} → Surroundings → List Operation → Added → Result (Option A × Nodes) Fault
     → Result ((A × List Operation) × Added) (Option Fault)
 called_in w before a (Err fault) = Err (Some fault)
-called_in w before a (Ok (None, ns)) = Err None
-called_in w before a (Ok (Some x, ns)) = Ok ((x, before ++ calls_between w ns (length a.exprs)), with_exprs ns a)
+called_in w before a (Ok (found, ns)) = called_behind w before (length a.exprs) found (with_exprs ns a)
 
 abbrev pub performed : {A : Type 0} → Surroundings → List Operation → Step (Option A) → Making (A × List Operation)
 performed w before p = λ a. called_in w before a (p a.exprs)

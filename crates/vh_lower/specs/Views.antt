@@ -1,11 +1,17 @@
 -- How contracts see what the code holds.
-use Rattle.std.specs.Prelude.{◌≡◌, List, map, Result, Ok, Err, Option, Some, None}
+use Rattle.std.specs.Prelude.{◌≡◌, true, List, map, OnOk, Result, Ok, Err, Option, Some, None}
 use Rattle.vh_code.specs.declared.operation.Operation.{Operation}
+use Rattle.vh_nodes.specs.Fits.{is_unit}
+use Rattle.vh_bind.specs.declared.scope.Mode.TheVariants as mode
+use Rattle.vh_bind.specs.Nodes.{IsSound}
 use Rattle.vh_bind.specs.Steps.{Fault}
+use Rattle.vh_bind_stmt.specs.Calls.{Surroundings}
+use Rattle.vh_bind_stmt.specs.Views.{surroundings_seen}
 use Rattle.vh_flow.specs.declared.flow.Flow.{Flow}
 use Rattle.vh_flow.specs.Trees.{FlowTree}
 use Rattle.vh_flow.specs.Views.{flow_tree, item_tree}
-use Rattle.vh_lower.specs.declared.added.Added as code
+use Rattle.vh_lower.specs.declared.added.Added as design
+use Rattle.vh_lower.specs.declared.added.Maker as code
 use Rattle.vh_lower.specs.declared.fault.LowerFault.{LowerFault}
 use Rattle.vh_lower.specs.declared.fault.LowerFault.TheVariants as faults
 use Rattle.vh_lower.specs.declared.cases.Cases as all
@@ -14,7 +20,7 @@ use Rattle.vh_lower.specs.Making.{Added}
 use Rattle.vh_lower.specs.Statements.{Calling, Cases}
 
 -- What statements have added to a design.
-abbrev pub added_seen : code.Added → Added
+abbrev pub added_seen : design.Added → Added
 added_seen a = record {
   exprs = a.exprs.items;
   waits = a.waits.items;
@@ -52,23 +58,48 @@ MakesTo see outcome (Err faults.PassedOver) a = outcome ≡ Err None
 MakesTo see outcome (Err faults.NoMemory) a = Unit {0}
 
 -- The same with the labels behind which it stands.
-abbrev pub Performs : {A : Type 0} → Result ((A × List Operation) × Added) (Option Fault) → Result A LowerFault
-    → List Operation → Added → Type 0
-Performs outcome (Ok x) os a = outcome ≡ Ok ((x, os), a)
-Performs outcome (Err (faults.Refused fault place)) os a = outcome ≡ Err (Some (fault, place))
-Performs outcome (Err faults.PassedOver) os a = outcome ≡ Err None
-Performs outcome (Err faults.NoMemory) os a = Unit {0}
+abbrev pub Performs : {A : Type 0} → Result ((A × List Operation) × Added) (Option Fault) → List Operation
+    → Result A LowerFault → Added → Type 0
+Performs outcome os (Ok x) a = outcome ≡ Ok ((x, os), a)
+Performs outcome os (Err (faults.Refused fault place)) a = outcome ≡ Err (Some (fault, place))
+Performs outcome os (Err faults.PassedOver) a = outcome ≡ Err None
+Performs outcome os (Err faults.NoMemory) a = Unit {0}
 
--- It is what a step leaves of a call.
-abbrev pub Calls : {A : Type 0} → Result (Calling × Added) (Option Fault) → Result A LowerFault → Calling → Added → Type 0
-Calls outcome (Ok x) c a = outcome ≡ Ok (c, a)
-Calls outcome (Err (faults.Refused fault place)) c a = outcome ≡ Err (Some (fault, place))
-Calls outcome (Err faults.PassedOver) c a = outcome ≡ Err None
-Calls outcome (Err faults.NoMemory) c a = Unit {0}
+-- It is what a step leaves of a call, or of a `case`.
+abbrev pub Leaves : {A B : Type 0} → Result (B × Added) (Option Fault) → B → Result A LowerFault → Added → Type 0
+Leaves outcome left (Ok x) a = outcome ≡ Ok (left, a)
+Leaves outcome left (Err (faults.Refused fault place)) a = outcome ≡ Err (Some (fault, place))
+Leaves outcome left (Err faults.PassedOver) a = outcome ≡ Err None
+Leaves outcome left (Err faults.NoMemory) a = Unit {0}
 
--- It is what a step leaves of a `case`.
-abbrev pub MakesCases : {A : Type 0} → Result (Cases × Added) (Option Fault) → Result A LowerFault → Cases → Added → Type 0
-MakesCases outcome (Ok x) c a = outcome ≡ Ok (c, a)
-MakesCases outcome (Err (faults.Refused fault place)) c a = outcome ≡ Err (Some (fault, place))
-MakesCases outcome (Err faults.PassedOver) c a = outcome ≡ Err None
-MakesCases outcome (Err faults.NoMemory) c a = Unit {0}
+-- What statements stand in, and what they have added.
+abbrev pub around_of : code.Maker → Surroundings
+around_of m = surroundings_seen m.around.now
+
+abbrev pub added_of : code.Maker → Added
+added_of m = added_seen m.added.now
+
+abbrev pub HasSound : code.Maker → Added → Type 0
+HasSound m a = IsSound mode.Value (around_of m).scope a.exprs
+
+-- Code can be made: the expressions so far are sound where the statements stand, whose unit is one.
+pub record Stands (m : code.Maker) : Type 0 where
+  pub sound : HasSound m (added_of m)
+  pub unit : is_unit (around_of m).scope.precision (around_of m).scope.unit ≡ true
+
+-- They stand in the same, and add to the same design.
+pub record IsSame (m after : code.Maker) : Type 0 where
+  pub around : after.around.now ≡ m.around.now
+  pub reference : after.added.ghost_name ≡ m.added.ghost_name
+
+-- What is made so where statements stand, with what this adds.
+pub record Adds {A : Type 0} (makes : Surroundings → Added → Result A LowerFault → Added → Type 0) (m : code.Maker)
+    (result : Result A LowerFault) (after : code.Maker) : Type 0 where
+  pub made : makes (around_of m) (added_of m) result (added_of after)
+  pub sound : OnOk result (HasSound m (added_of after))
+  pub same : IsSame m after
+
+-- What is found so there, which adds nothing.
+abbrev pub Finds : {A : Type 0} → (Surroundings → Added → Result A LowerFault → Added → Type 0) → code.Maker
+    → Result A LowerFault → Type 0
+Finds makes m result = makes (around_of m) (added_of m) result (added_of m)

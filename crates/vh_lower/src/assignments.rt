@@ -1,24 +1,20 @@
-ghost use Rattle.std.specs.Prelude.{◌≡◌, [], ◌≤◌, length, map, true, OnOk, IfOk};
+ghost use Rattle.std.specs.Prelude.{◌≡◌, IfOk};
 ghost use Rattle.std.specs.Option.{option_map};
-ghost use Rattle.vh_nodes.specs.Fits.{is_unit};
 ghost use Rattle.vh_ast.specs.Views.{delay_tree, expr_tree, lv_tree, set_tree};
-ghost use Rattle.vh_bind.specs.declared.scope.Mode.TheVariants as mode;
-ghost use Rattle.vh_bind.specs.Nodes.{IsSound};
-ghost use Rattle.vh_bind_stmt.specs.Views.{surroundings_seen};
 ghost use Rattle.vh_lower.specs.Labels.{and_then, delayed_in};
 ghost use Rattle.vh_lower.specs.Making.{Makes};
 ghost use Rattle.vh_lower.specs.Statements.{set_parts, set_of, schedule_at, delayed_parts, scheduled_parts, scheduled_later, assign_labels};
-ghost use Rattle.vh_lower.specs.Views.{added_seen};
+ghost use Rattle.vh_lower.specs.Views.{Stands, Adds};
 
-use crate::added::Added;
-use crate::fault::LowerFault;
+use crate::added::Maker;
+use crate::fault::Lowered;
 use crate::labels::Operations;
 use crate::making::{delay_of, targets_of, value_of};
 use sqlite_items::Boxed as TreeBox;
 use std::alloc::Global;
 use vh_ast::{AssignWord, Delay, Expr, Lv, Set};
 use vh_base::{Boxed, ExprId, NoMemory, Sequence};
-use vh_bind_stmt::{Surroundings, targets_width};
+use vh_bind_stmt::targets_width;
 use vh_code::{Delay as Wait, Operation, Schedule, Targets};
 
 /// A label behind others.
@@ -71,162 +67,97 @@ fn delayed(
 }
 
 // A blocking assignment without a delay.
-fn set_parts(
-    alloc: Global,
-    around: &Surroundings,
-    added: &mut Added,
-    target: &Lv,
-    value: &Expr,
-) -> Result<Operations, LowerFault>
-    requires sound { IsSound mode.Value (surroundings_seen around.now).scope
-        (added_seen added.old).exprs }
-    requires unit { is_unit (surroundings_seen around.now).scope.precision
-        (surroundings_seen around.now).scope.unit ≡ true }
-    ensures made { Makes
-        (set_parts (surroundings_seen around.now) (lv_tree target.now) (expr_tree value.now)
-        (added_seen added.old))
-        result (added_seen added.new) }
-    ensures sound { OnOk result
-        (IsSound mode.Value (surroundings_seen around.now).scope (added_seen added.new).exprs) }
+fn set_parts(maker: &mut Maker, target: &Lv, value: &Expr) -> Lowered<Operations>
+    requires stands { Stands maker.old }
+    ensures { Adds (λ s a. Makes (set_parts s (lv_tree target.now) (expr_tree value.now) a))
+        maker.old result maker.new }
 {
-    let mut operations = Vec::new(alloc);
-    let targets = targets_of(alloc, around, added, &mut operations, target)?;
-    let value = value_of(alloc, around, added, &mut operations, value)?;
+    let mut operations = Vec::new(maker.alloc);
+    let targets = targets_of(maker, &mut operations, target)?;
+    let value = value_of(maker, &mut operations, value)?;
     Ok(and_then(operations, Operation::Assign { value, targets })?)
 }
 
 /// The same in a `for`.
-pub(crate) fn set_of(
-    alloc: Global,
-    around: &Surroundings,
-    added: &mut Added,
-    set: &Set,
-) -> Result<Operations, LowerFault>
-    requires sound { IsSound mode.Value (surroundings_seen around.now).scope
-        (added_seen added.old).exprs }
-    requires unit { is_unit (surroundings_seen around.now).scope.precision
-        (surroundings_seen around.now).scope.unit ≡ true }
-    ensures made { Makes
-        (set_of (surroundings_seen around.now) (set_tree set.now) (added_seen added.old))
-        result (added_seen added.new) }
-    ensures sound { OnOk result
-        (IsSound mode.Value (surroundings_seen around.now).scope (added_seen added.new).exprs) }
+pub(crate) fn set_of(maker: &mut Maker, set: &Set) -> Lowered<Operations>
+    requires stands { Stands maker.old }
+    ensures { Adds (λ s a. Makes (set_of s (set_tree set.now) a)) maker.old result maker.new }
 {
-    set_parts(alloc, around, added, &set.target, &set.value)
+    set_parts(maker, &set.target, &set.value)
 }
 
 // A blocking assignment with a delay.
-fn delayed_parts(
-    alloc: Global,
-    around: &Surroundings,
-    added: &mut Added,
-    target: &Lv,
-    delay: &Delay,
-    value: &Expr,
-) -> Result<Operations, LowerFault>
-    requires sound { IsSound mode.Value (surroundings_seen around.now).scope
-        (added_seen added.old).exprs }
-    requires unit { is_unit (surroundings_seen around.now).scope.precision
-        (surroundings_seen around.now).scope.unit ≡ true }
-    ensures made { Makes
-        (delayed_parts (surroundings_seen around.now) (lv_tree target.now) (delay_tree delay.now)
-        (expr_tree value.now) (added_seen added.old))
-        result (added_seen added.new) }
-    ensures sound { OnOk result
-        (IsSound mode.Value (surroundings_seen around.now).scope (added_seen added.new).exprs) }
+fn delayed_parts(maker: &mut Maker, target: &Lv, delay: &Delay, value: &Expr) -> Lowered<Operations>
+    requires stands { Stands maker.old }
+    ensures { Adds
+        (λ s a. Makes
+        (delayed_parts s (lv_tree target.now) (delay_tree delay.now) (expr_tree value.now) a))
+        maker.old result maker.new }
 {
-    let mut calls = Vec::new(alloc);
-    let targets = targets_of(alloc, around, added, &mut calls, target)?;
-    let mut operations = Vec::new(alloc);
-    let delay = delay_of(alloc, around, added, &mut operations, delay)?;
-    let value = value_of(alloc, around, added, &mut operations, value)?;
-    let width = targets_width(around.scope.objects, targets.as_slice());
+    let mut calls = Vec::new(maker.alloc);
+    let targets = targets_of(maker, &mut calls, target)?;
+    let mut operations = Vec::new(maker.alloc);
+    let delay = delay_of(maker, &mut operations, delay)?;
+    let value = value_of(maker, &mut operations, value)?;
+    let width = targets_width(maker.around.scope.objects, targets.as_slice());
     Ok(delayed(operations, calls, value, width, delay, targets)?)
 }
 
 // A nonblocking assignment without a delay.
-fn scheduled_parts(
-    alloc: Global,
-    around: &Surroundings,
-    added: &mut Added,
-    target: &Lv,
-    value: &Expr,
-) -> Result<Operations, LowerFault>
-    requires sound { IsSound mode.Value (surroundings_seen around.now).scope
-        (added_seen added.old).exprs }
-    requires unit { is_unit (surroundings_seen around.now).scope.precision
-        (surroundings_seen around.now).scope.unit ≡ true }
-    ensures made { Makes
-        (scheduled_parts (surroundings_seen around.now) (lv_tree target.now) (expr_tree value.now)
-        (added_seen added.old))
-        result (added_seen added.new) }
-    ensures sound { OnOk result
-        (IsSound mode.Value (surroundings_seen around.now).scope (added_seen added.new).exprs) }
+fn scheduled_parts(maker: &mut Maker, target: &Lv, value: &Expr) -> Lowered<Operations>
+    requires stands { Stands maker.old }
+    ensures { Adds (λ s a. Makes (scheduled_parts s (lv_tree target.now) (expr_tree value.now) a))
+        maker.old result maker.new }
 {
-    let mut operations = Vec::new(alloc);
-    let targets = targets_of(alloc, around, added, &mut operations, target)?;
-    let value = value_of(alloc, around, added, &mut operations, value)?;
-    let schedule = schedule_at(alloc, targets, value, None)?;
+    let mut operations = Vec::new(maker.alloc);
+    let targets = targets_of(maker, &mut operations, target)?;
+    let value = value_of(maker, &mut operations, value)?;
+    let schedule = schedule_at(maker.alloc, targets, value, None)?;
     Ok(and_then(operations, schedule)?)
 }
 
 // A nonblocking assignment with a delay.
 fn scheduled_later(
-    alloc: Global,
-    around: &Surroundings,
-    added: &mut Added,
+    maker: &mut Maker,
     target: &Lv,
     delay: &Delay,
     value: &Expr,
-) -> Result<Operations, LowerFault>
-    requires sound { IsSound mode.Value (surroundings_seen around.now).scope
-        (added_seen added.old).exprs }
-    requires unit { is_unit (surroundings_seen around.now).scope.precision
-        (surroundings_seen around.now).scope.unit ≡ true }
-    ensures made { Makes
-        (scheduled_later (surroundings_seen around.now) (lv_tree target.now) (delay_tree delay.now)
-        (expr_tree value.now) (added_seen added.old))
-        result (added_seen added.new) }
-    ensures sound { OnOk result
-        (IsSound mode.Value (surroundings_seen around.now).scope (added_seen added.new).exprs) }
+) -> Lowered<Operations>
+    requires stands { Stands maker.old }
+    ensures { Adds
+        (λ s a. Makes
+        (scheduled_later s (lv_tree target.now) (delay_tree delay.now) (expr_tree value.now) a))
+        maker.old result maker.new }
 {
-    let mut operations = Vec::new(alloc);
-    let targets = targets_of(alloc, around, added, &mut operations, target)?;
-    let delay = delay_of(alloc, around, added, &mut operations, delay)?;
-    let value = value_of(alloc, around, added, &mut operations, value)?;
-    let schedule = schedule_at(alloc, targets, value, Some(delay))?;
+    let mut operations = Vec::new(maker.alloc);
+    let targets = targets_of(maker, &mut operations, target)?;
+    let delay = delay_of(maker, &mut operations, delay)?;
+    let value = value_of(maker, &mut operations, value)?;
+    let schedule = schedule_at(maker.alloc, targets, value, Some(delay))?;
     Ok(and_then(operations, schedule)?)
 }
 
 /// An assignment, a row for each form (IEEE 1364-2005, 9.2).
 pub(crate) fn assign_labels(
-    alloc: Global,
-    around: &Surroundings,
-    added: &mut Added,
+    maker: &mut Maker,
     target: &Lv,
     word: AssignWord,
     delay: &Option<TreeBox<Delay>>,
     value: &Expr,
-) -> Result<Operations, LowerFault>
-    requires sound { IsSound mode.Value (surroundings_seen around.now).scope
-        (added_seen added.old).exprs }
-    requires unit { is_unit (surroundings_seen around.now).scope.precision
-        (surroundings_seen around.now).scope.unit ≡ true }
-    ensures made { Makes
-        (assign_labels (surroundings_seen around.now) (lv_tree target.now) word
-        (option_map delay_tree delay.now) (expr_tree value.now) (added_seen added.old))
-        result (added_seen added.new) }
-    ensures sound { OnOk result
-        (IsSound mode.Value (surroundings_seen around.now).scope (added_seen added.new).exprs) }
+) -> Lowered<Operations>
+    requires stands { Stands maker.old }
+    ensures { Adds
+        (λ s a. Makes
+        (assign_labels s (lv_tree target.now) word (option_map delay_tree delay.now)
+        (expr_tree value.now) a))
+        maker.old result maker.new }
 {
     match (word, delay) {
-        (AssignWord::Blocking, None) => set_parts(alloc, around, added, target, value),
-        (AssignWord::Blocking, Some(delay)) => {
-            delayed_parts(alloc, around, added, target, delay.get(), value)
-        }
-        (AssignWord::Nonblocking, None) => scheduled_parts(alloc, around, added, target, value),
+        (AssignWord::Blocking, None) => set_parts(maker, target, value),
+        (AssignWord::Blocking, Some(delay)) => { delayed_parts(maker, target, delay.get(), value) }
+        (AssignWord::Nonblocking, None) => scheduled_parts(maker, target, value),
         (AssignWord::Nonblocking, Some(delay)) => {
-            scheduled_later(alloc, around, added, target, delay.get(), value)
+            scheduled_later(maker, target, delay.get(), value)
         }
     }
 }

@@ -4,10 +4,10 @@ ghost use Rattle.vh_flow.specs.Views.{flow_tree};
 ghost use Rattle.vh_bind_stmt.specs.Views.{surroundings_seen};
 ghost use Rattle.vh_lower.specs.Making.{Makes};
 ghost use Rattle.vh_lower.specs.Statements.{block_number, block_of, block_of_row, block_named, block_scope, joined, named_block};
-ghost use Rattle.vh_lower.specs.Views.{added_seen, flows_seen};
+ghost use Rattle.vh_lower.specs.Views.{flows_seen, Stands, Adds, Finds};
 
-use crate::added::Added;
-use crate::fault::LowerFault;
+use crate::added::Maker;
+use crate::fault::{LowerFault, Lowered};
 use crate::labels::in_row;
 use crate::making::{numbered, scope_of};
 use crate::objects::meant_object;
@@ -22,20 +22,13 @@ use vh_flow::{Flow, FlowForm, Mark};
 use vh_nodes::is_named_block_at;
 
 /// The number of a `fork`; a `begin` is no statement and has none.
-pub(crate) fn block_number(
-    added: &mut Added,
-    word: BlockWord,
-    around: &Surroundings,
-    place: Place,
-) -> Result<u32, LowerFault>
-    ensures made { Makes (block_number word (surroundings_seen around.now) place
-        (added_seen added.old))
-        result (added_seen added.new) }
-    ensures exprs { (added_seen added.new).exprs ≡ (added_seen added.old).exprs }
+pub(crate) fn block_number(maker: &mut Maker, word: BlockWord, place: Place) -> Lowered<u32>
+    requires stands { Stands maker.old }
+    ensures { Adds (λ s a. Makes (block_number word s place a)) maker.old result maker.new }
 {
     match word {
         BlockWord::Begin => Ok(0),
-        BlockWord::Fork => numbered(added, StmtKind::Fork, around, place),
+        BlockWord::Fork => numbered(maker, StmtKind::Fork, place),
     }
 }
 
@@ -51,32 +44,26 @@ fn block_of(around: &Surroundings, id: &Id) -> Result<Option<ObjId>, ElabFault>
 }
 
 // The named block.
-fn block_named(around: &Surroundings, added: &Added, id: &Id) -> Result<ObjId, LowerFault>
-    ensures { Makes (block_named (surroundings_seen around.now) id.now (added_seen added.now))
-        result (added_seen added.now) }
+fn block_named(maker: &Maker, id: &Id) -> Lowered<ObjId>
+    ensures { Finds (λ s a. Makes (block_named s id.now a)) maker.now result }
 {
-    let Some(object) = block_of(around, id)? else {
+    let Some(object) = block_of(maker.around, id)? else {
         return Err(LowerFault::PassedOver);
     };
-    if !is_named_block_at(around.scope.objects, object) {
+    if !is_named_block_at(maker.around.scope.objects, object) {
         return Err(LowerFault::Refused(DesignFault::N1, id.place));
     }
     Ok(object)
 }
 
 /// The scope of a named block.
-pub(crate) fn block_scope(
-    around: &Surroundings,
-    added: &Added,
-    id: &Option<Id>,
-) -> Result<Option<ObjId>, LowerFault>
-    ensures { Makes (block_scope (surroundings_seen around.now) id.now (added_seen added.now))
-        result (added_seen added.now) }
+pub(crate) fn block_scope(maker: &Maker, id: &Option<Id>) -> Lowered<Option<ObjId>>
+    ensures { Finds (λ s a. Makes (block_scope s id.now a)) maker.now result }
 {
     match id {
         None => Ok(None),
         Some(id) => {
-            let object = block_named(around, added, id)?;
+            let object = block_named(maker, id)?;
             Ok(Some(object))
         }
     }

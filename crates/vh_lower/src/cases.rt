@@ -1,24 +1,18 @@
-ghost use Rattle.std.specs.Prelude.{◌≡◌, [], ◌∷◌, ◌++◌, map, true, IfOk, OnOk};
-ghost use Rattle.vh_nodes.specs.Fits.{is_unit};
-ghost use Rattle.vh_nodes.specs.Widths.{width_of, signed_of, widest, all_signed};
+ghost use Rattle.std.specs.Prelude.{◌≡◌, [], ◌∷◌, ◌++◌, map, IfOk, OnOk};
+ghost use Rattle.vh_nodes.specs.Widths.{widest, all_signed};
 ghost use Rattle.vh_ast.specs.Views.{expr_tree};
-ghost use Rattle.vh_bind.specs.declared.scope.Mode.TheVariants as mode;
-ghost use Rattle.vh_bind.specs.Nodes.{IsSound};
-ghost use Rattle.vh_bind_stmt.specs.Views.{surroundings_seen};
 ghost use Rattle.vh_flow.specs.Views.{flow_tree, item_tree};
-ghost use Rattle.vh_lower.specs.Making.{Makes};
 ghost use Rattle.vh_lower.specs.Statements.{case_kind, case_head, case_with, case_tree, no_cases, or_nothing, with_item, with_default, values_of};
-ghost use Rattle.vh_lower.specs.Views.{added_seen, cases_seen, flows_seen, Performs};
+ghost use Rattle.vh_lower.specs.Views.{cases_seen, flows_seen, Performs, Stands, Adds};
 
-use crate::added::Added;
-use crate::fault::LowerFault;
+use crate::added::Maker;
+use crate::fault::Lowered;
 use crate::labels::{Operations, add_first, in_row, is_empty, nothing};
 use crate::making::value_of;
 use sqlite_items::{Boxed, Items};
 use std::alloc::Global;
 use vh_ast::{CaseWord, Expr};
 use vh_base::{ExprId, NoMemory, Sequence};
-use vh_bind_stmt::Surroundings;
 use vh_code::{CaseKind, Operation};
 use vh_flow::{CaseHead, CaseItem, Flow, FlowForm, Mark};
 use vh_nodes::{ExprIds, ExprNode, signed_of, width_of};
@@ -158,26 +152,19 @@ pub(crate) fn case_flow(
 
 /// The labels of one statement, with the calls that they make behind those before.
 pub(crate) fn values_of(
-    alloc: Global,
-    around: &Surroundings,
-    added: &mut Added,
+    maker: &mut Maker,
     calls: &mut Vec<Operation>,
     values: &[Expr],
-) -> Result<ExprIds, LowerFault>
-    requires sound { IsSound mode.Value (surroundings_seen around.now).scope
-        (added_seen added.old).exprs }
-    requires unit { is_unit (surroundings_seen around.now).scope.precision
-        (surroundings_seen around.now).scope.unit ≡ true }
-    ensures made { Performs
-        (values_of (surroundings_seen around.now) [] calls.old.items (map expr_tree values.now)
-        (added_seen added.old))
-        result calls.new.items (added_seen added.new) }
-    ensures sound { OnOk result
-        (IsSound mode.Value (surroundings_seen around.now).scope (added_seen added.new).exprs) }
+) -> Lowered<ExprIds>
+    requires stands { Stands maker.old }
+    ensures { Adds
+        (λ s a. Performs (values_of s [] calls.old.items (map expr_tree values.now) a)
+        calls.new.items)
+        maker.old result maker.new }
 {
-    let mut numbers = Vec::new(alloc);
+    let mut numbers = Vec::new(maker.alloc);
     for value in values {
-        let number = value_of(alloc, around, added, calls, value)?;
+        let number = value_of(maker, calls, value)?;
         add_number(&mut numbers, number)?;
     }
     Ok(Sequence::new(numbers))

@@ -1,19 +1,13 @@
-ghost use Rattle.std.specs.Prelude.{◌≡◌, [], ◌∷◌, ◌++◌, map, length, true, IfOk, OnOk};
-ghost use Rattle.std.specs.Option.{option_map};
-ghost use Rattle.vh_nodes.specs.Fits.{is_unit};
 ghost use Rattle.vh_ast.specs.Views.{event_tree};
-ghost use Rattle.vh_bind.specs.declared.scope.Mode.TheVariants as mode;
-ghost use Rattle.vh_bind.specs.Nodes.{IsSound};
-ghost use Rattle.vh_bind_stmt.specs.Views.{surroundings_seen};
 ghost use Rattle.vh_bind.specs.Steps.{Gives};
 ghost use Rattle.vh_bind.specs.Views.{scope_seen};
 ghost use Rattle.vh_bind.specs.Scopes.{here};
 ghost use Rattle.vh_lower.specs.Making.{Makes};
 ghost use Rattle.vh_lower.specs.Statements.{listed_terms, waited_terms, event_front};
-ghost use Rattle.vh_lower.specs.Views.{added_seen};
+ghost use Rattle.vh_lower.specs.Views.{Stands, Adds, Finds};
 
-use crate::added::Added;
-use crate::fault::LowerFault;
+use crate::added::Maker;
+use crate::fault::{LowerFault, Lowered};
 use crate::heads::Front;
 use crate::making::{numbered, with_wait};
 use crate::simple::one_pause;
@@ -21,7 +15,7 @@ use std::alloc::Global;
 use vh_ast::Event;
 use vh_base::{Place, Sequence};
 use vh_bind::{ElabFault, Scope};
-use vh_bind_stmt::{Surroundings, all_terms, name_terms};
+use vh_bind_stmt::{all_terms, name_terms};
 use vh_code::{Pause, StmtKind, Terms};
 use vh_nodes::ExprNode;
 use vh_scope::Top;
@@ -58,44 +52,24 @@ fn listed_terms(
 }
 
 // They, where they aren't passed over.
-fn waited_terms(
-    alloc: Global,
-    around: &Surroundings,
-    added: &Added,
-    event: &Event,
-) -> Result<Terms, LowerFault>
-    ensures { Makes (waited_terms (surroundings_seen around.now) (event_tree event.now)
-        (added_seen added.now))
-        result (added_seen added.now) }
+fn waited_terms(maker: &Maker, event: &Event) -> Lowered<Terms>
+    ensures { Finds (λ s a. Makes (waited_terms s (event_tree event.now) a)) maker.now result }
 {
-    match listed_terms(alloc, around.scope, &added.exprs, event)? {
+    match listed_terms(maker.alloc, maker.around.scope, &maker.added.exprs, event)? {
         None => Err(LowerFault::PassedOver),
         Some(terms) => Ok(terms),
     }
 }
 
 /// An event control before a statement.
-pub(crate) fn event_front(
-    alloc: Global,
-    around: &Surroundings,
-    added: &mut Added,
-    place: Place,
-    event: &Event,
-) -> Result<Front, LowerFault>
-    requires sound { IsSound mode.Value (surroundings_seen around.now).scope
-        (added_seen added.old).exprs }
-    requires unit { is_unit (surroundings_seen around.now).scope.precision
-        (surroundings_seen around.now).scope.unit ≡ true }
-    ensures made { Makes
-        (event_front (surroundings_seen around.now) place (event_tree event.now)
-        (added_seen added.old))
-        result (added_seen added.new) }
-    ensures sound { OnOk result
-        (IsSound mode.Value (surroundings_seen around.now).scope (added_seen added.new).exprs) }
+pub(crate) fn event_front(maker: &mut Maker, place: Place, event: &Event) -> Lowered<Front>
+    requires stands { Stands maker.old }
+    ensures { Adds (λ s a. Makes (event_front s place (event_tree event.now) a))
+        maker.old result maker.new }
 {
-    let number = numbered(added, StmtKind::EventControl, around, place)?;
-    let terms = waited_terms(alloc, around, added, event)?;
-    let wait = with_wait(added, terms)?;
-    let labels = one_pause(alloc, Pause::Await(wait))?;
+    let number = numbered(maker, StmtKind::EventControl, place)?;
+    let terms = waited_terms(maker, event)?;
+    let wait = with_wait(maker.added, terms)?;
+    let labels = one_pause(maker.alloc, Pause::Await(wait))?;
     Ok(Front { number, labels })
 }

@@ -17,6 +17,9 @@ pub enum LowerFault {
     NoMemory,
 }
 
+/// What is made of a part of a statement, or why it could not be made.
+pub type Lowered<T> = Result<T, LowerFault>;
+
 impl From<NoMemory> for LowerFault {
     ghost use Rattle.vh_lower.specs.declared.fault.LowerFault.TheVariants.{NoMemory};
 

@@ -1,131 +1,91 @@
-ghost use Rattle.std.specs.Prelude.{◌≡◌, ◌<◌, ◌≤◌, length, true, IfOk, OnOk};
-ghost use Rattle.vh_nodes.specs.Fits.{is_unit};
+ghost use Rattle.std.specs.Prelude.{◌≡◌, ◌<◌, ◌≤◌, length, IfOk, OnOk};
 ghost use Rattle.vh_ast.specs.Views.{delay_tree, expr_tree, lv_tree};
-ghost use Rattle.vh_bind.specs.declared.scope.Mode.TheVariants as mode;
-ghost use Rattle.vh_bind.specs.Nodes.{IsSound};
 ghost use Rattle.vh_bind_stmt.specs.Views.{surroundings_seen};
-ghost use Rattle.vh_lower.specs.Making.{Makes, numbered, scope_of, reading_from, with_show, with_wait};
+ghost use Rattle.vh_lower.specs.Making.{Makes, numbered, scope_of, reading_from, with_show, with_wait, called_behind};
 ghost use Rattle.vh_lower.specs.Statements.{value_of, targets_of, delay_of, output_of};
-ghost use Rattle.vh_lower.specs.Views.{added_seen, Performs};
+ghost use Rattle.vh_lower.specs.Views.{added_seen, Performs, Stands, Adds, Finds, added_of};
 
-use crate::added::Added;
-use crate::fault::LowerFault;
+use crate::added::{Added, Maker};
+use crate::fault::{LowerFault, Lowered};
 use std::alloc::Global;
 use vh_ast::{Delay, Expr, Lv};
-use vh_base::{ExprId, NoMemory, ObjId, Place, Sequence, ShowId, WaitId};
+use vh_base::{ExprId, NoMemory, ObjId, Place, ShowId, WaitId};
 use vh_bind_expr::bind_expr;
 use vh_bind_stmt::{Surroundings, add_calls, bind_delay, bind_output, bind_targets, reads_of};
 use vh_code::{Delay as Wait, Operation, ShowCall, StmtInfo, StmtKind, Targets, Terms, WaitInfo};
 
-/// A value, with the calls that it makes.
-pub fn value_of(
-    alloc: Global,
-    around: &Surroundings,
-    added: &mut Added,
-    operations: &mut Vec<Operation>,
-    e: &Expr,
-) -> Result<ExprId, LowerFault>
-    requires sound { IsSound mode.Value (surroundings_seen around.now).scope
-        (added_seen added.old).exprs }
-    requires unit { is_unit (surroundings_seen around.now).scope.precision
-        (surroundings_seen around.now).scope.unit ≡ true }
-    ensures made { Performs
-        (value_of (surroundings_seen around.now) operations.old.items (expr_tree e.now)
-        (added_seen added.old))
-        result operations.new.items (added_seen added.new) }
-    ensures sound { OnOk result
-        (IsSound mode.Value (surroundings_seen around.now).scope (added_seen added.new).exprs) }
-    ensures below { IfOk result (λ e. e < length (added_seen added.new).exprs) }
-    ensures grows { OnOk result
-        (length (added_seen added.old).exprs ≤ length (added_seen added.new).exprs) }
+/// What was bound, with the calls that are made from one expression on, where it isn't passed over.
+pub fn with_calls<T: Drop>(
+    maker: &Maker,
+    calls: &mut Vec<Operation>,
+    from: usize,
+    found: Option<T>,
+) -> Lowered<T>
+    ensures { Finds
+        (λ s a. Performs (called_behind s calls.old.items from found a) calls.new.items)
+        maker.now result }
 {
-    let from = added.exprs.len();
-    let Some(value) = bind_expr(alloc, &mut added.exprs, around.scope, e)? else {
+    let Some(found) = found else {
         return Err(LowerFault::PassedOver);
     };
-    add_calls(alloc, around, operations, &added.exprs, from)?;
-    Ok(value)
+    add_calls(maker.alloc, maker.around, calls, &maker.added.exprs, from)?;
+    Ok(found)
+}
+
+/// A value, with the calls that it makes.
+pub fn value_of(maker: &mut Maker, calls: &mut Vec<Operation>, e: &Expr) -> Lowered<ExprId>
+    requires stands { Stands maker.old }
+    ensures made { Adds
+        (λ s a. Performs (value_of s calls.old.items (expr_tree e.now) a) calls.new.items)
+        maker.old result maker.new }
+    ensures below { IfOk result (λ e. e < length (added_of maker.new).exprs) }
+    ensures grows { OnOk result
+        (length (added_of maker.old).exprs ≤ length (added_of maker.new).exprs) }
+{
+    let from = maker.added.exprs.len();
+    let found = bind_expr(maker.alloc, &mut maker.added.exprs, maker.around.scope, e)?;
+    with_calls(maker, calls, from, found)
 }
 
 /// The left side of an assignment, with the calls that it makes.
-pub(crate) fn targets_of(
-    alloc: Global,
-    around: &Surroundings,
-    added: &mut Added,
-    operations: &mut Vec<Operation>,
-    lv: &Lv,
-) -> Result<Targets, LowerFault>
-    requires sound { IsSound mode.Value (surroundings_seen around.now).scope
-        (added_seen added.old).exprs }
-    requires unit { is_unit (surroundings_seen around.now).scope.precision
-        (surroundings_seen around.now).scope.unit ≡ true }
-    ensures made { Performs
-        (targets_of (surroundings_seen around.now) operations.old.items (lv_tree lv.now)
-        (added_seen added.old))
-        result operations.new.items (added_seen added.new) }
-    ensures sound { OnOk result
-        (IsSound mode.Value (surroundings_seen around.now).scope (added_seen added.new).exprs) }
+pub(crate) fn targets_of(maker: &mut Maker, calls: &mut Vec<Operation>, lv: &Lv) -> Lowered<Targets>
+    requires stands { Stands maker.old }
+    ensures { Adds
+        (λ s a. Performs (targets_of s calls.old.items (lv_tree lv.now) a) calls.new.items)
+        maker.old result maker.new }
 {
-    let from = added.exprs.len();
-    let Some(targets) = bind_targets(alloc, around.scope, &mut added.exprs, lv)? else {
-        return Err(LowerFault::PassedOver);
-    };
-    add_calls(alloc, around, operations, &added.exprs, from)?;
-    Ok(targets)
+    let from = maker.added.exprs.len();
+    let found = bind_targets(maker.alloc, maker.around.scope, &mut maker.added.exprs, lv)?;
+    with_calls(maker, calls, from, found)
 }
 
 /// A delay, with the calls that it makes.
-pub fn delay_of(
-    alloc: Global,
-    around: &Surroundings,
-    added: &mut Added,
-    operations: &mut Vec<Operation>,
-    delay: &Delay,
-) -> Result<Wait, LowerFault>
-    requires sound { IsSound mode.Value (surroundings_seen around.now).scope
-        (added_seen added.old).exprs }
-    requires unit { is_unit (surroundings_seen around.now).scope.precision
-        (surroundings_seen around.now).scope.unit ≡ true }
-    ensures made { Performs
-        (delay_of (surroundings_seen around.now) operations.old.items (delay_tree delay.now)
-        (added_seen added.old))
-        result operations.new.items (added_seen added.new) }
-    ensures sound { OnOk result
-        (IsSound mode.Value (surroundings_seen around.now).scope (added_seen added.new).exprs) }
+pub fn delay_of(maker: &mut Maker, calls: &mut Vec<Operation>, delay: &Delay) -> Lowered<Wait>
+    requires stands { Stands maker.old }
+    ensures { Adds
+        (λ s a. Performs (delay_of s calls.old.items (delay_tree delay.now) a) calls.new.items)
+        maker.old result maker.new }
 {
-    let from = added.exprs.len();
-    let Some(wait) = bind_delay(alloc, around.scope, &mut added.exprs, delay)? else {
-        return Err(LowerFault::PassedOver);
-    };
-    add_calls(alloc, around, operations, &added.exprs, from)?;
-    Ok(wait)
+    let from = maker.added.exprs.len();
+    let found = bind_delay(
+        maker.alloc,
+        maker.around.scope,
+        &mut maker.added.exprs,
+        delay,
+    )?;
+    with_calls(maker, calls, from, found)
 }
 
 /// An output of a task, with the calls that it makes.
-pub(crate) fn output_of(
-    alloc: Global,
-    around: &Surroundings,
-    added: &mut Added,
-    operations: &mut Vec<Operation>,
-    e: &Expr,
-) -> Result<Targets, LowerFault>
-    requires sound { IsSound mode.Value (surroundings_seen around.now).scope
-        (added_seen added.old).exprs }
-    requires unit { is_unit (surroundings_seen around.now).scope.precision
-        (surroundings_seen around.now).scope.unit ≡ true }
-    ensures made { Performs
-        (output_of (surroundings_seen around.now) operations.old.items (expr_tree e.now)
-        (added_seen added.old))
-        result operations.new.items (added_seen added.new) }
-    ensures sound { OnOk result
-        (IsSound mode.Value (surroundings_seen around.now).scope (added_seen added.new).exprs) }
+pub(crate) fn output_of(maker: &mut Maker, calls: &mut Vec<Operation>, e: &Expr) -> Lowered<Targets>
+    requires stands { Stands maker.old }
+    ensures { Adds
+        (λ s a. Performs (output_of s calls.old.items (expr_tree e.now) a) calls.new.items)
+        maker.old result maker.new }
 {
-    let from = added.exprs.len();
-    let Some(targets) = bind_output(alloc, around.scope, &mut added.exprs, e)? else {
-        return Err(LowerFault::PassedOver);
-    };
-    add_calls(alloc, around, operations, &added.exprs, from)?;
-    Ok(targets)
+    let from = maker.added.exprs.len();
+    let found = bind_output(maker.alloc, maker.around.scope, &mut maker.added.exprs, e)?;
+    with_calls(maker, calls, from, found)
 }
 
 /// The scope that a statement stands in.
@@ -139,21 +99,15 @@ pub(crate) fn scope_of(around: &Surroundings) -> ObjId
 }
 
 /// One statement more, under the next number.
-pub(crate) fn numbered(
-    added: &mut Added,
-    kind: StmtKind,
-    around: &Surroundings,
-    place: Place,
-) -> Result<u32, LowerFault>
-    ensures made { Makes (numbered kind (surroundings_seen around.now) place (added_seen added.old))
-        result (added_seen added.new) }
-    ensures exprs { (added_seen added.new).exprs ≡ (added_seen added.old).exprs }
+pub(crate) fn numbered(maker: &mut Maker, kind: StmtKind, place: Place) -> Lowered<u32>
+    requires stands { Stands maker.old }
+    ensures { Adds (λ s a. Makes (numbered kind s place a)) maker.old result maker.new }
 {
-    let Ok(number) = u32::try_from(added.stmts.len()) else {
+    let Ok(number) = u32::try_from(maker.added.stmts.len()) else {
         return Err(LowerFault::NoMemory);
     };
-    let scope = scope_of(around);
-    let Ok(()) = added.stmts.push(StmtInfo { kind, scope, place }) else {
+    let scope = scope_of(maker.around);
+    let Ok(()) = maker.added.stmts.push(StmtInfo { kind, scope, place }) else {
         return Err(LowerFault::NoMemory);
     };
     Ok(number)

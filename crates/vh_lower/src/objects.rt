@@ -1,25 +1,23 @@
 ghost use Rattle.std.specs.Prelude.{◌≡◌};
-ghost use Rattle.vh_base.specs.declared.faults.DesignFault.TheVariants.{N1, N5};
 ghost use Rattle.vh_nodes.specs.Fits.{has_kind};
 ghost use Rattle.vh_nodes.specs.Kinds.{is_event, is_disable_target};
-ghost use Rattle.vh_ast.specs.Views.{lv_tree, lv_part_tree, name_tree, sel_tree};
+ghost use Rattle.vh_ast.specs.Views.{lv_tree, name_tree, sel_tree};
 ghost use Rattle.vh_bind.specs.Steps.{Gives};
 ghost use Rattle.vh_bind.specs.Scopes.{here};
 ghost use Rattle.vh_bind.specs.Views.{scope_seen};
-ghost use Rattle.vh_bind_stmt.specs.Views.{surroundings_seen};
 ghost use Rattle.vh_lower.specs.Making.{Makes};
-ghost use Rattle.vh_lower.specs.Statements.{meant_object, object_named, named_object, object_of, is_whole, whole_row, whole_parts, whole_named, whole_looked, whole_object, force_kinds, release_kinds, is_task, task_counted, task_of};
-ghost use Rattle.vh_lower.specs.Views.{added_seen};
+ghost use Rattle.vh_lower.specs.Statements.{meant_object, object_named, named_object, object_of, whole_row, whole_named, whole_looked, whole_object, force_kinds, release_kinds, is_task, task_of};
+ghost use Rattle.vh_lower.specs.Views.{Finds};
 
-use crate::added::Added;
-use crate::fault::LowerFault;
+use crate::added::Maker;
+use crate::fault::{LowerFault, Lowered};
 use sqlite_items::Boxed;
 use std::alloc::Global;
 use vh_ast::{Expr, ForceWord, Lv, LvPart, Name, ReleaseWord, Sel};
 use vh_base::{DesignFault, ObjId, Place};
 use vh_bind::{ElabFault, Readable, Scope, meaning};
 use vh_bind_expr::name_read;
-use vh_bind_stmt::{Surroundings, arguments_of, object_meant};
+use vh_bind_stmt::{arguments_of, object_meant};
 use vh_nodes::{
     ExprNode, Kind, ObjectInfo, is_disable_target_at, is_event_at, is_forcible_at, is_variable_at,
 };
@@ -46,19 +44,11 @@ fn object_named(place: Place, meaning: Option<Meaning>) -> Result<Option<ObjId>,
 }
 
 /// The object that a name stands for.
-pub(crate) fn named_object(
-    alloc: Global,
-    around: &Surroundings,
-    added: &Added,
-    is_call: bool,
-    name: &Name<Expr>,
-) -> Result<ObjId, LowerFault>
-    ensures { Makes
-        (named_object (surroundings_seen around.now) is_call (name_tree name.now)
-        (added_seen added.now))
-        result (added_seen added.now) }
+pub(crate) fn named_object(maker: &Maker, is_call: bool, name: &Name<Expr>) -> Lowered<ObjId>
+    ensures { Finds (λ s a. Makes (named_object s is_call (name_tree name.now) a))
+        maker.now result }
 {
-    let scope = around.scope;
+    let scope = maker.around.scope;
     let here = Scope {
         names: scope.names,
         around: scope.around,
@@ -68,12 +58,12 @@ pub(crate) fn named_object(
         },
         genvars: scope.genvars,
         objects: scope.objects,
-        exprs: &added.exprs,
+        exprs: &maker.added.exprs,
         routines: scope.routines,
         unit: scope.unit,
         precision: scope.precision,
     };
-    let meaning = meaning(alloc, &here, name, is_call)?;
+    let meaning = meaning(maker.alloc, &here, name, is_call)?;
     match object_named(name.first.id.place, meaning)? {
         None => Err(LowerFault::PassedOver),
         Some(object) => Ok(object),
@@ -81,38 +71,23 @@ pub(crate) fn named_object(
 }
 
 /// A named event.
-pub(crate) fn event_of(
-    alloc: Global,
-    around: &Surroundings,
-    added: &Added,
-    name: &Name<Expr>,
-) -> Result<ObjId, LowerFault>
-    ensures { Makes
-        (object_of (surroundings_seen around.now) (name_tree name.now) is_event
-        (added_seen added.now))
-        result (added_seen added.now) }
+pub(crate) fn event_of(maker: &Maker, name: &Name<Expr>) -> Lowered<ObjId>
+    ensures { Finds (λ s a. Makes (object_of s (name_tree name.now) is_event a)) maker.now result }
 {
-    let object = named_object(alloc, around, added, false, name)?;
-    if !is_event_at(around.scope.objects, object) {
+    let object = named_object(maker, false, name)?;
+    if !is_event_at(maker.around.scope.objects, object) {
         return Err(LowerFault::Refused(DesignFault::N1, name.first.id.place));
     }
     Ok(object)
 }
 
 /// A named block or a task.
-pub(crate) fn disable_target_of(
-    alloc: Global,
-    around: &Surroundings,
-    added: &Added,
-    name: &Name<Expr>,
-) -> Result<ObjId, LowerFault>
-    ensures { Makes
-        (object_of (surroundings_seen around.now) (name_tree name.now) is_disable_target
-        (added_seen added.now))
-        result (added_seen added.now) }
+pub(crate) fn disable_target_of(maker: &Maker, name: &Name<Expr>) -> Lowered<ObjId>
+    ensures { Finds (λ s a. Makes (object_of s (name_tree name.now) is_disable_target a))
+        maker.now result }
 {
-    let object = named_object(alloc, around, added, false, name)?;
-    if !is_disable_target_at(around.scope.objects, object) {
+    let object = named_object(maker, false, name)?;
+    if !is_disable_target_at(maker.around.scope.objects, object) {
         return Err(LowerFault::Refused(DesignFault::N1, name.first.id.place));
     }
     Ok(object)
@@ -160,17 +135,10 @@ fn whole_parts(
 }
 
 // The same, where it is no fault and isn't passed over.
-fn whole_object(
-    alloc: Global,
-    around: &Surroundings,
-    added: &Added,
-    target: &Lv,
-) -> Result<ObjId, LowerFault>
-    ensures { Makes
-        (whole_looked (surroundings_seen around.now) (lv_tree target.now) (added_seen added.now))
-        result (added_seen added.now) }
+fn whole_object(maker: &Maker, target: &Lv) -> Lowered<ObjId>
+    ensures { Finds (λ s a. Makes (whole_looked s (lv_tree target.now) a)) maker.now result }
 {
-    match whole_parts(alloc, around.scope, &added.exprs, target)? {
+    match whole_parts(maker.alloc, maker.around.scope, &maker.added.exprs, target)? {
         None => Err(LowerFault::PassedOver),
         Some(object) => Ok(object),
     }
@@ -197,40 +165,24 @@ fn takes_release(objects: &[ObjectInfo], word: ReleaseWord, object: ObjId) -> bo
 }
 
 /// What a `force` or an `assign` changes.
-pub(crate) fn forced_of(
-    alloc: Global,
-    around: &Surroundings,
-    added: &Added,
-    word: ForceWord,
-    target: &Lv,
-) -> Result<ObjId, LowerFault>
-    ensures { Makes
-        (whole_object (surroundings_seen around.now) (lv_tree target.now) (force_kinds word)
-        (added_seen added.now))
-        result (added_seen added.now) }
+pub(crate) fn forced_of(maker: &Maker, word: ForceWord, target: &Lv) -> Lowered<ObjId>
+    ensures { Finds (λ s a. Makes (whole_object s (lv_tree target.now) (force_kinds word) a))
+        maker.now result }
 {
-    let object = whole_object(alloc, around, added, target)?;
-    if !takes_force(around.scope.objects, word, object) {
+    let object = whole_object(maker, target)?;
+    if !takes_force(maker.around.scope.objects, word, object) {
         return Err(LowerFault::Refused(DesignFault::N5, target.place));
     }
     Ok(object)
 }
 
 /// What a `release` or a `deassign` changes.
-pub(crate) fn released_of(
-    alloc: Global,
-    around: &Surroundings,
-    added: &Added,
-    word: ReleaseWord,
-    target: &Lv,
-) -> Result<ObjId, LowerFault>
-    ensures { Makes
-        (whole_object (surroundings_seen around.now) (lv_tree target.now) (release_kinds word)
-        (added_seen added.now))
-        result (added_seen added.now) }
+pub(crate) fn released_of(maker: &Maker, word: ReleaseWord, target: &Lv) -> Lowered<ObjId>
+    ensures { Finds (λ s a. Makes (whole_object s (lv_tree target.now) (release_kinds word) a))
+        maker.now result }
 {
-    let object = whole_object(alloc, around, added, target)?;
-    if !takes_release(around.scope.objects, word, object) {
+    let object = whole_object(maker, target)?;
+    if !takes_release(maker.around.scope.objects, word, object) {
         return Err(LowerFault::Refused(DesignFault::N5, target.place));
     }
     Ok(object)
@@ -246,23 +198,15 @@ fn is_task_at(objects: &[ObjectInfo], object: ObjId) -> bool
 }
 
 /// The task that is called with so many arguments.
-pub(crate) fn task_of(
-    alloc: Global,
-    around: &Surroundings,
-    added: &Added,
-    name: &Name<Expr>,
-    count: usize,
-) -> Result<ObjId, LowerFault>
-    ensures { Makes
-        (task_of (surroundings_seen around.now) (name_tree name.now) count (added_seen added.now))
-        result (added_seen added.now) }
+pub(crate) fn task_of(maker: &Maker, name: &Name<Expr>, count: usize) -> Lowered<ObjId>
+    ensures { Finds (λ s a. Makes (task_of s (name_tree name.now) count a)) maker.now result }
 {
     let place = name.first.id.place;
-    let task = named_object(alloc, around, added, true, name)?;
-    if !is_task_at(around.scope.objects, task) {
+    let task = named_object(maker, true, name)?;
+    if !is_task_at(maker.around.scope.objects, task) {
         return Err(LowerFault::Refused(DesignFault::N1, place));
     }
-    if count != arguments_of(around, task).len() {
+    if count != arguments_of(maker.around, task).len() {
         return Err(LowerFault::Refused(DesignFault::N7, place));
     }
     Ok(task)

@@ -1,28 +1,23 @@
 ghost use Rattle.std.specs.Prelude.{◌≡◌, ◌++◌, true, IfOk, OnOk};
 ghost use Rattle.std.specs.Option.{option_map};
-ghost use Rattle.vh_nodes.specs.Fits.{is_unit};
 ghost use Rattle.vh_ast.specs.Views.{delay_tree, expr_tree};
-ghost use Rattle.vh_bind.specs.declared.scope.Mode.TheVariants as mode;
-ghost use Rattle.vh_bind.specs.Nodes.{IsSound};
-ghost use Rattle.vh_bind_stmt.specs.Views.{surroundings_seen};
 ghost use Rattle.vh_flow.specs.declared.code_kind.CodeKind.TheVariants as of;
 ghost use Rattle.vh_flow.specs.Places.{is_closed};
 ghost use Rattle.vh_flow.specs.Views.{flow_tree};
 ghost use Rattle.vh_lower.specs.Labels;
 ghost use Rattle.vh_lower.specs.Making.{Makes};
 ghost use Rattle.vh_lower.specs.Processes.{plain_label, plain_labels, plain_code, initial_labels, initial_code, drive_at, drive_behind, drive_labels, drive_code};
-ghost use Rattle.vh_lower.specs.Views.{added_seen, flows_seen};
+ghost use Rattle.vh_lower.specs.Views.{flows_seen, Stands, Adds};
 
-use crate::added::Added;
+use crate::added::Maker;
 use crate::assignments::and_then;
-use crate::fault::LowerFault;
+use crate::fault::Lowered;
 use crate::labels::{Operations, in_row};
 use crate::making::{delay_of, reading_from, value_of};
 use sqlite_items::{Boxed as TreeBox, Items};
 use std::alloc::Global;
 use vh_ast::{Delay, Expr};
 use vh_base::{Boxed, ExprId, NoMemory, ObjId, WaitId};
-use vh_bind_stmt::Surroundings;
 use vh_code::{Code, Delay as Wait, Drive, DriverIds, Operation};
 use vh_flow::{CodeKind, Flow, FlowForm, Mark, Step, code_of};
 
@@ -58,73 +53,34 @@ fn plain_code(alloc: Global, kind: CodeKind, operations: Operations) -> Result<C
 }
 
 // The labels of a declared initial value.
-fn initial_labels(
-    alloc: Global,
-    around: &Surroundings,
-    added: &mut Added,
-    object: ObjId,
-    value: &Expr,
-) -> Result<Operations, LowerFault>
-    requires sound { IsSound mode.Value (surroundings_seen around.now).scope
-        (added_seen added.old).exprs }
-    requires unit { is_unit (surroundings_seen around.now).scope.precision
-        (surroundings_seen around.now).scope.unit ≡ true }
-    ensures made { Makes
-        (initial_labels (surroundings_seen around.now) object (expr_tree value.now)
-        (added_seen added.old))
-        result (added_seen added.new) }
-    ensures sound { OnOk result
-        (IsSound mode.Value (surroundings_seen around.now).scope (added_seen added.new).exprs) }
+fn initial_labels(maker: &mut Maker, object: ObjId, value: &Expr) -> Lowered<Operations>
+    requires stands { Stands maker.old }
+    ensures { Adds (λ s a. Makes (initial_labels s object (expr_tree value.now) a))
+        maker.old result maker.new }
 {
-    let mut operations = Vec::new(alloc);
-    let value = value_of(alloc, around, added, &mut operations, value)?;
+    let mut operations = Vec::new(maker.alloc);
+    let value = value_of(maker, &mut operations, value)?;
     Ok(and_then(operations, Operation::Initial { object, value })?)
 }
 
 // The code of a declared initial value.
-fn laid_value(
-    alloc: Global,
-    around: &Surroundings,
-    added: &mut Added,
-    object: ObjId,
-    value: &Expr,
-) -> Result<Code, LowerFault>
-    requires sound { IsSound mode.Value (surroundings_seen around.now).scope
-        (added_seen added.old).exprs }
-    requires unit { is_unit (surroundings_seen around.now).scope.precision
-        (surroundings_seen around.now).scope.unit ≡ true }
-    ensures made { Makes
-        (initial_code (surroundings_seen around.now) object (expr_tree value.now)
-        (added_seen added.old))
-        result (added_seen added.new) }
-    ensures sound { OnOk result
-        (IsSound mode.Value (surroundings_seen around.now).scope (added_seen added.new).exprs) }
+fn laid_value(maker: &mut Maker, object: ObjId, value: &Expr) -> Lowered<Code>
+    requires stands { Stands maker.old }
+    ensures { Adds (λ s a. Makes (initial_code s object (expr_tree value.now) a))
+        maker.old result maker.new }
 {
-    let operations = initial_labels(alloc, around, added, object, value)?;
-    Ok(plain_code(alloc, CodeKind::Value, operations)?)
+    let operations = initial_labels(maker, object, value)?;
+    Ok(plain_code(maker.alloc, CodeKind::Value, operations)?)
 }
 
 /// The code of a declared initial value of a variable, or its first fault (IEEE 1364-2005, 6.2.1).
-pub fn initial_code(
-    alloc: Global,
-    around: &Surroundings,
-    added: &mut Added,
-    object: ObjId,
-    value: &Expr,
-) -> Result<Code, LowerFault>
-    requires sound { IsSound mode.Value (surroundings_seen around.now).scope
-        (added_seen added.old).exprs }
-    requires unit { is_unit (surroundings_seen around.now).scope.precision
-        (surroundings_seen around.now).scope.unit ≡ true }
-    ensures made { Makes
-        (initial_code (surroundings_seen around.now) object (expr_tree value.now)
-        (added_seen added.old))
-        result (added_seen added.new) }
-    ensures sound { OnOk result
-        (IsSound mode.Value (surroundings_seen around.now).scope (added_seen added.new).exprs) }
+pub fn initial_code(maker: &mut Maker, object: ObjId, value: &Expr) -> Lowered<Code>
+    requires stands { Stands maker.old }
+    ensures made { Adds (λ s a. Makes (initial_code s object (expr_tree value.now) a))
+        maker.old result maker.new }
     ensures closed { IfOk result (λ c. is_closed c ≡ true) }
 {
-    laid_value(alloc, around, added, object, value)
+    laid_value(maker, object, value)
 }
 
 // The label of a continuous assignment.
@@ -148,116 +104,79 @@ fn drive_at(
 
 // Its labels behind some calls.
 fn drive_behind(
-    alloc: Global,
-    around: &Surroundings,
-    added: &mut Added,
+    maker: &mut Maker,
     drivers: DriverIds,
     mut operations: Vec<Operation>,
     delay: Option<Wait>,
     value: &Expr,
-) -> Result<Operations, LowerFault>
-    requires sound { IsSound mode.Value (surroundings_seen around.now).scope
-        (added_seen added.old).exprs }
-    requires unit { is_unit (surroundings_seen around.now).scope.precision
-        (surroundings_seen around.now).scope.unit ≡ true }
-    ensures made { Makes
-        (drive_behind (surroundings_seen around.now) drivers operations.items delay
-        (expr_tree value.now) (added_seen added.old))
-        result (added_seen added.new) }
-    ensures sound { OnOk result
-        (IsSound mode.Value (surroundings_seen around.now).scope (added_seen added.new).exprs) }
+) -> Lowered<Operations>
+    requires stands { Stands maker.old }
+    ensures { Adds
+        (λ s a. Makes (drive_behind s drivers operations.items delay (expr_tree value.now) a))
+        maker.old result maker.new }
 {
-    let from = added.exprs.len();
-    let value = value_of(alloc, around, added, &mut operations, value)?;
-    let wait = reading_from(alloc, added, from)?;
-    let drive = drive_at(alloc, drivers, value, delay, wait)?;
+    let from = maker.added.exprs.len();
+    let value = value_of(maker, &mut operations, value)?;
+    let wait = reading_from(maker.alloc, maker.added, from)?;
+    let drive = drive_at(maker.alloc, drivers, value, delay, wait)?;
     Ok(and_then(operations, drive)?)
 }
 
 // Its labels, with those of its delay.
 fn drive_labels(
-    alloc: Global,
-    around: &Surroundings,
-    added: &mut Added,
+    maker: &mut Maker,
     drivers: DriverIds,
     delay: &Option<TreeBox<Delay>>,
     value: &Expr,
-) -> Result<Operations, LowerFault>
-    requires sound { IsSound mode.Value (surroundings_seen around.now).scope
-        (added_seen added.old).exprs }
-    requires unit { is_unit (surroundings_seen around.now).scope.precision
-        (surroundings_seen around.now).scope.unit ≡ true }
-    ensures made { Makes
-        (drive_labels (surroundings_seen around.now) drivers (option_map delay_tree delay.now)
-        (expr_tree value.now) (added_seen added.old))
-        result (added_seen added.new) }
-    ensures sound { OnOk result
-        (IsSound mode.Value (surroundings_seen around.now).scope (added_seen added.new).exprs) }
+) -> Lowered<Operations>
+    requires stands { Stands maker.old }
+    ensures { Adds
+        (λ s a. Makes
+        (drive_labels s drivers (option_map delay_tree delay.now) (expr_tree value.now) a))
+        maker.old result maker.new }
 {
-    let mut operations = Vec::new(alloc);
+    let mut operations = Vec::new(maker.alloc);
     match delay {
-        None => drive_behind(alloc, around, added, drivers, operations, None, value),
+        None => drive_behind(maker, drivers, operations, None, value),
         Some(delay) => {
-            let delay = delay_of(alloc, around, added, &mut operations, delay.get())?;
-            drive_behind(
-                alloc,
-                around,
-                added,
-                drivers,
-                operations,
-                Some(delay),
-                value,
-            )
+            let delay = delay_of(maker, &mut operations, delay.get())?;
+            drive_behind(maker, drivers, operations, Some(delay), value)
         }
     }
 }
 
 // The code of a continuous assignment.
 fn laid_assignment(
-    alloc: Global,
-    around: &Surroundings,
-    added: &mut Added,
+    maker: &mut Maker,
     drivers: DriverIds,
     delay: &Option<TreeBox<Delay>>,
     value: &Expr,
-) -> Result<Code, LowerFault>
-    requires sound { IsSound mode.Value (surroundings_seen around.now).scope
-        (added_seen added.old).exprs }
-    requires unit { is_unit (surroundings_seen around.now).scope.precision
-        (surroundings_seen around.now).scope.unit ≡ true }
-    ensures made { Makes
-        (drive_code (surroundings_seen around.now) drivers (option_map delay_tree delay.now)
-        (expr_tree value.now) (added_seen added.old))
-        result (added_seen added.new) }
-    ensures sound { OnOk result
-        (IsSound mode.Value (surroundings_seen around.now).scope (added_seen added.new).exprs) }
+) -> Lowered<Code>
+    requires stands { Stands maker.old }
+    ensures { Adds
+        (λ s a. Makes
+        (drive_code s drivers (option_map delay_tree delay.now) (expr_tree value.now) a))
+        maker.old result maker.new }
 {
-    let operations = drive_labels(alloc, around, added, drivers, delay, value)?;
-    Ok(plain_code(alloc, CodeKind::Assign, operations)?)
+    let operations = drive_labels(maker, drivers, delay, value)?;
+    Ok(plain_code(maker.alloc, CodeKind::Assign, operations)?)
 }
 
 /// The code of a continuous assignment to these drivers, or its first fault (IEEE 1364-2005, 6.1).
 pub fn drive_code(
-    alloc: Global,
-    around: &Surroundings,
-    added: &mut Added,
+    maker: &mut Maker,
     drivers: DriverIds,
     delay: &Option<TreeBox<Delay>>,
     value: &Expr,
-) -> Result<Code, LowerFault>
-    requires sound { IsSound mode.Value (surroundings_seen around.now).scope
-        (added_seen added.old).exprs }
-    requires unit { is_unit (surroundings_seen around.now).scope.precision
-        (surroundings_seen around.now).scope.unit ≡ true }
-    ensures made { Makes
-        (drive_code (surroundings_seen around.now) drivers (option_map delay_tree delay.now)
-        (expr_tree value.now) (added_seen added.old))
-        result (added_seen added.new) }
-    ensures sound { OnOk result
-        (IsSound mode.Value (surroundings_seen around.now).scope (added_seen added.new).exprs) }
+) -> Lowered<Code>
+    requires stands { Stands maker.old }
+    ensures made { Adds
+        (λ s a. Makes
+        (drive_code s drivers (option_map delay_tree delay.now) (expr_tree value.now) a))
+        maker.old result maker.new }
     ensures closed { IfOk result (λ c. is_closed c ≡ true) }
 {
-    laid_assignment(alloc, around, added, drivers, delay, value)
+    laid_assignment(maker, drivers, delay, value)
 }
 
 /// The code of a process that drives so, behind some labels.

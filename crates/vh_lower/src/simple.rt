@@ -1,19 +1,14 @@
-ghost use Rattle.std.specs.Prelude.{◌≡◌, [], ◌∷◌, ◌++◌, map, length, true, IfOk, OnOk};
-ghost use Rattle.std.specs.Option.{option_map};
-ghost use Rattle.vh_nodes.specs.Fits.{is_unit};
-ghost use Rattle.vh_ast.specs.Views.{delay_tree, expr_tree, lv_tree, name_tree, set_tree, simple_tree};
-ghost use Rattle.vh_bind.specs.declared.scope.Mode.TheVariants as mode;
-ghost use Rattle.vh_bind.specs.Nodes.{IsSound};
-ghost use Rattle.vh_bind_stmt.specs.Views.{surroundings_seen};
+ghost use Rattle.std.specs.Prelude.{◌≡◌, [], ◌∷◌, IfOk};
+ghost use Rattle.vh_ast.specs.Views.{lv_tree, name_tree, set_tree, simple_tree};
 ghost use Rattle.vh_code.specs.declared.operation.Operation.TheVariants as Op;
 ghost use Rattle.vh_flow.specs.Views.{flow_tree};
 ghost use Rattle.vh_lower.specs.Making.{Makes};
 ghost use Rattle.vh_lower.specs.Statements.{force_single, release_single, force_stmt, release_stmt, force_labels, release_labels, trigger_labels, disable_labels, is_null, simple_kind, simple_labels, simple_flow};
-ghost use Rattle.vh_lower.specs.Views.{added_seen, MakesTo};
+ghost use Rattle.vh_lower.specs.Views.{MakesTo, Stands, Adds};
 
-use crate::added::Added;
+use crate::added::Maker;
 use crate::assignments::{and_then, assign_labels};
-use crate::fault::LowerFault;
+use crate::fault::Lowered;
 use crate::labels::{Operations, labels, nothing};
 use crate::making::{numbered, value_of};
 use crate::objects::{disable_target_of, event_of, forced_of, released_of};
@@ -22,7 +17,6 @@ use crate::tasks::task_labels;
 use std::alloc::Global;
 use vh_ast::{Expr, ForceWord, Lv, Name, ReleaseWord, Set, Simple};
 use vh_base::{ExprId, NoMemory, ObjId, Place};
-use vh_bind_stmt::Surroundings;
 use vh_code::{Operation, Pause, Single, StmtKind};
 use vh_flow::Flow;
 
@@ -81,93 +75,46 @@ fn release_stmt(word: ReleaseWord) -> StmtKind
 }
 
 // `->`.
-fn trigger_labels(
-    alloc: Global,
-    around: &Surroundings,
-    added: &mut Added,
-    name: &Name<Expr>,
-) -> Result<Operations, LowerFault>
-    requires sound { IsSound mode.Value (surroundings_seen around.now).scope
-        (added_seen added.old).exprs }
-    requires unit { is_unit (surroundings_seen around.now).scope.precision
-        (surroundings_seen around.now).scope.unit ≡ true }
-    ensures made { Makes
-        (trigger_labels (surroundings_seen around.now) (name_tree name.now) (added_seen added.old))
-        result (added_seen added.new) }
-    ensures sound { OnOk result
-        (IsSound mode.Value (surroundings_seen around.now).scope (added_seen added.new).exprs) }
+fn trigger_labels(maker: &mut Maker, name: &Name<Expr>) -> Lowered<Operations>
+    requires stands { Stands maker.old }
+    ensures { Adds (λ s a. Makes (trigger_labels s (name_tree name.now) a))
+        maker.old result maker.new }
 {
-    let object = event_of(alloc, around, added, name)?;
-    Ok(one_single(alloc, Single::Trigger(object))?)
+    let object = event_of(maker, name)?;
+    Ok(one_single(maker.alloc, Single::Trigger(object))?)
 }
 
 // `disable`.
-fn disable_labels(
-    alloc: Global,
-    around: &Surroundings,
-    added: &mut Added,
-    name: &Name<Expr>,
-) -> Result<Operations, LowerFault>
-    requires sound { IsSound mode.Value (surroundings_seen around.now).scope
-        (added_seen added.old).exprs }
-    requires unit { is_unit (surroundings_seen around.now).scope.precision
-        (surroundings_seen around.now).scope.unit ≡ true }
-    ensures made { Makes
-        (disable_labels (surroundings_seen around.now) (name_tree name.now) (added_seen added.old))
-        result (added_seen added.new) }
-    ensures sound { OnOk result
-        (IsSound mode.Value (surroundings_seen around.now).scope (added_seen added.new).exprs) }
+fn disable_labels(maker: &mut Maker, name: &Name<Expr>) -> Lowered<Operations>
+    requires stands { Stands maker.old }
+    ensures { Adds (λ s a. Makes (disable_labels s (name_tree name.now) a))
+        maker.old result maker.new }
 {
-    let object = disable_target_of(alloc, around, added, name)?;
-    Ok(one_single(alloc, Single::Disable(object))?)
+    let object = disable_target_of(maker, name)?;
+    Ok(one_single(maker.alloc, Single::Disable(object))?)
 }
 
 // A `force` or an `assign`.
-fn force_labels(
-    alloc: Global,
-    around: &Surroundings,
-    added: &mut Added,
-    word: ForceWord,
-    set: &Set,
-) -> Result<Operations, LowerFault>
-    requires sound { IsSound mode.Value (surroundings_seen around.now).scope
-        (added_seen added.old).exprs }
-    requires unit { is_unit (surroundings_seen around.now).scope.precision
-        (surroundings_seen around.now).scope.unit ≡ true }
-    ensures made { Makes
-        (force_labels (surroundings_seen around.now) word (set_tree set.now) (added_seen added.old))
-        result (added_seen added.new) }
-    ensures sound { OnOk result
-        (IsSound mode.Value (surroundings_seen around.now).scope (added_seen added.new).exprs) }
+fn force_labels(maker: &mut Maker, word: ForceWord, set: &Set) -> Lowered<Operations>
+    requires stands { Stands maker.old }
+    ensures { Adds (λ s a. Makes (force_labels s word (set_tree set.now) a))
+        maker.old result maker.new }
 {
-    let object = forced_of(alloc, around, added, word, &set.target)?;
-    let mut operations = Vec::new(alloc);
-    let value = value_of(alloc, around, added, &mut operations, &set.value)?;
+    let object = forced_of(maker, word, &set.target)?;
+    let mut operations = Vec::new(maker.alloc);
+    let value = value_of(maker, &mut operations, &set.value)?;
     let single = force_single(word, object, value);
     Ok(and_then(operations, Operation::Single(single))?)
 }
 
 // A `release` or a `deassign`.
-fn release_labels(
-    alloc: Global,
-    around: &Surroundings,
-    added: &mut Added,
-    word: ReleaseWord,
-    target: &Lv,
-) -> Result<Operations, LowerFault>
-    requires sound { IsSound mode.Value (surroundings_seen around.now).scope
-        (added_seen added.old).exprs }
-    requires unit { is_unit (surroundings_seen around.now).scope.precision
-        (surroundings_seen around.now).scope.unit ≡ true }
-    ensures made { Makes
-        (release_labels (surroundings_seen around.now) word (lv_tree target.now)
-        (added_seen added.old))
-        result (added_seen added.new) }
-    ensures sound { OnOk result
-        (IsSound mode.Value (surroundings_seen around.now).scope (added_seen added.new).exprs) }
+fn release_labels(maker: &mut Maker, word: ReleaseWord, target: &Lv) -> Lowered<Operations>
+    requires stands { Stands maker.old }
+    ensures { Adds (λ s a. Makes (release_labels s word (lv_tree target.now) a))
+        maker.old result maker.new }
 {
-    let object = released_of(alloc, around, added, word, target)?;
-    Ok(one_single(alloc, release_single(word, object))?)
+    let object = released_of(maker, word, target)?;
+    Ok(one_single(maker.alloc, release_single(word, object))?)
 }
 
 // What a statement is in which none stands.
@@ -186,37 +133,25 @@ fn simple_kind(simple: &Simple) -> StmtKind
 }
 
 // Its labels, a row for each.
-fn simple_labels(
-    alloc: Global,
-    around: &Surroundings,
-    added: &mut Added,
-    simple: &Simple,
-) -> Result<Operations, LowerFault>
-    requires sound { IsSound mode.Value (surroundings_seen around.now).scope
-        (added_seen added.old).exprs }
-    requires unit { is_unit (surroundings_seen around.now).scope.precision
-        (surroundings_seen around.now).scope.unit ≡ true }
-    ensures made { Makes
-        (simple_labels (surroundings_seen around.now) (simple_tree simple.now)
-        (added_seen added.old))
-        result (added_seen added.new) }
-    ensures sound { OnOk result
-        (IsSound mode.Value (surroundings_seen around.now).scope (added_seen added.new).exprs) }
+fn simple_labels(maker: &mut Maker, simple: &Simple) -> Lowered<Operations>
+    requires stands { Stands maker.old }
+    ensures { Adds (λ s a. Makes (simple_labels s (simple_tree simple.now) a))
+        maker.old result maker.new }
 {
     match simple {
-        Simple::Empty => Ok(Operations::new(Vec::new(alloc))),
+        Simple::Empty => Ok(Operations::new(Vec::new(maker.alloc))),
         Simple::Assign {
             target,
             word,
             delay,
             value,
-        } => assign_labels(alloc, around, added, target, *word, delay, value.get()),
-        Simple::Trigger(name) => trigger_labels(alloc, around, added, name),
-        Simple::Disable(name) => disable_labels(alloc, around, added, name),
-        Simple::Force(word, set) => force_labels(alloc, around, added, *word, set.get()),
-        Simple::Release(word, target) => release_labels(alloc, around, added, *word, target),
-        Simple::Call(name, values) => task_labels(alloc, around, added, name.get(), values),
-        Simple::System(id, values) => system_labels(alloc, around, added, id, values),
+        } => assign_labels(maker, target, *word, delay, value.get()),
+        Simple::Trigger(name) => trigger_labels(maker, name),
+        Simple::Disable(name) => disable_labels(maker, name),
+        Simple::Force(word, set) => force_labels(maker, *word, set.get()),
+        Simple::Release(word, target) => release_labels(maker, *word, target),
+        Simple::Call(name, values) => task_labels(maker, name.get(), values),
+        Simple::System(id, values) => system_labels(maker, id, values),
     }
 }
 
@@ -237,28 +172,15 @@ fn is_null(simple: &Simple) -> bool
 }
 
 /// A statement in which none stands.
-pub(crate) fn simple_flow(
-    alloc: Global,
-    around: &Surroundings,
-    added: &mut Added,
-    place: Place,
-    simple: &Simple,
-) -> Result<Flow, LowerFault>
-    requires sound { IsSound mode.Value (surroundings_seen around.now).scope
-        (added_seen added.old).exprs }
-    requires unit { is_unit (surroundings_seen around.now).scope.precision
-        (surroundings_seen around.now).scope.unit ≡ true }
-    ensures made { MakesTo flow_tree
-        (simple_flow (surroundings_seen around.now) place (simple_tree simple.now)
-        (added_seen added.old))
-        result (added_seen added.new) }
-    ensures sound { OnOk result
-        (IsSound mode.Value (surroundings_seen around.now).scope (added_seen added.new).exprs) }
+pub(crate) fn simple_flow(maker: &mut Maker, place: Place, simple: &Simple) -> Lowered<Flow>
+    requires stands { Stands maker.old }
+    ensures { Adds (λ s a. MakesTo flow_tree (simple_flow s place (simple_tree simple.now) a))
+        maker.old result maker.new }
 {
     if is_null(simple) {
-        return Ok(nothing(alloc)?);
+        return Ok(nothing(maker.alloc)?);
     }
-    let number = numbered(added, simple_kind(simple), around, place)?;
-    let operations = simple_labels(alloc, around, added, simple)?;
-    Ok(labels(alloc, number, operations)?)
+    let number = numbered(maker, simple_kind(simple), place)?;
+    let operations = simple_labels(maker, simple)?;
+    Ok(labels(maker.alloc, number, operations)?)
 }

@@ -1,8 +1,7 @@
 ghost use Rattle.std.specs.Prelude.{◌≡◌, [], ◌∷◌, ◌++◌, map, true, IfOk, OnOk};
-ghost use Rattle.std.specs.Option.{option_map};
-ghost use Rattle.vh_nodes.specs.Fits.{is_unit};
 ghost use Rattle.vh_ast.specs.Statements;
 ghost use Rattle.vh_ast.specs.Views.{citem_tree, event_tree, labels_tree, stmt_tree};
+ghost use Rattle.vh_nodes.specs.Fits.{is_unit};
 ghost use Rattle.vh_bind.specs.declared.scope.Mode.TheVariants as mode;
 ghost use Rattle.vh_bind.specs.Nodes.{IsSound};
 ghost use Rattle.vh_bind_stmt.specs.Views.{surroundings_seen};
@@ -10,13 +9,13 @@ ghost use Rattle.vh_flow.specs.Places.{is_closed};
 ghost use Rattle.vh_flow.specs.Views.{flow_tree};
 ghost use Rattle.vh_lower.specs.Making.{Makes};
 ghost use Rattle.vh_lower.specs.Statements.{behind_front, block_flow, event_flow, inside, inside_of, item_with, items_flow, lowered, stmt_flow, stmts_flow};
-ghost use Rattle.vh_lower.specs.Views.{added_seen, cases_seen, flows_seen, MakesCases, MakesTo};
+ghost use Rattle.vh_lower.specs.Views.{added_seen, cases_seen, flows_seen, MakesTo, Stands, Adds, Leaves};
 
-use crate::added::Added;
+use crate::added::{Added, Maker};
 use crate::blocks::{block_number, block_of_row, block_scope};
 use crate::cases::{Cases, case_flow, no_cases, values_of, with_default, with_item};
 use crate::events::event_front;
-use crate::fault::LowerFault;
+use crate::fault::Lowered;
 use crate::fronts::{delay_front, for_head, headed, wait_front};
 use crate::heads::{Front, Head};
 use crate::labels::{behind_label, nothing};
@@ -51,50 +50,37 @@ fn add_flow(row: &mut Items<Flow>, flow: Flow) -> Result<(), NoMemory>
 
 // What a statement is lowered to, a row for each form.
 #[cycle(lower)]
-fn lower_stmt(
-    alloc: Global,
-    around: &Surroundings,
-    added: &mut Added,
-    stmt: &Stmt,
-) -> Result<Flow, LowerFault>
-    requires sound { IsSound mode.Value (surroundings_seen around.now).scope
-        (added_seen added.old).exprs }
-    requires unit { is_unit (surroundings_seen around.now).scope.precision
-        (surroundings_seen around.now).scope.unit ≡ true }
-    ensures made { MakesTo flow_tree
-        (stmt_flow (surroundings_seen around.now) (stmt_tree stmt.now) (added_seen added.old))
-        result (added_seen added.new) }
-    ensures sound { OnOk result
-        (IsSound mode.Value (surroundings_seen around.now).scope (added_seen added.new).exprs) }
+fn lower_stmt(maker: &mut Maker, stmt: &Stmt) -> Lowered<Flow>
+    requires stands { Stands maker.old }
+    ensures { Adds (λ s a. MakesTo flow_tree (stmt_flow s (stmt_tree stmt.now) a))
+        maker.old result maker.new }
 {
     let place = stmt.place;
     match &stmt.form {
-        StmtForm::Simple(simple) => simple_flow(alloc, around, added, place, simple),
+        StmtForm::Simple(simple) => simple_flow(maker, place, simple),
         StmtForm::Delay(delay, body) => {
-            let front = delay_front(alloc, around, added, place, delay.get())?;
-            let body = lower_stmt(alloc, around, added, body.get())?;
-            Ok(behind_front(alloc, front, body)?)
+            let front = delay_front(maker, place, delay.get())?;
+            let body = lower_stmt(maker, body.get())?;
+            Ok(behind_front(maker.alloc, front, body)?)
         }
-        StmtForm::Event(event, body) => {
-            lower_event(alloc, around, added, place, event.get(), body.get())
-        }
+        StmtForm::Event(event, body) => { lower_event(maker, place, event.get(), body.get()) }
         StmtForm::Wait(test, body) => {
-            let front = wait_front(alloc, around, added, place, test.get())?;
-            let body = lower_stmt(alloc, around, added, body.get())?;
-            Ok(behind_front(alloc, front, body)?)
+            let front = wait_front(maker, place, test.get())?;
+            let body = lower_stmt(maker, body.get())?;
+            Ok(behind_front(maker.alloc, front, body)?)
         }
         StmtForm::If { test, holds, fails } => {
             let kind = match fails {
                 None => StmtKind::If,
                 Some(_) => StmtKind::IfElse,
             };
-            let head = headed(alloc, around, added, kind, place, test.get())?;
-            let holds = lower_stmt(alloc, around, added, holds.get())?;
+            let head = headed(maker, kind, place, test.get())?;
+            let holds = lower_stmt(maker, holds.get())?;
             let fails = match fails {
-                None => nothing(alloc)?,
-                Some(fails) => lower_stmt(alloc, around, added, fails.get())?,
+                None => nothing(maker.alloc)?,
+                Some(fails) => lower_stmt(maker, fails.get())?,
             };
-            Ok(if_flow(alloc, head, holds, fails)?)
+            Ok(if_flow(maker.alloc, head, holds, fails)?)
         }
         StmtForm::Case {
             word,
@@ -105,10 +91,10 @@ fn lower_stmt(
                 number,
                 calls,
                 test,
-            } = headed(alloc, around, added, StmtKind::Case, place, value.get())?;
-            let mut cases = no_cases(alloc, calls);
-            lower_items(alloc, around, added, &mut cases, citems.as_slice())?;
-            Ok(case_flow(alloc, *word, number, test, cases, &added.exprs)?)
+            } = headed(maker, StmtKind::Case, place, value.get())?;
+            let mut cases = no_cases(maker.alloc, calls);
+            lower_items(maker, &mut cases, citems.as_slice())?;
+            Ok(case_flow(maker.alloc, *word, number, test, cases, &maker.added.exprs)?)
         }
         StmtForm::For {
             start,
@@ -116,97 +102,66 @@ fn lower_stmt(
             step,
             body,
         } => {
-            let head = for_head(
-                alloc,
-                around,
-                added,
-                place,
-                start.get(),
-                test.get(),
-                step.get(),
-            )?;
-            let body = lower_stmt(alloc, around, added, body.get())?;
-            Ok(for_flow(alloc, head, body)?)
+            let head = for_head(maker, place, start.get(), test.get(), step.get())?;
+            let body = lower_stmt(maker, body.get())?;
+            Ok(for_flow(maker.alloc, head, body)?)
         }
         StmtForm::Loop { word, test, body } => {
             let kind = match word {
                 LoopWord::While => StmtKind::While,
                 LoopWord::Repeat => StmtKind::Repeat,
             };
-            let head = headed(alloc, around, added, kind, place, test.get())?;
-            let body = lower_stmt(alloc, around, added, body.get())?;
-            Ok(loop_flow(alloc, *word, head, body)?)
+            let head = headed(maker, kind, place, test.get())?;
+            let body = lower_stmt(maker, body.get())?;
+            Ok(loop_flow(maker.alloc, *word, head, body)?)
         }
         StmtForm::Forever(body) => {
-            let number = numbered(added, StmtKind::Forever, around, place)?;
-            let body = lower_stmt(alloc, around, added, body.get())?;
-            Ok(forever_flow(alloc, number, body)?)
+            let number = numbered(maker, StmtKind::Forever, place)?;
+            let body = lower_stmt(maker, body.get())?;
+            Ok(forever_flow(maker.alloc, number, body)?)
         }
         StmtForm::Block {
             word,
             id,
             stmts,
             ..
-        } => lower_block(alloc, around, added, place, *word, id, stmts.as_slice()),
+        } => lower_block(maker, place, *word, id, stmts.as_slice()),
     }
 }
 
 // An event control: `@*` waits for what its statement reads.
 #[cycle(lower)]
-fn lower_event(
-    alloc: Global,
-    around: &Surroundings,
-    added: &mut Added,
-    place: Place,
-    event: &Event,
-    body: &Stmt,
-) -> Result<Flow, LowerFault>
-    requires sound { IsSound mode.Value (surroundings_seen around.now).scope
-        (added_seen added.old).exprs }
-    requires unit { is_unit (surroundings_seen around.now).scope.precision
-        (surroundings_seen around.now).scope.unit ≡ true }
-    ensures made { MakesTo flow_tree
-        (event_flow (surroundings_seen around.now) place (event_tree event.now)
-        (stmt_flow (surroundings_seen around.now) (stmt_tree body.now)) (added_seen added.old))
-        result (added_seen added.new) }
-    ensures sound { OnOk result
-        (IsSound mode.Value (surroundings_seen around.now).scope (added_seen added.new).exprs) }
+fn lower_event(maker: &mut Maker, place: Place, event: &Event, body: &Stmt) -> Lowered<Flow>
+    requires stands { Stands maker.old }
+    ensures { Adds
+        (λ s a. MakesTo flow_tree
+        (event_flow s place (event_tree event.now) (stmt_flow s (stmt_tree body.now)) a))
+        maker.old result maker.new }
 {
     if let Event::Any = event {
-        let number = numbered(added, StmtKind::EventControl, around, place)?;
-        let from = added.exprs.len();
-        let body = lower_stmt(alloc, around, added, body)?;
-        let wait = reading_from(alloc, added, from)?;
-        let labels = one_pause(alloc, Pause::Await(wait))?;
-        return Ok(behind_label(alloc, number, labels, body)?);
+        let number = numbered(maker, StmtKind::EventControl, place)?;
+        let from = maker.added.exprs.len();
+        let body = lower_stmt(maker, body)?;
+        let wait = reading_from(maker.alloc, maker.added, from)?;
+        let labels = one_pause(maker.alloc, Pause::Await(wait))?;
+        return Ok(behind_label(maker.alloc, number, labels, body)?);
     }
-    let front = event_front(alloc, around, added, place, event)?;
-    let body = lower_stmt(alloc, around, added, body)?;
-    Ok(behind_front(alloc, front, body)?)
+    let front = event_front(maker, place, event)?;
+    let body = lower_stmt(maker, body)?;
+    Ok(behind_front(maker.alloc, front, body)?)
 }
 
 // Statements in a row.
 #[cycle(lower)]
-fn lower_row(
-    alloc: Global,
-    around: &Surroundings,
-    added: &mut Added,
-    stmts: &[Stmt],
-) -> Result<Items<Flow>, LowerFault>
-    requires sound { IsSound mode.Value (surroundings_seen around.now).scope
-        (added_seen added.old).exprs }
-    requires unit { is_unit (surroundings_seen around.now).scope.precision
-        (surroundings_seen around.now).scope.unit ≡ true }
-    ensures made { MakesTo flows_seen
-        (stmts_flow (surroundings_seen around.now) [] (Statements.stmts (map stmt_tree stmts.now))
-        (added_seen added.old))
-        result (added_seen added.new) }
-    ensures sound { OnOk result
-        (IsSound mode.Value (surroundings_seen around.now).scope (added_seen added.new).exprs) }
+fn lower_row(maker: &mut Maker, stmts: &[Stmt]) -> Lowered<Items<Flow>>
+    requires stands { Stands maker.old }
+    ensures { Adds
+        (λ s a. MakesTo flows_seen (stmts_flow s [] (Statements.stmts (map stmt_tree stmts.now)) a))
+        maker.old result maker.new }
 {
-    let mut row = Items::new(alloc);
+    let mut row = Items::new(maker.alloc);
     for stmt in stmts {
-        let flow = lower_stmt(alloc, around, added, stmt)?;
+        let flow = lower_stmt(maker, stmt)?;
         add_flow(&mut row, flow)?;
     }
     Ok(row)
@@ -215,79 +170,51 @@ fn lower_row(
 // A block with its statements.
 #[cycle(lower)]
 fn lower_block(
-    alloc: Global,
-    around: &Surroundings,
-    added: &mut Added,
+    maker: &mut Maker,
     place: Place,
     word: BlockWord,
     id: &Option<Id>,
     stmts: &[Stmt],
-) -> Result<Flow, LowerFault>
-    requires sound { IsSound mode.Value (surroundings_seen around.now).scope
-        (added_seen added.old).exprs }
-    requires unit { is_unit (surroundings_seen around.now).scope.precision
-        (surroundings_seen around.now).scope.unit ≡ true }
-    ensures made { MakesTo flow_tree
-        (block_flow (surroundings_seen around.now) place word id.now
-        (λ u. stmts_flow u [] (Statements.stmts (map stmt_tree stmts.now))) (added_seen added.old))
-        result (added_seen added.new) }
-    ensures sound { OnOk result
-        (IsSound mode.Value (surroundings_seen around.now).scope (added_seen added.new).exprs) }
+) -> Lowered<Flow>
+    requires stands { Stands maker.old }
+    ensures { Adds
+        (λ s a. MakesTo flow_tree
+        (block_flow s place word id.now
+        (λ u. stmts_flow u [] (Statements.stmts (map stmt_tree stmts.now))) a))
+        maker.old result maker.new }
 {
-    let number = block_number(added, word, around, place)?;
-    let object = block_scope(around, added, id)?;
-    let row = lower_scoped(alloc, around, added, object, stmts)?;
-    Ok(block_of_row(alloc, word, number, object, row)?)
+    let number = block_number(maker, word, place)?;
+    let object = block_scope(maker, id)?;
+    let row = lower_scoped(maker, object, stmts)?;
+    Ok(block_of_row(maker.alloc, word, number, object, row)?)
 }
 
 // Its statements, which stand in its own scope where it has a name.
 #[cycle(lower)]
-fn lower_scoped(
-    alloc: Global,
-    around: &Surroundings,
-    added: &mut Added,
-    object: Option<ObjId>,
-    stmts: &[Stmt],
-) -> Result<Items<Flow>, LowerFault>
-    requires sound { IsSound mode.Value (surroundings_seen around.now).scope
-        (added_seen added.old).exprs }
-    requires unit { is_unit (surroundings_seen around.now).scope.precision
-        (surroundings_seen around.now).scope.unit ≡ true }
-    ensures made { MakesTo flows_seen
-        (stmts_flow (inside_of (surroundings_seen around.now) object) []
-        (Statements.stmts (map stmt_tree stmts.now)) (added_seen added.old))
-        result (added_seen added.new) }
-    ensures sound { OnOk result
-        (IsSound mode.Value (surroundings_seen around.now).scope (added_seen added.new).exprs) }
+fn lower_scoped(maker: &mut Maker, object: Option<ObjId>, stmts: &[Stmt]) -> Lowered<Items<Flow>>
+    requires stands { Stands maker.old }
+    ensures { Adds
+        (λ s a. MakesTo flows_seen
+        (stmts_flow (inside_of s object) [] (Statements.stmts (map stmt_tree stmts.now)) a))
+        maker.old result maker.new }
 {
     match object {
-        None => lower_row(alloc, around, added, stmts),
-        Some(object) => lower_inside(alloc, around, added, object, stmts),
+        None => lower_row(maker, stmts),
+        Some(object) => lower_inside(maker, object, stmts),
     }
 }
 
 // The same inside of a named block.
 #[cycle(lower)]
-fn lower_inside(
-    alloc: Global,
-    around: &Surroundings,
-    added: &mut Added,
-    object: ObjId,
-    stmts: &[Stmt],
-) -> Result<Items<Flow>, LowerFault>
-    requires sound { IsSound mode.Value (surroundings_seen around.now).scope
-        (added_seen added.old).exprs }
-    requires unit { is_unit (surroundings_seen around.now).scope.precision
-        (surroundings_seen around.now).scope.unit ≡ true }
-    ensures made { MakesTo flows_seen
-        (stmts_flow (inside (surroundings_seen around.now) object) []
-        (Statements.stmts (map stmt_tree stmts.now)) (added_seen added.old))
-        result (added_seen added.new) }
-    ensures sound { OnOk result
-        (IsSound mode.Value (surroundings_seen around.now).scope (added_seen added.new).exprs) }
+fn lower_inside(maker: &mut Maker, object: ObjId, stmts: &[Stmt]) -> Lowered<Items<Flow>>
+    requires stands { Stands maker.old }
+    ensures { Adds
+        (λ s a. MakesTo flows_seen
+        (stmts_flow (inside s object) [] (Statements.stmts (map stmt_tree stmts.now)) a))
+        maker.old result maker.new }
 {
-    let scope = around.scope;
-    let scopes = scopes_inside(alloc, object, scope.around)?;
+    let scope = maker.around.scope;
+    let scopes = scopes_inside(maker.alloc, object, scope.around)?;
     let scope = Scope {
         names: scope.names,
         around: &scopes,
@@ -302,69 +229,75 @@ fn lower_inside(
         unit: scope.unit,
         precision: scope.precision,
     };
-    let inner = Surroundings {
+    let around = Surroundings {
         scope: &scope,
-        arguments: around.arguments,
+        arguments: maker.around.arguments,
     };
-    lower_row(alloc, &inner, added, stmts)
+    lower_under(maker.alloc, &around, maker.added, stmts)
 }
 
-// The statements of a `case`, from the left.
+// Statements in a row, which stand in these surroundings.
 #[cycle(lower)]
-fn lower_items(
+fn lower_under<'m>(
     alloc: Global,
-    around: &Surroundings,
-    added: &mut Added,
-    cases: &mut Cases,
-    citems: &[Citem<Stmt>],
-) -> Result<(), LowerFault>
+    around: &'m Surroundings,
+    added: &'m mut Added,
+    stmts: &[Stmt],
+) -> Lowered<Items<Flow>>
     requires sound { IsSound mode.Value (surroundings_seen around.now).scope
         (added_seen added.old).exprs }
     requires unit { is_unit (surroundings_seen around.now).scope.precision
         (surroundings_seen around.now).scope.unit ≡ true }
-    ensures made { MakesCases
-        (items_flow (surroundings_seen around.now) (cases_seen cases.old)
-        (Statements.citems (map citem_tree citems.now)) (added_seen added.old))
-        result (cases_seen cases.new) (added_seen added.new) }
+    ensures made { MakesTo flows_seen
+        (stmts_flow (surroundings_seen around.now) [] (Statements.stmts (map stmt_tree stmts.now))
+        (added_seen added.old))
+        result (added_seen added.new) }
     ensures sound { OnOk result
         (IsSound mode.Value (surroundings_seen around.now).scope (added_seen added.new).exprs) }
 {
+    let mut inner = Maker {
+        alloc,
+        around,
+        added,
+    };
+    lower_row(&mut inner, stmts)
+}
+
+// The statements of a `case`, from the left.
+#[cycle(lower)]
+fn lower_items(maker: &mut Maker, cases: &mut Cases, citems: &[Citem<Stmt>]) -> Lowered<()>
+    requires stands { Stands maker.old }
+    ensures { Adds
+        (λ s a. Leaves
+        (items_flow s (cases_seen cases.old) (Statements.citems (map citem_tree citems.now)) a)
+        (cases_seen cases.new))
+        maker.old result maker.new }
+{
     for citem in citems {
-        lower_item(alloc, around, added, cases, &citem.labels, &citem.body)?;
+        lower_item(maker, cases, &citem.labels, &citem.body)?;
     }
     Ok(())
 }
 
 // One of them.
 #[cycle(lower)]
-fn lower_item(
-    alloc: Global,
-    around: &Surroundings,
-    added: &mut Added,
-    cases: &mut Cases,
-    labels: &Labels,
-    body: &Stmt,
-) -> Result<(), LowerFault>
-    requires sound { IsSound mode.Value (surroundings_seen around.now).scope
-        (added_seen added.old).exprs }
-    requires unit { is_unit (surroundings_seen around.now).scope.precision
-        (surroundings_seen around.now).scope.unit ≡ true }
-    ensures made { MakesCases
-        (item_with (surroundings_seen around.now) (cases_seen cases.old) (labels_tree labels.now)
-        (stmt_flow (surroundings_seen around.now) (stmt_tree body.now)) (added_seen added.old))
-        result (cases_seen cases.new) (added_seen added.new) }
-    ensures sound { OnOk result
-        (IsSound mode.Value (surroundings_seen around.now).scope (added_seen added.new).exprs) }
+fn lower_item(maker: &mut Maker, cases: &mut Cases, labels: &Labels, body: &Stmt) -> Lowered<()>
+    requires stands { Stands maker.old }
+    ensures { Adds
+        (λ s a. Leaves
+        (item_with s (cases_seen cases.old) (labels_tree labels.now)
+        (stmt_flow s (stmt_tree body.now)) a) (cases_seen cases.new))
+        maker.old result maker.new }
 {
     match labels {
         Labels::Values(values) => {
-            let labels = values_of(alloc, around, added, &mut cases.calls, values.as_slice())?;
-            let body = lower_stmt(alloc, around, added, body)?;
+            let labels = values_of(maker, &mut cases.calls, values.as_slice())?;
+            let body = lower_stmt(maker, body)?;
             with_item(cases, labels, body)?;
             Ok(())
         }
         Labels::Default => {
-            let body = lower_stmt(alloc, around, added, body)?;
+            let body = lower_stmt(maker, body)?;
             with_default(cases, body)?;
             Ok(())
         }
@@ -382,45 +315,21 @@ fn scopes_inside(alloc: Global, object: ObjId, around: &[ObjId]) -> Result<Vec<O
 }
 
 // The code of a statement.
-fn laid_statement(
-    alloc: Global,
-    around: &Surroundings,
-    added: &mut Added,
-    kind: CodeKind,
-    stmt: &Stmt,
-) -> Result<Code, LowerFault>
-    requires sound { IsSound mode.Value (surroundings_seen around.now).scope
-        (added_seen added.old).exprs }
-    requires unit { is_unit (surroundings_seen around.now).scope.precision
-        (surroundings_seen around.now).scope.unit ≡ true }
-    ensures made { Makes
-        (lowered kind (surroundings_seen around.now) (stmt_tree stmt.now) (added_seen added.old))
-        result (added_seen added.new) }
-    ensures sound { OnOk result
-        (IsSound mode.Value (surroundings_seen around.now).scope (added_seen added.new).exprs) }
+fn laid_statement(maker: &mut Maker, kind: CodeKind, stmt: &Stmt) -> Lowered<Code>
+    requires stands { Stands maker.old }
+    ensures { Adds (λ s a. Makes (lowered kind s (stmt_tree stmt.now) a))
+        maker.old result maker.new }
 {
-    let flow = lower_stmt(alloc, around, added, stmt)?;
-    Ok(code_of(alloc, kind, &flow)?)
+    let flow = lower_stmt(maker, stmt)?;
+    Ok(code_of(maker.alloc, kind, &flow)?)
 }
 
 /// The code of a statement by what it is of, or its first fault (IEEE 1364-2005, clause 9).
-pub fn lower(
-    alloc: Global,
-    around: &Surroundings,
-    added: &mut Added,
-    kind: CodeKind,
-    stmt: &Stmt,
-) -> Result<Code, LowerFault>
-    requires sound { IsSound mode.Value (surroundings_seen around.now).scope
-        (added_seen added.old).exprs }
-    requires unit { is_unit (surroundings_seen around.now).scope.precision
-        (surroundings_seen around.now).scope.unit ≡ true }
-    ensures made { Makes
-        (lowered kind (surroundings_seen around.now) (stmt_tree stmt.now) (added_seen added.old))
-        result (added_seen added.new) }
-    ensures sound { OnOk result
-        (IsSound mode.Value (surroundings_seen around.now).scope (added_seen added.new).exprs) }
+pub fn lower(maker: &mut Maker, kind: CodeKind, stmt: &Stmt) -> Lowered<Code>
+    requires stands { Stands maker.old }
+    ensures made { Adds (λ s a. Makes (lowered kind s (stmt_tree stmt.now) a))
+        maker.old result maker.new }
     ensures closed { IfOk result (λ c. is_closed c ≡ true) }
 {
-    laid_statement(alloc, around, added, kind, stmt)
+    laid_statement(maker, kind, stmt)
 }

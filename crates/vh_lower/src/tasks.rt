@@ -1,17 +1,12 @@
-ghost use Rattle.std.specs.Prelude.{◌≡◌, [], ◌∷◌, ◌++◌, map, length, true, IfOk, OnOk};
-ghost use Rattle.std.specs.Option.{option_map};
-ghost use Rattle.vh_nodes.specs.Fits.{is_unit};
+ghost use Rattle.std.specs.Prelude.{◌≡◌, [], ◌∷◌, ◌++◌, map, IfOk, OnOk};
 ghost use Rattle.vh_ast.specs.Views.{expr_tree, name_tree};
-ghost use Rattle.vh_bind.specs.declared.scope.Mode.TheVariants as mode;
-ghost use Rattle.vh_bind.specs.Nodes.{IsSound};
-ghost use Rattle.vh_bind_stmt.specs.Views.{surroundings_seen};
 ghost use Rattle.vh_lower.specs.Making.{Makes};
 ghost use Rattle.vh_lower.specs.Statements.{with_input, with_output, with_argument, with_arguments, no_call, call_labels, task_labels};
-ghost use Rattle.vh_lower.specs.Views.{added_seen, calling_seen, Calls};
+ghost use Rattle.vh_lower.specs.Views.{calling_seen, Stands, Adds, Leaves};
 
-use crate::added::Added;
+use crate::added::Maker;
 use crate::assignments::and_then;
-use crate::fault::LowerFault;
+use crate::fault::Lowered;
 use crate::labels::Operations;
 use crate::making::{output_of, value_of};
 use crate::objects::task_of;
@@ -19,7 +14,7 @@ use sqlite_items::Items;
 use std::alloc::Global;
 use vh_ast::{Expr, Name, TaskDirection};
 use vh_base::{Boxed, ExprId, NoMemory, ObjId, Sequence};
-use vh_bind_stmt::{Argument, Surroundings, arguments_of};
+use vh_bind_stmt::{Argument, arguments_of};
 use vh_code::{Input, Leave, Operation, Output, Targets};
 
 /// The call of a task so far: the labels before its begin and before its end, and what these write.
@@ -66,119 +61,75 @@ fn add_output(outputs: &mut Vec<Output>, targets: Targets, variable: ObjId) -> R
 }
 
 // An argument that is given a value.
-fn with_input(
-    alloc: Global,
-    around: &Surroundings,
-    added: &mut Added,
-    call: &mut Calling,
-    variable: ObjId,
-    value: &Expr,
-) -> Result<(), LowerFault>
-    requires sound { IsSound mode.Value (surroundings_seen around.now).scope
-        (added_seen added.old).exprs }
-    requires unit { is_unit (surroundings_seen around.now).scope.precision
-        (surroundings_seen around.now).scope.unit ≡ true }
-    ensures made { Calls
-        (with_input (surroundings_seen around.now) (calling_seen call.old) variable
-        (expr_tree value.now) (added_seen added.old))
-        result (calling_seen call.new) (added_seen added.new) }
-    ensures sound { OnOk result
-        (IsSound mode.Value (surroundings_seen around.now).scope (added_seen added.new).exprs) }
+fn with_input(maker: &mut Maker, call: &mut Calling, variable: ObjId, value: &Expr) -> Lowered<()>
+    requires stands { Stands maker.old }
+    ensures { Adds
+        (λ s a. Leaves (with_input s (calling_seen call.old) variable (expr_tree value.now) a)
+        (calling_seen call.new))
+        maker.old result maker.new }
 {
-    let value = value_of(alloc, around, added, &mut call.front, value)?;
+    let value = value_of(maker, &mut call.front, value)?;
     add_input(&mut call.inputs, variable, value)?;
     Ok(())
 }
 
 // An argument whose value is assigned at the end.
-fn with_output(
-    alloc: Global,
-    around: &Surroundings,
-    added: &mut Added,
-    call: &mut Calling,
-    variable: ObjId,
-    target: &Expr,
-) -> Result<(), LowerFault>
-    requires sound { IsSound mode.Value (surroundings_seen around.now).scope
-        (added_seen added.old).exprs }
-    requires unit { is_unit (surroundings_seen around.now).scope.precision
-        (surroundings_seen around.now).scope.unit ≡ true }
-    ensures made { Calls
-        (with_output (surroundings_seen around.now) (calling_seen call.old) variable
-        (expr_tree target.now) (added_seen added.old))
-        result (calling_seen call.new) (added_seen added.new) }
-    ensures sound { OnOk result
-        (IsSound mode.Value (surroundings_seen around.now).scope (added_seen added.new).exprs) }
+fn with_output(maker: &mut Maker, call: &mut Calling, variable: ObjId, target: &Expr) -> Lowered<()>
+    requires stands { Stands maker.old }
+    ensures { Adds
+        (λ s a. Leaves (with_output s (calling_seen call.old) variable (expr_tree target.now) a)
+        (calling_seen call.new))
+        maker.old result maker.new }
 {
-    let targets = output_of(alloc, around, added, &mut call.behind, target)?;
+    let targets = output_of(maker, &mut call.behind, target)?;
     add_output(&mut call.outputs, targets, variable)?;
     Ok(())
 }
 
 // An argument, a row for each direction.
 fn with_argument(
-    alloc: Global,
-    around: &Surroundings,
-    added: &mut Added,
+    maker: &mut Maker,
     call: &mut Calling,
     direction: TaskDirection,
     variable: ObjId,
     e: &Expr,
-) -> Result<(), LowerFault>
-    requires sound { IsSound mode.Value (surroundings_seen around.now).scope
-        (added_seen added.old).exprs }
-    requires unit { is_unit (surroundings_seen around.now).scope.precision
-        (surroundings_seen around.now).scope.unit ≡ true }
-    ensures made { Calls
-        (with_argument (surroundings_seen around.now) (calling_seen call.old) direction variable
-        (expr_tree e.now) (added_seen added.old))
-        result (calling_seen call.new) (added_seen added.new) }
-    ensures sound { OnOk result
-        (IsSound mode.Value (surroundings_seen around.now).scope (added_seen added.new).exprs) }
+) -> Lowered<()>
+    requires stands { Stands maker.old }
+    ensures { Adds
+        (λ s a. Leaves
+        (with_argument s (calling_seen call.old) direction variable (expr_tree e.now) a)
+        (calling_seen call.new))
+        maker.old result maker.new }
 {
     match direction {
-        TaskDirection::Input => with_input(alloc, around, added, call, variable, e),
-        TaskDirection::Output => with_output(alloc, around, added, call, variable, e),
+        TaskDirection::Input => with_input(maker, call, variable, e),
+        TaskDirection::Output => with_output(maker, call, variable, e),
         TaskDirection::Inout => {
-            with_input(alloc, around, added, call, variable, e)?;
-            with_output(alloc, around, added, call, variable, e)
+            with_input(maker, call, variable, e)?;
+            with_output(maker, call, variable, e)
         }
     }
 }
 
 // All arguments, from the left.
 fn with_arguments(
-    alloc: Global,
-    around: &Surroundings,
-    added: &mut Added,
+    maker: &mut Maker,
     call: &mut Calling,
     arguments: &[Argument],
     values: &[Expr],
-) -> Result<(), LowerFault>
-    requires sound { IsSound mode.Value (surroundings_seen around.now).scope
-        (added_seen added.old).exprs }
-    requires unit { is_unit (surroundings_seen around.now).scope.precision
-        (surroundings_seen around.now).scope.unit ≡ true }
-    ensures made { Calls
-        (with_arguments (surroundings_seen around.now) (calling_seen call.old) arguments.now
-        (map expr_tree values.now) (added_seen added.old))
-        result (calling_seen call.new) (added_seen added.new) }
-    ensures sound { OnOk result
-        (IsSound mode.Value (surroundings_seen around.now).scope (added_seen added.new).exprs) }
+) -> Lowered<()>
+    requires stands { Stands maker.old }
+    ensures { Adds
+        (λ s a. Leaves
+        (with_arguments s (calling_seen call.old) arguments.now (map expr_tree values.now) a)
+        (calling_seen call.new))
+        maker.old result maker.new }
 {
     for (k, argument) in arguments.iter().enumerate() {
         let Some(e) = values.get(k) else {
             return Ok(());
         };
-        with_argument(
-            alloc,
-            around,
-            added,
-            call,
-            argument.direction,
-            argument.variable,
-            e,
-        )?;
+        with_argument(maker, call, argument.direction, argument.variable, e)?;
     }
     Ok(())
 }
@@ -207,33 +158,17 @@ fn call_labels(alloc: Global, task: ObjId, call: Calling) -> Result<Operations, 
 
 /// The labels of a call of a task (IEEE 1364-2005, 10.2.2).
 pub(crate) fn task_labels(
-    alloc: Global,
-    around: &Surroundings,
-    added: &mut Added,
+    maker: &mut Maker,
     name: &Name<Expr>,
     values: &Items<Expr>,
-) -> Result<Operations, LowerFault>
-    requires sound { IsSound mode.Value (surroundings_seen around.now).scope
-        (added_seen added.old).exprs }
-    requires unit { is_unit (surroundings_seen around.now).scope.precision
-        (surroundings_seen around.now).scope.unit ≡ true }
-    ensures made { Makes
-        (task_labels (surroundings_seen around.now) (name_tree name.now) (map expr_tree values.now)
-        (added_seen added.old))
-        result (added_seen added.new) }
-    ensures sound { OnOk result
-        (IsSound mode.Value (surroundings_seen around.now).scope (added_seen added.new).exprs) }
+) -> Lowered<Operations>
+    requires stands { Stands maker.old }
+    ensures { Adds (λ s a. Makes (task_labels s (name_tree name.now) (map expr_tree values.now) a))
+        maker.old result maker.new }
 {
     let values = values.as_slice();
-    let task = task_of(alloc, around, added, name, values.len())?;
-    let mut call = no_call(alloc);
-    with_arguments(
-        alloc,
-        around,
-        added,
-        &mut call,
-        arguments_of(around, task),
-        values,
-    )?;
-    Ok(call_labels(alloc, task, call)?)
+    let task = task_of(maker, name, values.len())?;
+    let mut call = no_call(maker.alloc);
+    with_arguments(maker, &mut call, arguments_of(maker.around, task), values)?;
+    Ok(call_labels(maker.alloc, task, call)?)
 }
