@@ -1,6 +1,6 @@
 ghost use Rattle.std.specs.Prelude.{◌≡◌, ◌<◌, ◌≤◌, length, map, true, None, Some, IfOk, IfSome, OnOk};
 ghost use Rattle.std.specs.Option.{option_map};
-ghost use Rattle.vh_nodes.specs.Fits.{all_before, fits_word, is_unit};
+ghost use Rattle.vh_nodes.specs.Fits.{all_before, fits_word};
 ghost use Rattle.vh_nodes.specs.declared.expr.Access.TheVariants as access;
 ghost use Rattle.vh_nodes.specs.declared.expr.Select.TheVariants as select;
 ghost use Rattle.vh_nodes.specs.Widths;
@@ -10,20 +10,20 @@ ghost use Rattle.vh_bind.specs.Constants.{selected_pushed, whole_of};
 ghost use Rattle.vh_bind.specs.Nodes.{IsSound};
 ghost use Rattle.vh_bind.specs.Steps.{Steps};
 ghost use Rattle.vh_bind.specs.Views.{scope_seen};
-ghost use Rattle.vh_bind_stmt.specs.Views.{surroundings_seen};
 ghost use Rattle.vh_lower.specs.Making.{Makes, performed};
-ghost use Rattle.vh_lower.specs.Views.{added_seen, Performs};
+ghost use Rattle.vh_lower.specs.Views.{added_seen, Performs, Stands, HasSound, Adds, around_of, added_of};
 ghost use Rattle.vh_drives.specs.Gates;
 
 use sqlite_items::Boxed;
 use std::alloc::Global;
 use vh_ast::{Delay, Expr, GateType, Unary};
-use vh_base::{DesignFault, ExprId, NoMemory, ObjId, Place, Sequence};
+use vh_base::{DesignFault, ExprId, NoMemory, ObjId, Place};
 use vh_bind::{ElabFault, Mode, Operator, Prefix, Scope, push_links, push_prefixed};
 use vh_bind_expr::{push_selected, whole_of};
-use vh_bind_stmt::{Surroundings, add_calls};
 use vh_code::{Code, Delay as Wait, DriverIds, Operation};
-use vh_lower::{Added, LowerFault, delay_of, driving_code, reading_from, value_of};
+use vh_lower::{
+    Added, LowerFault, Lowered, Maker, delay_of, driving_code, reading_from, value_of, with_calls,
+};
 use vh_nodes::{Arithmetic, ExprIds, ExprNode, Select};
 
 fn operator_of(word: GateType) -> Option<Operator>
@@ -157,65 +157,51 @@ fn of_inputs(
 
 // The same, with the calls in them: there are none.
 fn gate_value(
-    alloc: Global,
-    around: &Surroundings,
-    added: &mut Added,
-    operations: &mut Vec<Operation>,
+    maker: &mut Maker,
+    calls: &mut Vec<Operation>,
     place: Place,
     word: GateType,
     first: ExprId,
     rest: ExprIds,
-) -> Result<ExprId, LowerFault>
-    requires sound { IsSound mode.Value (surroundings_seen around.now).scope
-        (added_seen added.old).exprs }
-    requires first { first < length (added_seen added.old).exprs }
-    requires rest { all_before (length (added_seen added.old).exprs) rest ≡ true }
-    ensures made { Performs
-        (performed (surroundings_seen around.now) operations.old.items (Gates.of_inputs
-        (surroundings_seen around.now).scope place word first rest) (added_seen added.old))
-        result operations.new.items (added_seen added.new) }
-    ensures sound { OnOk result
-        (IsSound mode.Value (surroundings_seen around.now).scope (added_seen added.new).exprs) }
+) -> Lowered<ExprId>
+    requires sound { HasSound maker.old (added_of maker.old) }
+    requires first { first < length (added_of maker.old).exprs }
+    requires rest { all_before (length (added_of maker.old).exprs) rest ≡ true }
+    ensures { Adds
+        (λ s a. Performs
+        (performed s calls.old.items (Gates.of_inputs s.scope place word first rest) a)
+        calls.new.items)
+        maker.old result maker.new }
 {
-    let from = added.exprs.len();
+    let from = maker.added.exprs.len();
     let value = of_inputs(
-        alloc,
-        around.scope,
-        &mut added.exprs,
+        maker.alloc,
+        maker.around.scope,
+        &mut maker.added.exprs,
         place,
         word,
         first,
         rest,
     )?;
-    let Some(value) = value else {
-        return Err(LowerFault::PassedOver);
-    };
-    add_calls(alloc, around, operations, &added.exprs, from)?;
-    Ok(value)
+    with_calls(maker, calls, from, value)
 }
 
 /// The delay of a gate, behind the calls that it makes.
 pub fn gate_delay(
-    alloc: Global,
-    around: &Surroundings,
-    added: &mut Added,
-    operations: &mut Vec<Operation>,
+    maker: &mut Maker,
+    calls: &mut Vec<Operation>,
     delay: &Option<Boxed<Delay>>,
-) -> Result<Option<Wait>, LowerFault>
-    requires sound { IsSound mode.Value (surroundings_seen around.now).scope
-        (added_seen added.old).exprs }
-    requires unit { is_unit (surroundings_seen around.now).scope.precision
-        (surroundings_seen around.now).scope.unit ≡ true }
-    ensures made { Performs (Gates.gate_delay (surroundings_seen around.now) operations.old.items
-        (option_map delay_tree delay.now) (added_seen added.old))
-        result operations.new.items (added_seen added.new) }
-    ensures sound { OnOk result
-        (IsSound mode.Value (surroundings_seen around.now).scope (added_seen added.new).exprs) }
+) -> Lowered<Option<Wait>>
+    requires stands { Stands maker.old }
+    ensures { Adds
+        (λ s a. Performs (Gates.gate_delay s calls.old.items (option_map delay_tree delay.now) a)
+        calls.new.items)
+        maker.old result maker.new }
 {
     match delay {
         None => Ok(None),
         Some(delay) => {
-            let wait = delay_of(alloc, around, added, operations, delay.get())?;
+            let wait = delay_of(maker, calls, delay.get())?;
             Ok(Some(wait))
         }
     }
@@ -233,28 +219,22 @@ fn width_of(nodes: &[ExprNode], e: ExprId) -> u32
 /// An input of a gate, behind the calls that it makes; `N7` at the gate where it isn't one digit
 /// wide.
 pub fn gate_input(
-    alloc: Global,
-    around: &Surroundings,
-    added: &mut Added,
-    operations: &mut Vec<Operation>,
+    maker: &mut Maker,
+    calls: &mut Vec<Operation>,
     place: Place,
     e: &Expr,
-) -> Result<ExprId, LowerFault>
-    requires sound { IsSound mode.Value (surroundings_seen around.now).scope
-        (added_seen added.old).exprs }
-    requires unit { is_unit (surroundings_seen around.now).scope.precision
-        (surroundings_seen around.now).scope.unit ≡ true }
-    ensures made { Performs (Gates.input_of (surroundings_seen around.now) place
-        operations.old.items (expr_tree e.now) (added_seen added.old))
-        result operations.new.items (added_seen added.new) }
-    ensures sound { OnOk result
-        (IsSound mode.Value (surroundings_seen around.now).scope (added_seen added.new).exprs) }
-    ensures below { IfOk result (λ n. n < length (added_seen added.new).exprs) }
+) -> Lowered<ExprId>
+    requires stands { Stands maker.old }
+    ensures made { Adds
+        (λ s a. Performs (Gates.input_of s place calls.old.items (expr_tree e.now) a)
+        calls.new.items)
+        maker.old result maker.new }
+    ensures below { IfOk result (λ n. n < length (added_of maker.new).exprs) }
     ensures grows { OnOk result
-        (length (added_seen added.old).exprs ≤ length (added_seen added.new).exprs) }
+        (length (added_of maker.old).exprs ≤ length (added_of maker.new).exprs) }
 {
-    let value = value_of(alloc, around, added, operations, e)?;
-    if width_of(&added.exprs, value) != 1 {
+    let value = value_of(maker, calls, e)?;
+    if width_of(&maker.added.exprs, value) != 1 {
         return Err(LowerFault::Refused(DesignFault::N7, place));
     }
     Ok(value)
@@ -280,9 +260,7 @@ fn driving_from(
 
 /// The code of a gate over its inputs, whose nodes stand from one on.
 pub fn gate_code(
-    alloc: Global,
-    around: &Surroundings,
-    added: &mut Added,
+    maker: &mut Maker,
     place: Place,
     word: GateType,
     drivers: DriverIds,
@@ -291,81 +269,69 @@ pub fn gate_code(
     first: ExprId,
     rest: ExprIds,
     operations: Vec<Operation>,
-) -> Result<Code, LowerFault>
-    requires sound { IsSound mode.Value (surroundings_seen around.now).scope
-        (added_seen added.old).exprs }
-    requires first { first < length (added_seen added.old).exprs }
-    requires rest { all_before (length (added_seen added.old).exprs) rest ≡ true }
-    ensures made { Makes (Gates.gate_code (surroundings_seen around.now) place word drivers from
-        delay first rest operations.items (added_seen added.old)) result (added_seen added.new) }
-    ensures sound { OnOk result
-        (IsSound mode.Value (surroundings_seen around.now).scope (added_seen added.new).exprs) }
+) -> Lowered<Code>
+    requires sound { HasSound maker.old (added_of maker.old) }
+    requires first { first < length (added_of maker.old).exprs }
+    requires rest { all_before (length (added_of maker.old).exprs) rest ≡ true }
+    ensures { Adds
+        (λ s a. Makes
+        (Gates.gate_code s place word drivers from delay first rest operations.items a))
+        maker.old result maker.new }
 {
     let mut operations = operations;
-    let value = gate_value(
-        alloc,
-        around,
-        added,
-        &mut operations,
-        place,
-        word,
-        first,
-        rest,
-    )?;
-    driving_from(alloc, added, drivers, from, delay, value, operations)
+    let value = gate_value(maker, &mut operations, place, word, first, rest)?;
+    driving_from(
+        maker.alloc,
+        maker.added,
+        drivers,
+        from,
+        delay,
+        value,
+        operations,
+    )
 }
 
 // The whole of an object, with the calls in that: there are none.
 fn whole_value(
-    alloc: Global,
-    around: &Surroundings,
-    added: &mut Added,
-    operations: &mut Vec<Operation>,
+    maker: &mut Maker,
+    calls: &mut Vec<Operation>,
     place: Place,
     inner: ObjId,
-) -> Result<ExprId, LowerFault>
-    requires sound { IsSound mode.Value (surroundings_seen around.now).scope
-        (added_seen added.old).exprs }
-    requires readable { fits_word (surroundings_seen around.now).scope.objects
-        (length (added_seen added.old).exprs) access.Read inner None ≡ true }
-    ensures made { Performs
-        (performed (surroundings_seen around.now) operations.old.items (selected_pushed
-        (surroundings_seen around.now).scope place (whole_of inner) (Some select.Whole))
-        (added_seen added.old)) result operations.new.items (added_seen added.new) }
-    ensures sound { OnOk result
-        (IsSound mode.Value (surroundings_seen around.now).scope (added_seen added.new).exprs) }
+) -> Lowered<ExprId>
+    requires sound { HasSound maker.old (added_of maker.old) }
+    requires readable { fits_word (around_of maker.old).scope.objects
+        (length (added_of maker.old).exprs) access.Read inner None ≡ true }
+    ensures { Adds
+        (λ s a. Performs
+        (performed s calls.old.items
+        (selected_pushed s.scope place (whole_of inner) (Some select.Whole)) a) calls.new.items)
+        maker.old result maker.new }
 {
-    let from = added.exprs.len();
+    let from = maker.added.exprs.len();
     let of = whole_of(inner);
     let whole = Some(Select::Whole);
-    let value = push_selected(around.scope, &mut added.exprs, place, of, whole)?;
-    let Some(value) = value else {
-        return Err(LowerFault::PassedOver);
-    };
-    add_calls(alloc, around, operations, &added.exprs, from)?;
-    Ok(value)
+    let value = push_selected(maker.around.scope, &mut maker.added.exprs, place, of, whole)?;
+    with_calls(maker, calls, from, value)
 }
 
 /// The code of an output port, whose inner net or variable is this object.
-pub fn port_code(
-    alloc: Global,
-    around: &Surroundings,
-    added: &mut Added,
-    place: Place,
-    drivers: DriverIds,
-    inner: ObjId,
-) -> Result<Code, LowerFault>
-    requires sound { IsSound mode.Value (surroundings_seen around.now).scope
-        (added_seen added.old).exprs }
-    requires readable { fits_word (surroundings_seen around.now).scope.objects
-        (length (added_seen added.old).exprs) access.Read inner None ≡ true }
-    ensures made { Makes (Gates.port_code (surroundings_seen around.now) place drivers inner
-        (added_seen added.old)) result (added_seen added.new) }
-    ensures sound { OnOk result
-        (IsSound mode.Value (surroundings_seen around.now).scope (added_seen added.new).exprs) }
+pub fn port_code(maker: &mut Maker, place: Place, drivers: DriverIds, inner: ObjId) -> Lowered<Code>
+    requires sound { HasSound maker.old (added_of maker.old) }
+    requires readable { fits_word (around_of maker.old).scope.objects
+        (length (added_of maker.old).exprs) access.Read inner None ≡ true }
+    ensures { Adds (λ s a. Makes (Gates.port_code s place drivers inner a))
+        maker.old result maker.new }
 {
-    let from = added.exprs.len();
-    let mut operations = Vec::new(alloc);
-    let value = whole_value(alloc, around, added, &mut operations, place, inner)?;
-    driving_from(alloc, added, drivers, from, None, value, operations)
+    let from = maker.added.exprs.len();
+    let mut operations = Vec::new(maker.alloc);
+    let value = whole_value(maker, &mut operations, place, inner)?;
+    driving_from(
+        maker.alloc,
+        maker.added,
+        drivers,
+        from,
+        None,
+        value,
+        operations,
+    )
 }

@@ -15,4 +15,4 @@ mod targets;
 
 pub use gates::{gate_code, gate_delay, gate_input, has_terminals, port_code};
 pub use nets::{is_net_at, object_width};
-pub use targets::{Drivers, drivers_sum, output_drivers, target_drivers};
+pub use targets::{Drivers, Driving, drivers_sum, output_drivers, target_drivers};

@@ -20,6 +20,9 @@ use vh_nodes::{DriverInfo, ExprNode, is_width};
 /// Drivers in a row, the highest first.
 pub type Drivers = Sequence<DriverInfo>;
 
+/// The drivers of what is assigned to; none where it needs what has no value.
+pub type Driving = Result<Option<Drivers>, ElabFault>;
+
 // A driver more; answers whether there is one.
 fn add_driver(drivers: &mut Vec<DriverInfo>, driver: Option<DriverInfo>) -> Result<bool, NoMemory>
     ensures { IfOk result (λ b. Nets.one_more drivers.old.items driver
@@ -85,7 +88,7 @@ pub fn drivers_sum(drivers: &[DriverInfo]) -> u32
 }
 
 // Together they have a width that a vector may have.
-fn in_width(place: Place, drivers: Vec<DriverInfo>) -> Result<Option<Drivers>, ElabFault>
+fn in_width(place: Place, drivers: Vec<DriverInfo>) -> Driving
     ensures { Gives (Nets.in_width place (Some drivers.items)) result }
 {
     if !is_width(drivers_sum(&drivers)) {
@@ -111,23 +114,6 @@ fn add_pieces(
         }
     }
     Ok(true)
-}
-
-/// The drivers of a target; none where it needs what has no value.
-pub fn target_drivers(
-    alloc: Global,
-    scope: &Scope,
-    nodes: &[ExprNode],
-    lv: &Lv,
-) -> Result<Option<Drivers>, ElabFault>
-    ensures { Gives (Nets.target_drivers (here (scope_seen scope.now) nodes.now)
-        (lv_tree lv.now)) result }
-{
-    let mut drivers = Vec::new(alloc);
-    if !add_pieces(alloc, scope, nodes, lv.parts.as_slice(), &mut drivers)? {
-        return Ok(None);
-    }
-    in_width(lv.place, drivers)
 }
 
 // An expression as a target: nothing but a name or a concatenation is one.
@@ -179,13 +165,20 @@ fn add_exprs(
     Ok(true)
 }
 
+/// The drivers of a target; none where it needs what has no value.
+pub fn target_drivers(alloc: Global, scope: &Scope, nodes: &[ExprNode], lv: &Lv) -> Driving
+    ensures { Gives (Nets.target_drivers (here (scope_seen scope.now) nodes.now)
+        (lv_tree lv.now)) result }
+{
+    let mut drivers = Vec::new(alloc);
+    if !add_pieces(alloc, scope, nodes, lv.parts.as_slice(), &mut drivers)? {
+        return Ok(None);
+    }
+    in_width(lv.place, drivers)
+}
+
 /// The drivers of an expression that is an output.
-pub fn output_drivers(
-    alloc: Global,
-    scope: &Scope,
-    nodes: &[ExprNode],
-    e: &Expr,
-) -> Result<Option<Drivers>, ElabFault>
+pub fn output_drivers(alloc: Global, scope: &Scope, nodes: &[ExprNode], e: &Expr) -> Driving
     ensures { Gives (Nets.output_drivers (here (scope_seen scope.now) nodes.now)
         (expr_tree e.now)) result }
 {
