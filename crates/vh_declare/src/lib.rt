@@ -26,3 +26,4 @@ pub use genvars::{Genvars, genvars_in};
 pub use given::Given;
 pub use known::{Home, Known};
 pub use objects::{around, instance_object, is_routine, name_wires};
+pub use standing::in_scope;

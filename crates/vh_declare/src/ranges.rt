@@ -4,7 +4,6 @@ ghost use Rattle.vh_logic.specs.declared.vector.TheConstants.{MAX_WIDTH};
 ghost use Rattle.vh_ast.specs.Views.{expr_tree, range_tree, type_tree};
 ghost use Rattle.vh_bind.specs.Steps.{Gives};
 ghost use Rattle.vh_bind.specs.Views.{scope_seen};
-ghost use Rattle.vh_sites.specs.Views.{var_type_seen};
 ghost use Rattle.vh_least.specs.Least.{both};
 ghost use Rattle.vh_declare.specs.Views.{BothBy};
 ghost use Rattle.vh_declare.specs.Constants;
@@ -18,7 +17,6 @@ use vh_bind::{ElabFault, Scope, constant, number_in};
 use vh_least::lesser;
 use vh_logic::MAX_WIDTH;
 use vh_nodes::Range;
-use vh_sites::VarType;
 
 // The greatest bound.
 const MOST_BOUND: u64 = 0x7fff_ffff;
@@ -149,7 +147,7 @@ pub(crate) struct Measure {
 }
 
 // That of a vector.
-fn vector_measure(signed: bool, range: Range) -> Measure
+pub(crate) fn vector_measure(signed: bool, range: Range) -> Measure
     requires { Constants.span range ≤ MAX_WIDTH }
     ensures { result ≡ Constants.vector_measure signed range }
 {
@@ -178,7 +176,7 @@ fn words_measure(signed: bool, addresses: Range, range: Range) -> Measure
 }
 
 // That of a type.
-fn typed_measure(
+pub(crate) fn typed_measure(
     alloc: Global,
     scope: &Scope,
     data_type: &DataType,
@@ -228,7 +226,7 @@ fn own_or(
 }
 
 // That of a type, and of a port of the same name.
-fn joined_measure(
+pub(crate) fn joined_measure(
     alloc: Global,
     scope: &Scope,
     data_type: &DataType,
@@ -242,25 +240,6 @@ fn joined_measure(
     match own_or(&data_type.range, own, other) {
         None => Ok(None),
         Some(range) => Ok(Some(vector_measure(signed, range))),
-    }
-}
-
-/// That of a variable or a net.
-#[tactic(auto, unfolding(crate::specs::Constants::var_measure))]
-pub(crate) fn var_measure(
-    alloc: Global,
-    scope: &Scope,
-    var_type: VarType,
-) -> Result<Option<Measure>, ElabFault>
-    ensures { Gives (Constants.var_measure (scope_seen scope.now)
-        (var_type_seen var_type.entry)) result }
-{
-    match var_type {
-        VarType::Typed(data_type, None) => typed_measure(alloc, scope, data_type),
-        VarType::Typed(data_type, Some(port)) => joined_measure(alloc, scope, data_type, port),
-        VarType::OneDigit => Ok(Some(vector_measure(false, LONE_DIGIT))),
-        VarType::Integer => Ok(Some(vector_measure(true, Range { left: 31, right: 0 }))),
-        VarType::Time => Ok(Some(vector_measure(false, Range { left: 63, right: 0 }))),
     }
 }
 

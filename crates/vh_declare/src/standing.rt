@@ -1,6 +1,7 @@
 ghost use Rattle.std.specs.Prelude.{◌≡◌};
 ghost use Rattle.vh_ast.specs.Views.{expr_tree, range_tree, type_tree};
 ghost use Rattle.vh_bind.specs.Steps.{Gives};
+ghost use Rattle.vh_bind.specs.Views.{scope_seen};
 ghost use Rattle.vh_ports.specs.Views.{data_type_seen};
 ghost use Rattle.vh_sites.specs.Views.{site_seen, var_type_seen};
 ghost use Rattle.vh_declare.specs.Constants;
@@ -8,17 +9,50 @@ ghost use Rattle.vh_declare.specs.Views.{home_seen, known_seen};
 
 use crate::genvars::genvars_in;
 use crate::known::{Home, Known};
-use crate::objects::around;
+use crate::objects::{LONE_DIGIT, around};
 use crate::parameters::{Bounded, given_to, own_or_given};
-use crate::ranges::{Measure, memory_measure, var_measure};
+use crate::ranges::{Measure, joined_measure, memory_measure, typed_measure, vector_measure};
 use std::alloc::Global;
 use vh_ast::{DataType, Expr, ParameterWord};
 use vh_base::ObjId;
-use vh_bind::{ElabFault, Scope};
+use vh_bind::{ElabFault, Genvar, Scope};
+use vh_nodes::Range;
 use vh_scope::Top;
 use vh_sites::{Site, VarType};
 
+/// What comes of something that is done in these scopes of an instance, where these genvars have a
+/// value.
+pub fn in_scope<R, F: FnOnce(&Scope) -> R>(
+    home: Home,
+    known: &Known,
+    around: &[ObjId],
+    genvars: &[Genvar],
+    work: F,
+) -> R
+    requires { F.IsAlwaysCallable work }
+    ensures { (inside : _) × F.post work inside result
+        × (scope_seen inside.now ≡ record (Constants.scope_in (home_seen home.entry)
+        (known_seen known.now) around.now) { genvars = genvars.now }) }
+{
+    let inside = Scope {
+        names: &known.names,
+        around,
+        top: Top {
+            id: ObjId::new(0),
+            name: home.top_name,
+        },
+        genvars,
+        objects: &known.objects,
+        exprs: &known.exprs,
+        routines: &[],
+        unit: home.unit,
+        precision: home.precision,
+    };
+    work(&inside)
+}
+
 /// What is known of a variable that is declared in a scope.
+#[tactic(auto, unfolding(crate::specs::Constants::var_measure))]
 pub(crate) fn var_at(
     alloc: Global,
     home: Home,
@@ -32,21 +66,17 @@ pub(crate) fn var_at(
 {
     let around = around(alloc, &known.objects, ObjId::new(scope))?;
     let genvars = genvars_in(alloc, &known.genvars, &around)?;
-    let inside = Scope {
-        names: &known.names,
-        around: &around,
-        top: Top {
-            id: ObjId::new(0),
-            name: home.top_name,
-        },
-        genvars: &genvars,
-        objects: &known.objects,
-        exprs: &known.exprs,
-        routines: &[],
-        unit: home.unit,
-        precision: home.precision,
-    };
-    var_measure(alloc, &inside, var_type)
+    match var_type {
+        VarType::Typed(own, None) => in_scope(home, known, &around, &genvars, |inside| {
+            typed_measure(alloc, inside, own)
+        }),
+        VarType::Typed(own, Some(port)) => in_scope(home, known, &around, &genvars, |inside| {
+            joined_measure(alloc, inside, own, port)
+        }),
+        VarType::OneDigit => Ok(Some(vector_measure(false, LONE_DIGIT))),
+        VarType::Integer => Ok(Some(vector_measure(true, Range { left: 31, right: 0 }))),
+        VarType::Time => Ok(Some(vector_measure(false, Range { left: 63, right: 0 }))),
+    }
 }
 
 /// The same of a memory.
@@ -64,21 +94,9 @@ pub(crate) fn memory_at(
 {
     let around = around(alloc, &known.objects, ObjId::new(scope))?;
     let genvars = genvars_in(alloc, &known.genvars, &around)?;
-    let inside = Scope {
-        names: &known.names,
-        around: &around,
-        top: Top {
-            id: ObjId::new(0),
-            name: home.top_name,
-        },
-        genvars: &genvars,
-        objects: &known.objects,
-        exprs: &known.exprs,
-        routines: &[],
-        unit: home.unit,
-        precision: home.precision,
-    };
-    memory_measure(alloc, &inside, data_type, addresses)
+    in_scope(home, known, &around, &genvars, |inside| {
+        memory_measure(alloc, inside, data_type, addresses)
+    })
 }
 
 /// The value of a parameter, which it may be given.
@@ -97,20 +115,13 @@ pub(crate) fn value_at(
 {
     let around = around(alloc, &known.objects, ObjId::new(site.scope))?;
     let genvars = genvars_in(alloc, &known.genvars, &around)?;
-    let inside = Scope {
-        names: &known.names,
-        around: &around,
-        top: Top {
-            id: ObjId::new(0),
-            name: home.top_name,
-        },
-        genvars: &genvars,
-        objects: &known.objects,
-        exprs: &known.exprs,
-        routines: &[],
-        unit: home.unit,
-        precision: home.precision,
-    };
     let given = given_to(alloc, home, site, word)?;
-    own_or_given(alloc, &inside, data_type, e, given)
+    match data_type {
+        None => in_scope(home, known, &around, &genvars, |inside| {
+            own_or_given(alloc, inside, None, e, given)
+        }),
+        Some(data_type) => in_scope(home, known, &around, &genvars, |inside| {
+            own_or_given(alloc, inside, Some(data_type), e, given)
+        }),
+    }
 }

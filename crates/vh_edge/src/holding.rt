@@ -1,6 +1,6 @@
-ghost use Rattle.std.specs.Prelude.{◌≡◌, ◌≢◌, ◌++◌, ◌<◌, ◌≤◌, ◌+◌, ℕ, [], None, length, OnOk, OnErr, IfOk, IsTrue, if◌then◌else◌};
-ghost use Rattle.vh_base.specs.Outside.{Rose, appended, AppendsFront};
-ghost use Rattle.vh_edge.specs.Kept.{Kept};
+ghost use Rattle.std.specs.Prelude.{◌≡◌, ◌++◌, ◌≤◌, [], None, length, OnOk, OnErr, IfOk, IsTrue, if◌then◌else◌};
+ghost use Rattle.vh_base.specs.Outside.{appended, AppendsFront};
+ghost use Rattle.vh_edge.specs.Kept.{Kept, Tells};
 
 use std::alloc::Global;
 use std::rt::Clock;
@@ -57,11 +57,7 @@ impl<'a, K: Sink, C: Clock> Holding<'a, K, C> {
             ≡ appended (K.written self.old.sink) self.old.held.items) }
         ensures err { OnErr result (AppendsFront (K.written self.old.sink) (K.written self.new.sink)
             self.old.held.items) }
-        ensures failed { result ≡ Err SinkFault.Failed
-            → Rose (K.faults self.old.sink) (K.faults self.new.sink) }
-        ensures calm { result ≢ Err SinkFault.Failed
-            → K.faults self.new.sink ≡ K.faults self.old.sink }
-        ensures later { K.faults self.old.sink ≤ K.faults self.new.sink }
+        ensures tells { Tells result (K.faults self.old.sink) (K.faults self.new.sink) }
         ensures room { self.new.room ≡ self.old.room }
     {
         let written = write_whole(&mut self.sink, self.held.as_slice());
@@ -78,11 +74,7 @@ impl<'a, K: Sink, C: Clock> Holding<'a, K, C> {
         ensures err { OnErr result (AppendsFront (K.written self.old.sink) (K.written self.new.sink)
             (self.old.held.items ++ piece.now)) }
         ensures nothing { OnErr result (self.new.held.items ≡ []) }
-        ensures failed { result ≡ Err SinkFault.Failed
-            → Rose (K.faults self.old.sink) (K.faults self.new.sink) }
-        ensures calm { result ≢ Err SinkFault.Failed
-            → K.faults self.new.sink ≡ K.faults self.old.sink }
-        ensures later { K.faults self.old.sink ≤ K.faults self.new.sink }
+        ensures tells { Tells result (K.faults self.old.sink) (K.faults self.new.sink) }
         ensures bounded { length self.old.held.items ≤ self.old.room
             → length self.new.held.items ≤ self.old.room }
     {
@@ -102,11 +94,7 @@ impl<'a, K: Sink, C: Clock> Holding<'a, K, C> {
         ensures err { OnErr result (AppendsFront (K.written self.old.sink) (K.written self.new.sink)
             (self.old.held.items ++ piece.now)) }
         ensures nothing { OnErr result (self.new.held.items ≡ []) }
-        ensures failed { result ≡ Err SinkFault.Failed
-            → Rose (K.faults self.old.sink) (K.faults self.new.sink) }
-        ensures calm { result ≢ Err SinkFault.Failed
-            → K.faults self.new.sink ≡ K.faults self.old.sink }
-        ensures later { K.faults self.old.sink ≤ K.faults self.new.sink }
+        ensures tells { Tells result (K.faults self.old.sink) (K.faults self.new.sink) }
         ensures bounded { length self.old.held.items ≤ self.old.room
             → length self.new.held.items ≤ self.old.room }
         ensures room { self.new.room ≡ self.old.room }
@@ -178,9 +166,7 @@ impl<K: Sink, C: Clock> Sink for Holding<'_, K, C> {
 fn write_whole<K: Sink>(out: &mut K, piece: &[u8]) -> Result<(), SinkFault>
     ensures ok { OnOk result (K.written out.new ≡ appended (K.written out.old) piece.now) }
     ensures err { OnErr result (AppendsFront (K.written out.old) (K.written out.new) piece.now) }
-    ensures failed { result ≡ Err SinkFault.Failed → Rose (K.faults out.old) (K.faults out.new) }
-    ensures calm { result ≢ Err SinkFault.Failed → K.faults out.new ≡ K.faults out.old }
-    ensures later { K.faults out.old ≤ K.faults out.new }
+    ensures tells { Tells result (K.faults out.old) (K.faults out.new) }
 {
     let mut done = 0;
     while done < piece.len() {

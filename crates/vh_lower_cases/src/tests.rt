@@ -7,7 +7,7 @@ ghost use Rattle.vh_bind.specs.declared.scope.Mode.TheVariants as mode;
 ghost use Rattle.vh_bind.specs.Nodes.{IsSound};
 ghost use Rattle.vh_bind.specs.Views.{scope_seen};
 ghost use Rattle.vh_bind_stmt.specs.Views.{surroundings_seen};
-ghost use Rattle.vh_lower.specs.Views.{added_seen};
+ghost use Rattle.vh_lower.specs.Views.{Stands, added_seen};
 
 use crate::texts::{show_operation, show_place};
 use sqlite_items::Boxed;
@@ -22,7 +22,7 @@ use vh_code::{Code, Edge, Instruction, Operation, Pause, Single, Term, WaitInfo}
 use vh_flow::CodeKind;
 use vh_lex::Lexer;
 use vh_logic::Vec4;
-use vh_lower::{Added, LowerFault, drive_code, initial_code, lower};
+use vh_lower::{Added, LowerFault, Lowered, Maker, drive_code, initial_code, lower};
 use vh_nodes::{Detail, ExprKind, ExprNode, Kind, ObjectInfo, Range};
 use vh_parse_stmt::parse_stmt;
 use vh_scope::{Meaning, Names, Top};
@@ -194,7 +194,7 @@ const PLACE: Place = Place {
     column: 1,
 };
 
-fn added(alloc: Global, scope: &Scope) -> Result<Added, LowerFault>
+fn added(alloc: Global, scope: &Scope) -> Lowered<Added>
     ensures { IfOk result (λ a. IsSound mode.Value (scope_seen scope.now) (added_seen a).exprs) }
 {
     let mut added = Added {
@@ -224,57 +224,32 @@ fn right_side(stmt: Stmt) -> Option<(Option<Boxed<Delay>>, Boxed<Expr>)> {
     }
 }
 
-fn initial(
-    alloc: Global,
-    around: &Surroundings,
-    added: &mut Added,
-    stmt: Stmt,
-) -> Result<Code, LowerFault>
-    requires sound { IsSound mode.Value (surroundings_seen around.now).scope
-        (added_seen added.old).exprs }
-    requires unit { is_unit (surroundings_seen around.now).scope.precision
-        (surroundings_seen around.now).scope.unit ≡ true }
+fn initial(maker: &mut Maker, stmt: Stmt) -> Lowered<Code>
+    requires stands { Stands maker.old }
 {
     match right_side(stmt) {
-        Some((_, value)) => initial_code(alloc, around, added, ObjId::new(4), value.get()),
+        Some((_, value)) => initial_code(maker, ObjId::new(4), value.get()),
         None => Err(LowerFault::PassedOver),
     }
 }
 
-fn driven(
-    alloc: Global,
-    around: &Surroundings,
-    added: &mut Added,
-    stmt: Stmt,
-) -> Result<Code, LowerFault>
-    requires sound { IsSound mode.Value (surroundings_seen around.now).scope
-        (added_seen added.old).exprs }
-    requires unit { is_unit (surroundings_seen around.now).scope.precision
-        (surroundings_seen around.now).scope.unit ≡ true }
+fn driven(maker: &mut Maker, stmt: Stmt) -> Lowered<Code>
+    requires stands { Stands maker.old }
 {
-    let drivers = Sequence::new(Vec::new(alloc));
+    let drivers = Sequence::new(Vec::new(maker.alloc));
     match right_side(stmt) {
-        Some((delay, value)) => drive_code(alloc, around, added, drivers, &delay, value.get()),
+        Some((delay, value)) => drive_code(maker, drivers, &delay, value.get()),
         None => Err(LowerFault::PassedOver),
     }
 }
 
-fn made(
-    alloc: Global,
-    around: &Surroundings,
-    added: &mut Added,
-    wanted: Wanted,
-    stmt: Stmt,
-) -> Result<Code, LowerFault>
-    requires sound { IsSound mode.Value (surroundings_seen around.now).scope
-        (added_seen added.old).exprs }
-    requires unit { is_unit (surroundings_seen around.now).scope.precision
-        (surroundings_seen around.now).scope.unit ≡ true }
+fn made(maker: &mut Maker, wanted: Wanted, stmt: Stmt) -> Lowered<Code>
+    requires stands { Stands maker.old }
 {
     match wanted {
-        Wanted::Statement(kind) => lower(alloc, around, added, kind, &stmt),
-        Wanted::Value => initial(alloc, around, added, stmt),
-        Wanted::Driven => driven(alloc, around, added, stmt),
+        Wanted::Statement(kind) => lower(maker, kind, &stmt),
+        Wanted::Value => initial(maker, stmt),
+        Wanted::Driven => driven(maker, stmt),
     }
 }
 
@@ -283,12 +258,17 @@ fn made_beside(
     around: &Surroundings,
     wanted: Wanted,
     stmt: Stmt,
-) -> Result<(Code, Added), LowerFault>
+) -> Lowered<(Code, Added)>
     requires unit { is_unit (surroundings_seen around.now).scope.precision
         (surroundings_seen around.now).scope.unit ≡ true }
 {
     let mut added = added(alloc, around.scope)?;
-    let code = made(alloc, around, &mut added, wanted, stmt)?;
+    let mut maker = Maker {
+        alloc,
+        around,
+        added: &mut added,
+    };
+    let code = made(&mut maker, wanted, stmt)?;
     Ok((code, added))
 }
 
@@ -298,19 +278,14 @@ fn lowered_in<'s>(
     arguments: &'s [Arguments],
     wanted: Wanted,
     stmt: Stmt,
-) -> Result<(Code, Added), LowerFault>
+) -> Lowered<(Code, Added)>
     requires unit { is_unit (scope_seen scope.now).precision (scope_seen scope.now).unit ≡ true }
 {
     let around = Surroundings { scope, arguments };
     made_beside(alloc, &around, wanted, stmt)
 }
 
-fn lowered(
-    alloc: Global,
-    world: &World,
-    wanted: Wanted,
-    stmt: Stmt,
-) -> Result<(Code, Added), LowerFault> {
+fn lowered(alloc: Global, world: &World, wanted: Wanted, stmt: Stmt) -> Lowered<(Code, Added)> {
     let five = ExprNode {
         kind: ExprKind::Literal(Vec4::from_planes(8, 5, 0, false)),
         width: 8,

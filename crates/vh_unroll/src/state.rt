@@ -13,13 +13,12 @@ ghost use Rattle.vh_unroll.specs.Views.{NotesBy, home_of, turn_seen, unrolling_s
 use std::alloc::Global;
 use vh_ast::Expr;
 use vh_base::{DesignFault, NoMemory, ObjId, Place};
-use vh_bind::{ElabFault, Genvar, Scope, constant};
-use vh_declare::{Given, Home, Known, around, genvars_in};
+use vh_bind::{ElabFault, Genvar, constant};
+use vh_declare::{Given, Home, Known, around, genvars_in, in_scope};
 use vh_least::least;
 use vh_logic::{Vec4, resize};
 use vh_nodes::Name;
 use vh_ports::Ports;
-use vh_scope::Top;
 use vh_sites::Choice;
 
 /// What is known so far, under numbers of its own, what constructs come to so far, and the least
@@ -125,21 +124,9 @@ fn constant_in<'a>(
 {
     let around = around(alloc, &known.objects, ObjId::new(scope))?;
     let genvars = genvars_at(alloc, known, &around, turn)?;
-    let inside = Scope {
-        names: &known.names,
-        around: &around,
-        top: Top {
-            id: ObjId::new(0),
-            name: home.top_name,
-        },
-        genvars: &genvars,
-        objects: &known.objects,
-        exprs: &known.exprs,
-        routines: &[],
-        unit: home.unit,
-        precision: home.precision,
-    };
-    constant(alloc, &inside, e, 0)
+    in_scope(home, known, &around, &genvars, |inside| {
+        constant(alloc, inside, e, 0)
+    })
 }
 
 // What a constant comes to is noted.
