@@ -1,16 +1,12 @@
-ghost use Rattle.std.specs.Prelude.{◌≡◌, ◌++◌, ◌∷◌, [], length, true, None, Some, IfOk, OnOk};
+ghost use Rattle.std.specs.Prelude.{◌≡◌, ◌++◌, ◌∷◌, [], length, None, Some, IfOk, OnOk};
 ghost use Rattle.std.specs.Option.{option_map};
-ghost use Rattle.vh_nodes.specs.Fits.{is_unit};
 ghost use Rattle.vh_ast.specs.Views.{delay_tree, expr_tree, stmt_tree};
-ghost use Rattle.vh_bind.specs.declared.scope.Mode.TheVariants as mode;
-ghost use Rattle.vh_bind.specs.Nodes.{IsSound};
 ghost use Rattle.vh_bind.specs.Steps.{Gives};
 ghost use Rattle.vh_bind.specs.Views.{scope_seen};
-ghost use Rattle.vh_bind_stmt.specs.Views.{surroundings_seen};
 ghost use Rattle.vh_lower.specs.Views.{added_seen};
 ghost use Rattle.vh_sites.specs.Views.{driven_seen};
 ghost use Rattle.vh_elab.specs.Coded;
-ghost use Rattle.vh_elab.specs.Views.{DrivesBy, Looks, Puts, Tries, coding_seen, ready_seen};
+ghost use Rattle.vh_elab.specs.Views.{Becomes, Codes, DrivesBy, Looks, Puts, Stands, Tries, coding_seen, ready_seen};
 
 use crate::routines::Routines;
 use sqlite_items::Boxed;
@@ -21,11 +17,11 @@ use vh_bind::{ElabFault, Scope};
 use vh_bind_stmt::Surroundings;
 use vh_code::{Code, DriverIds};
 use vh_declare::Genvars;
-use vh_drives::{Drivers, object_width, target_drivers};
+use vh_drives::{Drivers, Driving, object_width, target_drivers};
 use vh_flow::CodeKind;
 use vh_least::{Fault, least};
 use vh_logic::Vec4;
-use vh_lower::{Added, LowerFault, drive_code, initial_code, lower};
+use vh_lower::{Added, LowerFault, Maker, drive_code, initial_code, lower};
 use vh_nodes::{DriverInfo, ExprKind, ExprNode, ObjectInfo};
 use vh_scope::Names;
 use vh_sites::Driven;
@@ -55,6 +51,15 @@ pub(crate) struct Coding {
     pub(crate) passed: bool,
     /// How many statements and operators there are.
     pub(crate) count: u64,
+}
+
+/// Where code is made: the instances, what its statements stand in, and what is made so far.
+#[derive(Drop)]
+pub(crate) struct Coder<'m, 'r, 's, 'a, 'b> {
+    pub(crate) alloc: Global,
+    pub(crate) ready: Ready<'r>,
+    pub(crate) around: &'m Surroundings<'s, 'a, 'b>,
+    pub(crate) coding: &'m mut Coding,
 }
 
 /// The values of parameters alone.
@@ -185,78 +190,58 @@ fn put_body(
 }
 
 /// The process of a first value.
-pub(crate) fn code_value(
-    alloc: Global,
-    ready: Ready,
-    around: &Surroundings,
-    number: u32,
-    e: &Expr,
-    coding: &mut Coding,
-) -> Result<(), NoMemory>
-    requires values { IsSound mode.Value (surroundings_seen around.now).scope
-        (ready_seen ready).values }
-    requires sound { IsSound mode.Value (surroundings_seen around.now).scope
-        (coding_seen coding.old).added.exprs }
-    requires unit { is_unit (surroundings_seen around.now).scope.precision
-        (surroundings_seen around.now).scope.unit ≡ true }
-    ensures coded { OnOk result (coding_seen coding.new
-        ≡ Coded.value_coded (ready_seen ready.entry) (surroundings_seen around.now) number
-        (expr_tree e.now) (coding_seen coding.old)) }
-    ensures sound { OnOk result (IsSound mode.Value (surroundings_seen around.now).scope
-        (coding_seen coding.new).added.exprs) }
+pub(crate) fn code_value(coder: &mut Coder, number: u32, e: &Expr) -> Result<(), NoMemory>
+    requires stands { Stands coder.old }
+    ensures { Codes (λ r w c. Becomes (Coded.value_coded r w number (expr_tree e.now) c))
+        coder.old result coder.new }
 {
     let object = ObjId::new(number);
-    let outcome = initial_code(alloc, around, &mut coding.added, object, e);
-    put_code(alloc, ready, outcome, coding)
+    let outcome = initial_code(
+        &mut Maker {
+            alloc: coder.alloc,
+            around: coder.around,
+            added: &mut coder.coding.added,
+        },
+        object,
+        e,
+    );
+    put_code(coder.alloc, coder.ready, outcome, coder.coding)
 }
 
 /// An `initial` or `always` construct.
-pub(crate) fn code_construct(
-    alloc: Global,
-    ready: Ready,
-    around: &Surroundings,
-    kind: CodeKind,
-    stmt: &Stmt,
-    coding: &mut Coding,
-) -> Result<(), NoMemory>
-    requires values { IsSound mode.Value (surroundings_seen around.now).scope
-        (ready_seen ready).values }
-    requires sound { IsSound mode.Value (surroundings_seen around.now).scope
-        (coding_seen coding.old).added.exprs }
-    requires unit { is_unit (surroundings_seen around.now).scope.precision
-        (surroundings_seen around.now).scope.unit ≡ true }
-    ensures coded { OnOk result (coding_seen coding.new
-        ≡ Coded.construct_coded (ready_seen ready.entry) (surroundings_seen around.now) kind
-        (stmt_tree stmt.now) (coding_seen coding.old)) }
-    ensures sound { OnOk result (IsSound mode.Value (surroundings_seen around.now).scope
-        (coding_seen coding.new).added.exprs) }
+pub(crate) fn code_construct(coder: &mut Coder, kind: CodeKind, stmt: &Stmt) -> Result<(), NoMemory>
+    requires stands { Stands coder.old }
+    ensures { Codes (λ r w c. Becomes (Coded.construct_coded r w kind (stmt_tree stmt.now) c))
+        coder.old result coder.new }
 {
-    let outcome = lower(alloc, around, &mut coding.added, kind, stmt);
-    put_code(alloc, ready, outcome, coding)
+    let outcome = lower(
+        &mut Maker {
+            alloc: coder.alloc,
+            around: coder.around,
+            added: &mut coder.coding.added,
+        },
+        kind,
+        stmt,
+    );
+    put_code(coder.alloc, coder.ready, outcome, coder.coding)
 }
 
 /// The body of a task or function.
-pub(crate) fn code_body(
-    alloc: Global,
-    ready: Ready,
-    around: &Surroundings,
-    stmt: &Stmt,
-    coding: &mut Coding,
-) -> Result<(), NoMemory>
-    requires values { IsSound mode.Value (surroundings_seen around.now).scope
-        (ready_seen ready).values }
-    requires sound { IsSound mode.Value (surroundings_seen around.now).scope
-        (coding_seen coding.old).added.exprs }
-    requires unit { is_unit (surroundings_seen around.now).scope.precision
-        (surroundings_seen around.now).scope.unit ≡ true }
-    ensures coded { OnOk result (coding_seen coding.new
-        ≡ Coded.body_coded (ready_seen ready.entry) (surroundings_seen around.now)
-        (stmt_tree stmt.now) (coding_seen coding.old)) }
-    ensures sound { OnOk result (IsSound mode.Value (surroundings_seen around.now).scope
-        (coding_seen coding.new).added.exprs) }
+pub(crate) fn code_body(coder: &mut Coder, stmt: &Stmt) -> Result<(), NoMemory>
+    requires stands { Stands coder.old }
+    ensures { Codes (λ r w c. Becomes (Coded.body_coded r w (stmt_tree stmt.now) c))
+        coder.old result coder.new }
 {
-    let outcome = lower(alloc, around, &mut coding.added, CodeKind::Body, stmt);
-    put_body(alloc, ready, outcome, coding)
+    let outcome = lower(
+        &mut Maker {
+            alloc: coder.alloc,
+            around: coder.around,
+            added: &mut coder.coding.added,
+        },
+        CodeKind::Body,
+        stmt,
+    );
+    put_body(coder.alloc, coder.ready, outcome, coder.coding)
 }
 
 // A driver more; answers its number.
@@ -311,7 +296,7 @@ fn add_drivers(
 /// Drivers that were looked at; answers their numbers.
 pub(crate) fn put_drivers(
     alloc: Global,
-    outcome: Result<Option<Drivers>, ElabFault>,
+    outcome: Driving,
     coding: &mut Coding,
 ) -> Result<DriverIds, NoMemory>
     ensures numbers { IfOk result (λ numbers. DrivesBy outcome (coding_seen coding.old) numbers
@@ -338,12 +323,7 @@ fn whole_driver(alloc: Global, objects: &[ObjectInfo], object: ObjId) -> Result<
 }
 
 // What a continuous assignment drives.
-fn driven(
-    alloc: Global,
-    scope: &Scope,
-    nodes: &[ExprNode],
-    driven: Driven,
-) -> Result<Option<Drivers>, ElabFault>
+fn driven(alloc: Global, scope: &Scope, nodes: &[ExprNode], driven: Driven) -> Driving
     ensures { Gives (Coded.driven_by (scope_seen scope.now) nodes.now (driven_seen driven.entry))
         result }
 {
@@ -358,85 +338,64 @@ fn driven(
 
 // The value of a continuous assignment.
 fn code_drive(
-    alloc: Global,
-    ready: Ready,
-    around: &Surroundings,
+    coder: &mut Coder,
     numbers: DriverIds,
     delay: &Option<Boxed<Delay>>,
     e: &Expr,
-    coding: &mut Coding,
 ) -> Result<(), NoMemory>
-    requires values { IsSound mode.Value (surroundings_seen around.now).scope
-        (ready_seen ready).values }
-    requires sound { IsSound mode.Value (surroundings_seen around.now).scope
-        (coding_seen coding.old).added.exprs }
-    requires unit { is_unit (surroundings_seen around.now).scope.precision
-        (surroundings_seen around.now).scope.unit ≡ true }
-    ensures coded { OnOk result (coding_seen coding.new
-        ≡ Coded.drive_coded (ready_seen ready.entry) (surroundings_seen around.now)
-        (option_map delay_tree delay.now) (expr_tree e.now)
-        (numbers, coding_seen coding.old)) }
-    ensures sound { OnOk result (IsSound mode.Value (surroundings_seen around.now).scope
-        (coding_seen coding.new).added.exprs) }
+    requires stands { Stands coder.old }
+    ensures { Codes
+        (λ r w c. Becomes
+        (Coded.drive_coded r w (option_map delay_tree delay.now) (expr_tree e.now) (numbers, c)))
+        coder.old result coder.new }
 {
-    let outcome = drive_code(alloc, around, &mut coding.added, numbers, delay, e);
-    put_code(alloc, ready, outcome, coding)
+    let outcome = drive_code(
+        &mut Maker {
+            alloc: coder.alloc,
+            around: coder.around,
+            added: &mut coder.coding.added,
+        },
+        numbers,
+        delay,
+        e,
+    );
+    put_code(coder.alloc, coder.ready, outcome, coder.coding)
 }
 
 /// A continuous assignment.
 pub(crate) fn code_assignment(
-    alloc: Global,
-    ready: Ready,
-    around: &Surroundings,
+    coder: &mut Coder,
     delay: &Option<Boxed<Delay>>,
     target: Driven,
     e: &Expr,
-    coding: &mut Coding,
 ) -> Result<(), NoMemory>
-    requires values { IsSound mode.Value (surroundings_seen around.now).scope
-        (ready_seen ready).values }
-    requires sound { IsSound mode.Value (surroundings_seen around.now).scope
-        (coding_seen coding.old).added.exprs }
-    requires unit { is_unit (surroundings_seen around.now).scope.precision
-        (surroundings_seen around.now).scope.unit ≡ true }
-    ensures coded { OnOk result (coding_seen coding.new
-        ≡ Coded.assignment_coded (ready_seen ready.entry) (surroundings_seen around.now)
-        (option_map delay_tree delay.now) (driven_seen target.entry) (expr_tree e.now)
-        (coding_seen coding.old)) }
-    ensures sound { OnOk result (IsSound mode.Value (surroundings_seen around.now).scope
-        (coding_seen coding.new).added.exprs) }
+    requires stands { Stands coder.old }
+    ensures { Codes
+        (λ r w c. Becomes
+        (Coded.assignment_coded r w (option_map delay_tree delay.now) (driven_seen target.entry)
+        (expr_tree e.now) c))
+        coder.old result coder.new }
 {
-    let outcome = driven(alloc, around.scope, &coding.added.exprs, target);
-    let numbers = put_drivers(alloc, outcome, coding)?;
-    code_drive(alloc, ready, around, numbers, delay, e, coding)
+    let outcome = driven(
+        coder.alloc,
+        coder.around.scope,
+        &coder.coding.added.exprs,
+        target,
+    );
+    let numbers = put_drivers(coder.alloc, outcome, coder.coding)?;
+    code_drive(coder, numbers, delay, e)
 }
 
 /// A net or variable that an input drives: its driver, and the value that it takes.
-pub(crate) fn code_input_value(
-    alloc: Global,
-    ready: Ready,
-    around: &Surroundings,
-    inner: ObjId,
-    e: &Expr,
-    coding: &mut Coding,
-) -> Result<(), NoMemory>
-    requires values { IsSound mode.Value (surroundings_seen around.now).scope
-        (ready_seen ready).values }
-    requires sound { IsSound mode.Value (surroundings_seen around.now).scope
-        (coding_seen coding.old).added.exprs }
-    requires unit { is_unit (surroundings_seen around.now).scope.precision
-        (surroundings_seen around.now).scope.unit ≡ true }
-    ensures coded { OnOk result (coding_seen coding.new
-        ≡ Coded.drive_coded (ready_seen ready.entry) (surroundings_seen around.now) None
-        (expr_tree e.now) (Coded.with_drivers (
-          Some (Coded.whole_driver
-              (ready_seen ready.entry).objects inner),
-          coding_seen coding.old,
-        ))) }
-    ensures sound { OnOk result (IsSound mode.Value (surroundings_seen around.now).scope
-        (coding_seen coding.new).added.exprs) }
+pub(crate) fn code_input_value(coder: &mut Coder, inner: ObjId, e: &Expr) -> Result<(), NoMemory>
+    requires stands { Stands coder.old }
+    ensures { Codes
+        (λ r w c. Becomes
+        (Coded.drive_coded r w None (expr_tree e.now)
+        (Coded.with_drivers (Some (Coded.whole_driver r.objects inner), c))))
+        coder.old result coder.new }
 {
-    let drivers = whole_driver(alloc, ready.objects, inner)?;
-    let numbers = add_drivers(alloc, Some(drivers), coding)?;
-    code_drive(alloc, ready, around, numbers, &None, e, coding)
+    let drivers = whole_driver(coder.alloc, coder.ready.objects, inner)?;
+    let numbers = add_drivers(coder.alloc, Some(drivers), coder.coding)?;
+    code_drive(coder, numbers, &None, e)
 }

@@ -1,28 +1,26 @@
-ghost use Rattle.std.specs.Prelude.{◌≡◌, map, true, None, IfOk, OnOk};
+ghost use Rattle.std.specs.Prelude.{◌≡◌, map, true, None, IfOk};
 ghost use Rattle.std.specs.List.{list_any};
 ghost use Rattle.std.specs.Option.{option_map};
 ghost use Rattle.vh_ast.specs.Items.{by_name, ordered};
-ghost use Rattle.vh_nodes.specs.Fits.{has_kind, is_unit};
+ghost use Rattle.vh_nodes.specs.Fits.{has_kind};
 ghost use Rattle.vh_nodes.specs.Kinds;
 ghost use Rattle.vh_ast.specs.Views.{conn_tree, expr_tree, inst_tree, module_tree};
-ghost use Rattle.vh_bind.specs.declared.scope.Mode.TheVariants as mode;
-ghost use Rattle.vh_bind.specs.Nodes.{IsSound};
-ghost use Rattle.vh_bind_stmt.specs.Views.{surroundings_seen};
 ghost use Rattle.vh_ports.specs.Ports.{is_first, port_at};
 ghost use Rattle.vh_ports.specs.Views.{ids_seen};
 ghost use Rattle.vh_walk.specs.Overrides;
 ghost use Rattle.vh_elab.specs.Connected;
-ghost use Rattle.vh_elab.specs.Views.{coding_seen, outer_seen, ready_seen};
+ghost use Rattle.vh_elab.specs.Views.{Becomes, Codes, HasObjects, Stands, outer_seen, ready_of, ready_seen};
 
-use crate::coding::{Coding, Ready, code_input_value, put_code, put_drivers, take_fault};
+use crate::coding::{Coder, Ready, code_input_value, put_code, put_drivers, take_fault};
 use std::alloc::Global;
 use vh_ast::{Conn, Direction, Expr, Id, Inst};
 use vh_base::{DesignFault, NoMemory, ObjId, Place};
-use vh_bind_stmt::{Surroundings, object_of};
+use vh_bind_stmt::object_of;
 use vh_code::DriverIds;
 use vh_drives::{is_net_at, output_drivers, port_code};
 use vh_index::Index;
 use vh_least::{Fault, fault_if, least};
+use vh_lower::Maker;
 use vh_nodes::is_vector_at;
 use vh_ports::Ports;
 
@@ -217,240 +215,160 @@ pub(crate) fn object_at(ready: Ready, scope: u32, name: &[u8]) -> Option<ObjId>
 }
 
 // An input drives its inner net.
-fn code_input(
-    alloc: Global,
-    ready: Ready,
-    around: &Surroundings,
-    outer: Outer,
-    inner: ObjId,
-    coding: &mut Coding,
-) -> Result<(), NoMemory>
-    requires values { IsSound mode.Value (surroundings_seen around.now).scope
-        (ready_seen ready).values }
-    requires sound { IsSound mode.Value (surroundings_seen around.now).scope
-        (coding_seen coding.old).added.exprs }
-    requires unit { is_unit (surroundings_seen around.now).scope.precision
-        (surroundings_seen around.now).scope.unit ≡ true }
-    requires same { (surroundings_seen around.now).scope.objects ≡ (ready_seen ready).objects }
-    ensures coded { OnOk result (coding_seen coding.new
-        ≡ Connected.input_coded (ready_seen ready.entry) (surroundings_seen around.now)
-        (outer_seen outer.entry) inner (coding_seen coding.old)) }
-    ensures sound { OnOk result (IsSound mode.Value (surroundings_seen around.now).scope
-        (coding_seen coding.new).added.exprs) }
+fn code_input(coder: &mut Coder, outer: Outer, inner: ObjId) -> Result<(), NoMemory>
+    requires stands { Stands coder.old }
+    requires same { HasObjects coder.old }
+    ensures { Codes (λ r w c. Becomes (Connected.input_coded r w (outer_seen outer.entry) inner c))
+        coder.old result coder.new }
 {
-    if !is_net_at(ready.objects, inner) {
-        take_fault(DesignFault::N5, outer.place, coding);
+    if !is_net_at(coder.ready.objects, inner) {
+        take_fault(DesignFault::N5, outer.place, coder.coding);
         return Ok(());
     }
-    code_input_value(alloc, ready, around, inner, outer.expr, coding)
+    code_input_value(coder, inner, outer.expr)
 }
 
 // An output, whose drivers these are.
 fn code_driven(
-    alloc: Global,
-    ready: Ready,
-    around: &Surroundings,
+    coder: &mut Coder,
     outer: Outer,
     inner: ObjId,
     numbers: DriverIds,
-    coding: &mut Coding,
 ) -> Result<(), NoMemory>
-    requires values { IsSound mode.Value (surroundings_seen around.now).scope
-        (ready_seen ready).values }
-    requires sound { IsSound mode.Value (surroundings_seen around.now).scope
-        (coding_seen coding.old).added.exprs }
-    requires unit { is_unit (surroundings_seen around.now).scope.precision
-        (surroundings_seen around.now).scope.unit ≡ true }
-    requires same { (surroundings_seen around.now).scope.objects ≡ (ready_seen ready).objects }
-    requires readable { has_kind Kinds.is_vector (ready_seen ready).objects inner ≡ true }
-    ensures coded { OnOk result (coding_seen coding.new
-        ≡ Connected.output_driven (ready_seen ready.entry) (surroundings_seen around.now)
-        (outer_seen outer.entry) inner (numbers, coding_seen coding.old)) }
-    ensures sound { OnOk result (IsSound mode.Value (surroundings_seen around.now).scope
-        (coding_seen coding.new).added.exprs) }
+    requires stands { Stands coder.old }
+    requires same { HasObjects coder.old }
+    requires readable { has_kind Kinds.is_vector (ready_of coder.old).objects inner ≡ true }
+    ensures { Codes
+        (λ r w c. Becomes (Connected.output_driven r w (outer_seen outer.entry) inner (numbers, c)))
+        coder.old result coder.new }
 {
     let place = outer.expr.place;
-    let outcome = port_code(alloc, around, &mut coding.added, place, numbers, inner);
-    put_code(alloc, ready, outcome, coding)
+    let outcome = port_code(
+        &mut Maker {
+            alloc: coder.alloc,
+            around: coder.around,
+            added: &mut coder.coding.added,
+        },
+        place,
+        numbers,
+        inner,
+    );
+    put_code(coder.alloc, coder.ready, outcome, coder.coding)
 }
 
 // An output drives what it is connected to.
-fn code_output(
-    alloc: Global,
-    ready: Ready,
-    around: &Surroundings,
-    outer: Outer,
-    inner: ObjId,
-    coding: &mut Coding,
-) -> Result<(), NoMemory>
-    requires values { IsSound mode.Value (surroundings_seen around.now).scope
-        (ready_seen ready).values }
-    requires sound { IsSound mode.Value (surroundings_seen around.now).scope
-        (coding_seen coding.old).added.exprs }
-    requires unit { is_unit (surroundings_seen around.now).scope.precision
-        (surroundings_seen around.now).scope.unit ≡ true }
-    requires same { (surroundings_seen around.now).scope.objects ≡ (ready_seen ready).objects }
-    ensures coded { OnOk result (coding_seen coding.new
-        ≡ Connected.output_coded (ready_seen ready.entry) (surroundings_seen around.now)
-        (outer_seen outer.entry) inner (coding_seen coding.old)) }
-    ensures sound { OnOk result (IsSound mode.Value (surroundings_seen around.now).scope
-        (coding_seen coding.new).added.exprs) }
+fn code_output(coder: &mut Coder, outer: Outer, inner: ObjId) -> Result<(), NoMemory>
+    requires stands { Stands coder.old }
+    requires same { HasObjects coder.old }
+    ensures { Codes (λ r w c. Becomes (Connected.output_coded r w (outer_seen outer.entry) inner c))
+        coder.old result coder.new }
 {
-    if !is_vector_at(ready.objects, inner) {
-        coding.passed = true;
+    if !is_vector_at(coder.ready.objects, inner) {
+        coder.coding.passed = true;
         return Ok(());
     }
-    let outcome = output_drivers(alloc, around.scope, &coding.added.exprs, outer.expr);
-    let numbers = put_drivers(alloc, outcome, coding)?;
-    code_driven(alloc, ready, around, outer, inner, numbers, coding)
+    let outcome = output_drivers(
+        coder.alloc,
+        coder.around.scope,
+        &coder.coding.added.exprs,
+        outer.expr,
+    );
+    let numbers = put_drivers(coder.alloc, outcome, coder.coding)?;
+    code_driven(coder, outer, inner, numbers)
 }
 
 fn code_direction(
-    alloc: Global,
-    ready: Ready,
-    around: &Surroundings,
+    coder: &mut Coder,
     outer: Outer,
     inner: ObjId,
     direction: Direction,
-    coding: &mut Coding,
 ) -> Result<(), NoMemory>
-    requires values { IsSound mode.Value (surroundings_seen around.now).scope
-        (ready_seen ready).values }
-    requires sound { IsSound mode.Value (surroundings_seen around.now).scope
-        (coding_seen coding.old).added.exprs }
-    requires unit { is_unit (surroundings_seen around.now).scope.precision
-        (surroundings_seen around.now).scope.unit ≡ true }
-    requires same { (surroundings_seen around.now).scope.objects ≡ (ready_seen ready).objects }
-    ensures coded { OnOk result (coding_seen coding.new
-        ≡ Connected.direction_coded (ready_seen ready.entry) (surroundings_seen around.now)
-        (outer_seen outer.entry) inner direction (coding_seen coding.old)) }
-    ensures sound { OnOk result (IsSound mode.Value (surroundings_seen around.now).scope
-        (coding_seen coding.new).added.exprs) }
+    requires stands { Stands coder.old }
+    requires same { HasObjects coder.old }
+    ensures { Codes
+        (λ r w c. Becomes
+        (Connected.direction_coded r w (outer_seen outer.entry) inner direction c))
+        coder.old result coder.new }
 {
     match direction {
-        Direction::Input => code_input(alloc, ready, around, outer, inner, coding),
-        Direction::Output => code_output(alloc, ready, around, outer, inner, coding),
+        Direction::Input => code_input(coder, outer, inner),
+        Direction::Output => code_output(coder, outer, inner),
     }
 }
 
 // A port: one that isn't connected makes nothing.
 fn code_port(
-    alloc: Global,
-    ready: Ready,
-    around: &Surroundings,
+    coder: &mut Coder,
     ports: &Ports,
     instance: u32,
     outer: Option<Outer>,
     id: &Id,
-    coding: &mut Coding,
 ) -> Result<(), NoMemory>
-    requires values { IsSound mode.Value (surroundings_seen around.now).scope
-        (ready_seen ready).values }
-    requires sound { IsSound mode.Value (surroundings_seen around.now).scope
-        (coding_seen coding.old).added.exprs }
-    requires unit { is_unit (surroundings_seen around.now).scope.precision
-        (surroundings_seen around.now).scope.unit ≡ true }
-    requires same { (surroundings_seen around.now).scope.objects ≡ (ready_seen ready).objects }
-    ensures coded { OnOk result (coding_seen coding.new
-        ≡ Connected.inner_coded (ready_seen ready.entry) (surroundings_seen around.now)
-        (option_map outer_seen outer.entry)
-        (Connected.object_at (ready_seen ready.entry) instance id.now.name)
-        (port_at (module_tree ports.now) id.now.name) (coding_seen coding.old)) }
-    ensures sound { OnOk result (IsSound mode.Value (surroundings_seen around.now).scope
-        (coding_seen coding.new).added.exprs) }
+    requires stands { Stands coder.old }
+    requires same { HasObjects coder.old }
+    ensures { Codes
+        (λ r w c. Becomes
+        (Connected.inner_coded r w (option_map outer_seen outer.entry)
+        (Connected.object_at r instance id.now.name) (port_at (module_tree ports.now) id.now.name)
+        c))
+        coder.old result coder.new }
 {
     let Some(outer) = outer else {
         return Ok(());
     };
     let name = id.name.as_slice();
-    let Some(inner) = object_at(ready, instance, name) else {
+    let Some(inner) = object_at(coder.ready, instance, name) else {
         return Ok(());
     };
     let Some(directed) = ports.port_at(name) else {
         return Ok(());
     };
-    code_direction(
-        alloc,
-        ready,
-        around,
-        outer,
-        inner,
-        directed.direction,
-        coding,
-    )
+    code_direction(coder, outer, inner, directed.direction)
 }
 
 // The ports in a row.
 fn code_row(
-    alloc: Global,
-    ready: Ready,
-    around: &Surroundings,
+    coder: &mut Coder,
     ports: &Ports,
     instance: u32,
     conns: &[Conn],
     index: &Index,
     ids: &[&Id],
-    coding: &mut Coding,
 ) -> Result<(), NoMemory>
-    requires values { IsSound mode.Value (surroundings_seen around.now).scope
-        (ready_seen ready).values }
-    requires sound { IsSound mode.Value (surroundings_seen around.now).scope
-        (coding_seen coding.old).added.exprs }
-    requires unit { is_unit (surroundings_seen around.now).scope.precision
-        (surroundings_seen around.now).scope.unit ≡ true }
-    requires same { (surroundings_seen around.now).scope.objects ≡ (ready_seen ready).objects }
+    requires stands { Stands coder.old }
+    requires same { HasObjects coder.old }
     requires named { index.now ≡ Connected.names_of (map conn_tree conns.now) }
-    ensures coded { OnOk result (coding_seen coding.new
-        ≡ Connected.ports_coded (ready_seen ready.entry) (surroundings_seen around.now)
-        (module_tree ports.now) instance (map conn_tree conns.now) 0 (ids_seen ids.now)
-        (coding_seen coding.old)) }
-    ensures sound { OnOk result (IsSound mode.Value (surroundings_seen around.now).scope
-        (coding_seen coding.new).added.exprs) }
+    ensures { Codes
+        (λ r w c. Becomes
+        (Connected.ports_coded r w (module_tree ports.now) instance (map conn_tree conns.now) 0
+        (ids_seen ids.now) c))
+        coder.old result coder.new }
 {
     let by_place = any_ordered(conns);
     for (number, id) in ids.iter().enumerate() {
         let outer = outer_for(conns, by_place, index, number, id.name.as_slice());
-        code_port(alloc, ready, around, ports, instance, outer, id, coding)?;
+        code_port(coder, ports, instance, outer, id)?;
     }
     Ok(())
 }
 
 /// The connected ports of an instance with this number, in the order of the header.
 pub(crate) fn code_ports(
-    alloc: Global,
-    ready: Ready,
-    around: &Surroundings,
+    coder: &mut Coder,
     ports: &Ports,
     instance: u32,
     inst: &Inst,
-    coding: &mut Coding,
 ) -> Result<(), NoMemory>
-    requires values { IsSound mode.Value (surroundings_seen around.now).scope
-        (ready_seen ready).values }
-    requires sound { IsSound mode.Value (surroundings_seen around.now).scope
-        (coding_seen coding.old).added.exprs }
-    requires unit { is_unit (surroundings_seen around.now).scope.precision
-        (surroundings_seen around.now).scope.unit ≡ true }
-    requires same { (surroundings_seen around.now).scope.objects ≡ (ready_seen ready).objects }
-    ensures coded { OnOk result (coding_seen coding.new
-        ≡ Connected.connected (ready_seen ready.entry) (surroundings_seen around.now)
-        (module_tree ports.now) instance (inst_tree inst.now) (coding_seen coding.old)) }
-    ensures sound { OnOk result (IsSound mode.Value (surroundings_seen around.now).scope
-        (coding_seen coding.new).added.exprs) }
+    requires stands { Stands coder.old }
+    requires same { HasObjects coder.old }
+    ensures { Codes
+        (λ r w c. Becomes
+        (Connected.connected r w (module_tree ports.now) instance (inst_tree inst.now) c))
+        coder.old result coder.new }
 {
     let conns = inst.conns.as_slice();
-    let index = index_of(alloc, conns)?;
+    let index = index_of(coder.alloc, conns)?;
     let fault = list_fault(ports, &index, inst.id.place, conns);
-    coding.fault = least(coding.fault, fault);
-    code_row(
-        alloc,
-        ready,
-        around,
-        ports,
-        instance,
-        conns,
-        &index,
-        ports.ids(),
-        coding,
-    )
+    coder.coding.fault = least(coder.coding.fault, fault);
+    code_row(coder, ports, instance, conns, &index, ports.ids())
 }

@@ -1,4 +1,4 @@
-ghost use Rattle.std.specs.Prelude.{◌≡◌, ◌<◌, ◌^◌, ◌↔◌, [], true, length, map, slice_get, IfOk, IsTrue, OnOk};
+ghost use Rattle.std.specs.Prelude.{◌≡◌, ◌<◌, ◌^◌, ◌↔◌, [], true, map, slice_get, IfOk, IsTrue};
 ghost use Rattle.std.specs.Option.{option_map};
 ghost use Rattle.vh_ast.specs.Views.{module_tree, source_tree};
 ghost use Rattle.vh_bind.specs.Nodes.{AreSound};
@@ -8,11 +8,11 @@ ghost use Rattle.vh_walk.specs.Order;
 ghost use Rattle.vh_walk.specs.Views.{IsSource, placed_seen, source_seen, walk_seen, walked_seen};
 ghost use Rattle.vh_elab.specs.Elaborated;
 ghost use Rattle.vh_elab.specs.Fitting;
-ghost use Rattle.vh_elab.specs.Views.{Elaborates, coding_seen, ready_seen, values_seen};
+ghost use Rattle.vh_elab.specs.Views.{Elaborates, GoesOn, GoesTo, coding_seen, ready_seen, values_seen};
 
 use crate::coding::{Coding, Ready, only_values};
 use crate::routines::routines_of;
-use crate::second_pass::code_sites;
+use crate::second_pass::{Pass, code_sites};
 use std::alloc::Global;
 use vh_ast::{Module, Source};
 use vh_base::{DesignFault, NoMemory, Place};
@@ -143,65 +143,29 @@ fn has_ended(coding: &Coding) -> bool
 }
 
 // The second pass over an instance.
-fn code_instance(
-    alloc: Global,
-    modules: Modules,
-    ready: Ready,
-    parameters: &[ExprNode],
-    placed: &Placed,
-    coding: &mut Coding,
-) -> Result<(), NoMemory>
-    requires source { IsSource modules }
-    requires parameters { parameters.now ≡ (ready_seen ready).values }
-    requires values { AreSound (ready_seen ready).objects (ready_seen ready).precision
-        (ready_seen ready).values }
-    requires sound { AreSound (ready_seen ready).objects (ready_seen ready).precision
-        (coding_seen coding.old).added.exprs }
-    ensures coded { OnOk result (coding_seen coding.new
-        ≡ Elaborated.instance_made (source_seen modules.entry) (ready_seen ready.entry)
-        (placed_seen placed.now) (coding_seen coding.old)) }
-    ensures sound { OnOk result (AreSound (ready_seen ready.entry).objects
-        (ready_seen ready.entry).precision (coding_seen coding.new).added.exprs) }
+fn code_instance(pass: &Pass, placed: &Placed, coding: &mut Coding) -> Result<(), NoMemory>
+    requires ready { GoesOn pass.now coding.old }
+    ensures { GoesTo (λ ms r c. Elaborated.instance_made ms r (placed_seen placed.now) c)
+        pass.now coding.old result coding.new }
 {
-    if !is_unit(ready.precision, placed.unit) {
+    if !is_unit(pass.ready.precision, placed.unit) {
         coding.passed = true;
         return Ok(());
     }
-    code_sites(
-        alloc,
-        modules,
-        ready,
-        parameters,
-        placed.unit,
-        &placed.sites,
-        coding,
-    )
+    code_sites(pass, placed.unit, &placed.sites, coding)
 }
 
 // The second pass, up to the first instance that has a fault.
-fn code_instances(
-    alloc: Global,
-    modules: Modules,
-    ready: Ready,
-    parameters: &[ExprNode],
-    all: &[Placed],
-    coding: &mut Coding,
-) -> Result<(), NoMemory>
-    requires source { IsSource modules }
-    requires parameters { parameters.now ≡ (ready_seen ready).values }
-    requires values { AreSound (ready_seen ready).objects (ready_seen ready).precision
-        (ready_seen ready).values }
-    requires sound { AreSound (ready_seen ready).objects (ready_seen ready).precision
-        (coding_seen coding.old).added.exprs }
-    ensures coded { OnOk result (coding_seen coding.new
-        ≡ Elaborated.instances_made (source_seen modules.entry) (ready_seen ready.entry)
-        (map placed_seen all.now) (coding_seen coding.old)) }
+fn code_instances(pass: &Pass, all: &[Placed], coding: &mut Coding) -> Result<(), NoMemory>
+    requires ready { GoesOn pass.now coding.old }
+    ensures { GoesTo (λ ms r c. Elaborated.instances_made ms r (map placed_seen all.now) c)
+        pass.now coding.old result coding.new }
 {
     for placed in all {
         if has_ended(coding) {
             return Ok(());
         }
-        code_instance(alloc, modules, ready, parameters, placed, coding)?;
+        code_instance(pass, placed, coding)?;
     }
     Ok(())
 }
@@ -232,7 +196,13 @@ fn made_over(
         count: 0,
     };
     let parameters = only_values(alloc, ready)?.exprs;
-    code_instances(alloc, modules, ready, &parameters, all, &mut coding)?;
+    let pass = Pass {
+        alloc,
+        modules,
+        ready,
+        parameters: &parameters,
+    };
+    code_instances(&pass, all, &mut coding)?;
     Ok(Some(coding))
 }
 

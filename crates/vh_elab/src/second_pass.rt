@@ -1,19 +1,18 @@
-ghost use Rattle.std.specs.Prelude.{◌≡◌, map, true, IfOk, OnOk};
+ghost use Rattle.std.specs.Prelude.{◌≡◌, true, OnOk};
 ghost use Rattle.std.specs.Option.{option_map};
 ghost use Rattle.vh_nodes.specs.Fits.{is_unit};
 ghost use Rattle.vh_ast.specs.Views.{inst_tree, module_tree, stmt_tree};
 ghost use Rattle.vh_bind.specs.declared.scope.Mode.TheVariants as mode;
-ghost use Rattle.vh_bind.specs.Nodes.{AreSound, IsSound};
+ghost use Rattle.vh_bind.specs.Nodes.{IsSound};
 ghost use Rattle.vh_bind_stmt.specs.Views.{surroundings_seen};
 ghost use Rattle.vh_modules.specs.Modules.{module_named};
 ghost use Rattle.vh_sites.specs.Views.{all_seen, declared_seen, site_seen};
 ghost use Rattle.vh_walk.specs.Views.{IsSource, source_seen};
 ghost use Rattle.vh_elab.specs.Coded;
-ghost use Rattle.vh_elab.specs.Connected;
 ghost use Rattle.vh_elab.specs.Elaborated;
-ghost use Rattle.vh_elab.specs.Views.{coding_seen, ready_seen};
+ghost use Rattle.vh_elab.specs.Views.{Becomes, Codes, GoesOn, GoesTo, HasObjects, Stands, coding_seen, ready_seen};
 
-use crate::coding::{Coding, Ready, code_assignment, code_body, code_construct, code_value};
+use crate::coding::{Coder, Coding, Ready, code_assignment, code_body, code_construct, code_value};
 use crate::connected::{code_ports, object_at};
 use crate::counts::{MOST_COUNTED, count};
 use crate::gates::code_gate;
@@ -30,34 +29,27 @@ use vh_scope::Top;
 use vh_sites::{CodeWord, Declared, Site, Thing};
 use vh_walk::Modules;
 
+/// What the second pass reads: the modules, the instances, and the values of parameters as
+/// expressions.
+#[derive(Clone, Copy)]
+pub(crate) struct Pass<'a, 'b, 'r, 'p> {
+    pub(crate) alloc: Global,
+    pub(crate) modules: Modules<'a, 'b>,
+    pub(crate) ready: Ready<'r>,
+    pub(crate) parameters: &'p [ExprNode],
+}
+
 // The statement of a construct, a task or a function.
-fn code_statement(
-    alloc: Global,
-    ready: Ready,
-    inside: &Surroundings,
-    word: CodeWord,
-    stmt: &Stmt,
-    coding: &mut Coding,
-) -> Result<(), NoMemory>
-    requires values { IsSound mode.Value (surroundings_seen inside.now).scope
-        (ready_seen ready).values }
-    requires sound { IsSound mode.Value (surroundings_seen inside.now).scope
-        (coding_seen coding.old).added.exprs }
-    requires unit { is_unit (surroundings_seen inside.now).scope.precision
-        (surroundings_seen inside.now).scope.unit ≡ true }
-    requires same { (surroundings_seen inside.now).scope.objects ≡ (ready_seen ready).objects }
-    ensures coded { OnOk result (coding_seen coding.new
-        ≡ Coded.statement_coded (ready_seen ready.entry) (surroundings_seen inside.now) word
-        (stmt_tree stmt.now) (coding_seen coding.old)) }
-    ensures sound { OnOk result (IsSound mode.Value (surroundings_seen inside.now).scope
-        (coding_seen coding.new).added.exprs) }
+fn code_statement(coder: &mut Coder, word: CodeWord, stmt: &Stmt) -> Result<(), NoMemory>
+    requires stands { Stands coder.old }
+    requires same { HasObjects coder.old }
+    ensures { Codes (λ r w c. Becomes (Coded.statement_coded r w word (stmt_tree stmt.now) c))
+        coder.old result coder.new }
 {
     match word {
-        CodeWord::Initial => {
-            code_construct(alloc, ready, inside, CodeKind::Initial, stmt, coding)
-        }
-        CodeWord::Always => code_construct(alloc, ready, inside, CodeKind::Always, stmt, coding),
-        CodeWord::Task | CodeWord::Function => code_body(alloc, ready, inside, stmt, coding),
+        CodeWord::Initial => { code_construct(coder, CodeKind::Initial, stmt) }
+        CodeWord::Always => code_construct(coder, CodeKind::Always, stmt),
+        CodeWord::Task | CodeWord::Function => code_body(coder, stmt),
     }
 }
 
@@ -73,27 +65,18 @@ fn module_named<'a, 'b>(modules: Modules<'a, 'b>, name: &[u8]) -> Option<&'b Por
 
 // The ports of an instance, if its module and it are there.
 fn code_instance(
-    alloc: Global,
-    ready: Ready,
-    inside: &Surroundings,
+    coder: &mut Coder,
     inst: &Inst,
     ports: Option<&Ports>,
     instance: Option<ObjId>,
-    coding: &mut Coding,
 ) -> Result<(), NoMemory>
-    requires values { IsSound mode.Value (surroundings_seen inside.now).scope
-        (ready_seen ready).values }
-    requires sound { IsSound mode.Value (surroundings_seen inside.now).scope
-        (coding_seen coding.old).added.exprs }
-    requires unit { is_unit (surroundings_seen inside.now).scope.precision
-        (surroundings_seen inside.now).scope.unit ≡ true }
-    requires same { (surroundings_seen inside.now).scope.objects ≡ (ready_seen ready).objects }
-    ensures coded { OnOk result (coding_seen coding.new
-        ≡ Elaborated.instance_coded (ready_seen ready.entry) (surroundings_seen inside.now)
-        (inst_tree inst.now) (option_map (λ p. module_tree p.now) ports.entry) instance
-        (coding_seen coding.old)) }
-    ensures sound { OnOk result (IsSound mode.Value (surroundings_seen inside.now).scope
-        (coding_seen coding.new).added.exprs) }
+    requires stands { Stands coder.old }
+    requires same { HasObjects coder.old }
+    ensures { Codes
+        (λ r w c. Becomes
+        (Elaborated.instance_coded r w (inst_tree inst.now)
+        (option_map (λ p. module_tree p.now) ports.entry) instance c))
+        coder.old result coder.new }
 {
     let Some(ports) = ports else {
         return Ok(());
@@ -101,80 +84,54 @@ fn code_instance(
     let Some(instance) = instance else {
         return Ok(());
     };
-    code_ports(alloc, ready, inside, ports, instance.number(), inst, coding)
+    code_ports(coder, ports, instance.number(), inst)
 }
 
 // An instance.
 fn code_child(
-    alloc: Global,
+    coder: &mut Coder,
     modules: Modules,
-    ready: Ready,
-    inside: &Surroundings,
     scope: u32,
     module: &Id,
     inst: &Inst,
-    coding: &mut Coding,
 ) -> Result<(), NoMemory>
     requires source { IsSource modules }
-    requires values { IsSound mode.Value (surroundings_seen inside.now).scope
-        (ready_seen ready).values }
-    requires sound { IsSound mode.Value (surroundings_seen inside.now).scope
-        (coding_seen coding.old).added.exprs }
-    requires unit { is_unit (surroundings_seen inside.now).scope.precision
-        (surroundings_seen inside.now).scope.unit ≡ true }
-    requires same { (surroundings_seen inside.now).scope.objects ≡ (ready_seen ready).objects }
-    ensures coded { OnOk result (coding_seen coding.new
-        ≡ Elaborated.child_coded (source_seen modules.entry) (ready_seen ready.entry)
-        (surroundings_seen inside.now) scope module.now (inst_tree inst.now)
-        (coding_seen coding.old)) }
-    ensures sound { OnOk result (IsSound mode.Value (surroundings_seen inside.now).scope
-        (coding_seen coding.new).added.exprs) }
+    requires stands { Stands coder.old }
+    requires same { HasObjects coder.old }
+    ensures { Codes
+        (λ r w c. Becomes
+        (Elaborated.child_coded (source_seen modules.entry) r w scope module.now
+        (inst_tree inst.now) c))
+        coder.old result coder.new }
 {
     let ports = module_named(modules, module.name.as_slice());
-    let instance = object_at(ready, scope, inst.id.name.as_slice());
-    code_instance(alloc, ready, inside, inst, ports, instance, coding)
+    let instance = object_at(coder.ready, scope, inst.id.name.as_slice());
+    code_instance(coder, inst, ports, instance)
 }
 
 // A site, in its surroundings.
 fn code_declared(
-    alloc: Global,
+    coder: &mut Coder,
     modules: Modules,
-    ready: Ready,
-    inside: &Surroundings,
     number: u32,
     scope: u32,
     declared: Declared,
-    coding: &mut Coding,
 ) -> Result<(), NoMemory>
     requires source { IsSource modules }
-    requires values { IsSound mode.Value (surroundings_seen inside.now).scope
-        (ready_seen ready).values }
-    requires sound { IsSound mode.Value (surroundings_seen inside.now).scope
-        (coding_seen coding.old).added.exprs }
-    requires unit { is_unit (surroundings_seen inside.now).scope.precision
-        (surroundings_seen inside.now).scope.unit ≡ true }
-    requires same { (surroundings_seen inside.now).scope.objects ≡ (ready_seen ready).objects }
-    ensures coded { OnOk result (coding_seen coding.new
-        ≡ Elaborated.declared_coded (source_seen modules.entry) (ready_seen ready.entry)
-        (surroundings_seen inside.now) number scope (declared_seen declared.entry)
-        (coding_seen coding.old)) }
-    ensures sound { OnOk result (IsSound mode.Value (surroundings_seen inside.now).scope
-        (coding_seen coding.new).added.exprs) }
+    requires stands { Stands coder.old }
+    requires same { HasObjects coder.old }
+    ensures { Codes
+        (λ r w c. Becomes
+        (Elaborated.declared_coded (source_seen modules.entry) r w number scope
+        (declared_seen declared.entry) c))
+        coder.old result coder.new }
 {
     match declared {
-        Declared::Typed(Thing::Variable(Some(value)), _) => {
-            code_value(alloc, ready, inside, number, value, coding)
-        }
-        Declared::Code(word, stmt) => code_statement(alloc, ready, inside, word, stmt, coding),
-        Declared::Drives(delay, target, e) => {
-            code_assignment(alloc, ready, inside, delay, target, e, coding)
-        }
-        Declared::Gate(word, delay, gate) => {
-            code_gate(alloc, ready, inside, word, delay, gate, coding)
-        }
-        Declared::Child(module, _, inst) => {
-            code_child(alloc, modules, ready, inside, scope, module, inst, coding)
-        }
+        Declared::Typed(Thing::Variable(Some(value)), _) => { code_value(coder, number, value) }
+        Declared::Code(word, stmt) => code_statement(coder, word, stmt),
+        Declared::Drives(delay, target, e) => { code_assignment(coder, delay, target, e) }
+        Declared::Gate(word, delay, gate) => { code_gate(coder, word, delay, gate) }
+        Declared::Child(module, _, inst) => { code_child(coder, modules, scope, module, inst) }
         Declared::Typed(_, _)
         | Declared::Words(_, _)
         | Declared::Event
@@ -185,6 +142,40 @@ fn code_declared(
         | Declared::Loop(_)
         | Declared::Genvar => Ok(()),
     }
+}
+
+// A site, whose statements stand in these surroundings.
+fn code_under<'m>(
+    pass: &Pass,
+    around: &'m Surroundings,
+    number: u32,
+    scope: u32,
+    declared: Declared,
+    coding: &'m mut Coding,
+) -> Result<(), NoMemory>
+    requires source { IsSource pass.now.modules }
+    requires values { IsSound mode.Value (surroundings_seen around.now).scope
+        (ready_seen pass.now.ready).values }
+    requires sound { IsSound mode.Value (surroundings_seen around.now).scope
+        (coding_seen coding.old).added.exprs }
+    requires unit { is_unit (surroundings_seen around.now).scope.precision
+        (surroundings_seen around.now).scope.unit ≡ true }
+    requires same { (surroundings_seen around.now).scope.objects
+        ≡ (ready_seen pass.now.ready).objects }
+    ensures coded { OnOk result (coding_seen coding.new
+        ≡ Elaborated.declared_coded (source_seen pass.now.modules) (ready_seen pass.now.ready)
+        (surroundings_seen around.now) number scope (declared_seen declared.entry)
+        (coding_seen coding.old)) }
+    ensures sound { OnOk result (IsSound mode.Value (surroundings_seen around.now).scope
+        (coding_seen coding.new).added.exprs) }
+{
+    let mut coder = Coder {
+        alloc: pass.alloc,
+        ready: pass.ready,
+        around,
+        coding,
+    };
+    code_declared(&mut coder, pass.modules, number, scope, declared)
 }
 
 // Whether the second pass makes something of a site.
@@ -221,10 +212,7 @@ fn scope_of(number: u32, scope: u32, declared: Declared) -> u32
 
 // What a site is, in a scope.
 fn code_in(
-    alloc: Global,
-    modules: Modules,
-    ready: Ready,
-    parameters: &[ExprNode],
+    pass: &Pass,
     unit: u8,
     inner: u32,
     number: u32,
@@ -232,67 +220,42 @@ fn code_in(
     declared: Declared,
     coding: &mut Coding,
 ) -> Result<(), NoMemory>
-    requires source { IsSource modules }
-    requires parameters { parameters.now ≡ (ready_seen ready).values }
-    requires values { AreSound (ready_seen ready).objects (ready_seen ready).precision
-        (ready_seen ready).values }
-    requires sound { AreSound (ready_seen ready).objects (ready_seen ready).precision
-        (coding_seen coding.old).added.exprs }
-    requires unit { is_unit (ready_seen ready).precision unit ≡ true }
-    ensures coded { OnOk result (coding_seen coding.new
-        ≡ Elaborated.declared_coded (source_seen modules.entry) (ready_seen ready.entry)
-        (Coded.surroundings_at (ready_seen ready.entry) unit inner) number scope
-        (declared_seen declared.entry) (coding_seen coding.old)) }
-    ensures sound { OnOk result (AreSound (ready_seen ready.entry).objects
-        (ready_seen ready.entry).precision (coding_seen coding.new).added.exprs) }
+    requires ready { GoesOn pass.now coding.old }
+    requires unit { is_unit (ready_seen pass.now.ready).precision unit ≡ true }
+    ensures { GoesTo
+        (λ ms r c. Elaborated.declared_coded ms r (Coded.surroundings_at r unit inner) number scope
+        (declared_seen declared.entry) c)
+        pass.now coding.old result coding.new }
 {
-    let around = around(alloc, ready.objects, ObjId::new(inner))?;
-    let genvars = genvars_in(alloc, ready.genvars, &around)?;
+    let around = around(pass.alloc, pass.ready.objects, ObjId::new(inner))?;
+    let genvars = genvars_in(pass.alloc, pass.ready.genvars, &around)?;
     let inside = Scope {
-        names: ready.names,
+        names: pass.ready.names,
         around: &around,
         top: Top {
             id: ObjId::new(0),
-            name: ready.top_name,
+            name: pass.ready.top_name,
         },
         genvars: &genvars,
-        objects: ready.objects,
-        exprs: parameters,
-        routines: &ready.routines.routines,
+        objects: pass.ready.objects,
+        exprs: pass.parameters,
+        routines: &pass.ready.routines.routines,
         unit,
-        precision: ready.precision,
+        precision: pass.ready.precision,
     };
     let inside = Surroundings {
         scope: &inside,
-        arguments: &ready.routines.arguments,
+        arguments: &pass.ready.routines.arguments,
     };
-    code_declared(
-        alloc, modules, ready, &inside, number, scope, declared, coding,
-    )
+    code_under(pass, &inside, number, scope, declared, coding)
 }
 
 // A site, where it stands.
-fn code_site(
-    alloc: Global,
-    modules: Modules,
-    ready: Ready,
-    parameters: &[ExprNode],
-    unit: u8,
-    site: &Site,
-    coding: &mut Coding,
-) -> Result<(), NoMemory>
-    requires source { IsSource modules }
-    requires parameters { parameters.now ≡ (ready_seen ready).values }
-    requires values { AreSound (ready_seen ready).objects (ready_seen ready).precision
-        (ready_seen ready).values }
-    requires sound { AreSound (ready_seen ready).objects (ready_seen ready).precision
-        (coding_seen coding.old).added.exprs }
-    requires unit { is_unit (ready_seen ready).precision unit ≡ true }
-    ensures coded { OnOk result (coding_seen coding.new
-        ≡ Elaborated.site_coded (source_seen modules.entry) (ready_seen ready.entry) unit
-        (site_seen site.now) (coding_seen coding.old)) }
-    ensures sound { OnOk result (AreSound (ready_seen ready.entry).objects
-        (ready_seen ready.entry).precision (coding_seen coding.new).added.exprs) }
+fn code_site(pass: &Pass, unit: u8, site: &Site, coding: &mut Coding) -> Result<(), NoMemory>
+    requires ready { GoesOn pass.now coding.old }
+    requires unit { is_unit (ready_seen pass.now.ready).precision unit ≡ true }
+    ensures { GoesTo (λ ms r c. Elaborated.site_coded ms r unit (site_seen site.now) c)
+        pass.now coding.old result coding.new }
 {
     if !is_coded(site.declared) || coding.count > MOST_COUNTED {
         return Ok(());
@@ -301,10 +264,7 @@ fn code_site(
     let stmts = coding.added.stmts.len();
     let exprs = coding.added.exprs.len();
     code_in(
-        alloc,
-        modules,
-        ready,
-        parameters,
+        pass,
         unit,
         inner,
         site.number,
@@ -317,29 +277,18 @@ fn code_site(
 
 /// The sites of an instance.
 pub(crate) fn code_sites(
-    alloc: Global,
-    modules: Modules,
-    ready: Ready,
-    parameters: &[ExprNode],
+    pass: &Pass,
     unit: u8,
     sites: &[Site],
     coding: &mut Coding,
 ) -> Result<(), NoMemory>
-    requires source { IsSource modules }
-    requires parameters { parameters.now ≡ (ready_seen ready).values }
-    requires values { AreSound (ready_seen ready).objects (ready_seen ready).precision
-        (ready_seen ready).values }
-    requires sound { AreSound (ready_seen ready).objects (ready_seen ready).precision
-        (coding_seen coding.old).added.exprs }
-    requires unit { is_unit (ready_seen ready).precision unit ≡ true }
-    ensures coded { OnOk result (coding_seen coding.new
-        ≡ Elaborated.sites_coded (source_seen modules.entry) (ready_seen ready.entry) unit
-        (all_seen sites.now) (coding_seen coding.old)) }
-    ensures sound { OnOk result (AreSound (ready_seen ready.entry).objects
-        (ready_seen ready.entry).precision (coding_seen coding.new).added.exprs) }
+    requires ready { GoesOn pass.now coding.old }
+    requires unit { is_unit (ready_seen pass.now.ready).precision unit ≡ true }
+    ensures { GoesTo (λ ms r c. Elaborated.sites_coded ms r unit (all_seen sites.now) c)
+        pass.now coding.old result coding.new }
 {
     for site in sites {
-        code_site(alloc, modules, ready, parameters, unit, site, coding)?;
+        code_site(pass, unit, site, coding)?;
     }
     Ok(())
 }
