@@ -177,32 +177,15 @@ fn add_branch<'a>(
     let name = BlockName { word, index: None };
     match block {
         Gblock::Item(place, items) => {
-            if is_lone(items.as_slice()) {
-                return add_all(alloc, standing, items.as_slice(), left, sites);
+            let items = items.as_slice();
+            if is_lone(items) {
+                return add_all(alloc, standing, items, left, sites);
             }
-            add_inside(
-                alloc,
-                standing,
-                *place,
-                name,
-                None,
-                items.as_slice(),
-                left,
-                sites,
-            )
+            add_inside(alloc, standing, *place, name, None, items, left, sites)
         }
         Gblock::Block { place, id, items } => {
-            let place = name_place(*place, id);
-            add_inside(
-                alloc,
-                standing,
-                place,
-                name,
-                None,
-                items.as_slice(),
-                left,
-                sites,
-            )
+            let (place, items) = (name_place(*place, id), items.as_slice());
+            add_inside(alloc, standing, place, name, None, items, left, sites)
         }
     }
 }
@@ -293,29 +276,12 @@ fn add_block<'a>(
     let turn = Some(Turn { id, value });
     match block {
         Gblock::Item(place, items) => {
-            add_inside(
-                alloc,
-                standing,
-                *place,
-                name,
-                turn,
-                items.as_slice(),
-                left,
-                sites,
-            )
+            let items = items.as_slice();
+            add_inside(alloc, standing, *place, name, turn, items, left, sites)
         }
         Gblock::Block { place, id, items } => {
-            let place = name_place(*place, id);
-            add_inside(
-                alloc,
-                standing,
-                place,
-                name,
-                turn,
-                items.as_slice(),
-                left,
-                sites,
-            )
+            let (place, items) = (name_place(*place, id), items.as_slice());
+            add_inside(alloc, standing, place, name, turn, items, left, sites)
         }
     }
 }
