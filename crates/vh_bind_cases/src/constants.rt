@@ -156,8 +156,10 @@ impl World {
     }
 }
 
-// What is answered for an expression in the module, in so many digits at least.
-fn value_of(alloc: Global, world: &World, e: &Expr, least: u32) -> Result<Option<Vec4>, ElabFault> {
+// What comes of something that is done in the module.
+fn in_module<R, F: FnOnce(&Scope) -> R>(world: &World, work: F) -> R
+    requires { F.IsAlwaysCallable work }
+{
     let top = Top {
         id: ObjId::new(TOP),
         name: b"top",
@@ -173,7 +175,12 @@ fn value_of(alloc: Global, world: &World, e: &Expr, least: u32) -> Result<Option
         unit: 6,
         precision: 6,
     };
-    constant(alloc, &scope, e, least.min(64))
+    work(&scope)
+}
+
+// What is answered for an expression in the module, in so many digits at least.
+fn value_of(alloc: Global, world: &World, e: &Expr, least: u32) -> Result<Option<Vec4>, ElabFault> {
+    in_module(world, |scope| constant(alloc, scope, e, least.min(64)))
 }
 
 // What is answered for a name there.
@@ -183,22 +190,7 @@ fn meaning_of(
     name: &Name<Expr>,
     call: bool,
 ) -> Result<Option<Meaning>, ElabFault> {
-    let top = Top {
-        id: ObjId::new(TOP),
-        name: b"top",
-    };
-    let scope = Scope {
-        names: &world.names,
-        around: &world.around,
-        top,
-        genvars: &world.genvars,
-        objects: &world.objects,
-        exprs: &world.exprs,
-        routines: &[],
-        unit: 6,
-        precision: 6,
-    };
-    meaning(alloc, &scope, name, call)
+    in_module(world, |scope| meaning(alloc, scope, name, call))
 }
 
 // The expression of a text.
