@@ -18,16 +18,16 @@ use crate::overrides::overrides;
 use std::alloc::Global;
 use vh_ast::{Conn, Id, Inst};
 use vh_base::{DesignFault, NoMemory, ObjId, Place};
+use vh_bind::Scope;
 use vh_declare::{
-    Checked, Given, Home, Known, around, first_pass, genvars_in, in_scope, instance_object,
-    name_wires,
+    Checked, Given, Home, Known, around, first_pass, genvars_in, instance_object, name_wires,
 };
 use vh_index::Index;
 use vh_instances::module_sites;
 use vh_least::{Fault, least};
 use vh_nodes::Range;
 use vh_ports::{Ports, ports_fault};
-use vh_scope::{Meaning, Names};
+use vh_scope::{Meaning, Names, Top};
 use vh_sites::{Declared, Site};
 use vh_unroll::{Unrolled, unroll_module};
 
@@ -116,9 +116,21 @@ fn given_in<'a>(
 {
     let around = around(alloc, &known.objects, ObjId::new(scope))?;
     let genvars = genvars_in(alloc, &known.genvars, &around)?;
-    in_scope(home, known, &around, &genvars, |inside| {
-        overrides(alloc, inside, place, ports.module(), parameters)
-    })
+    let inside = Scope {
+        names: &known.names,
+        around: &around,
+        top: Top {
+            id: ObjId::new(0),
+            name: home.top_name,
+        },
+        genvars: &genvars,
+        objects: &known.objects,
+        exprs: &known.exprs,
+        routines: &[],
+        unit: home.unit,
+        precision: home.precision,
+    };
+    overrides(alloc, &inside, place, ports.module(), parameters)
 }
 
 // An instance of a module.
