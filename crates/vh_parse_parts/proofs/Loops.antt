@@ -42,7 +42,7 @@ targs_go_on depth s u ts mid m k c e = iter_marks_turn is_unused grammar eating 
 pub targ_less : (depth : ℕ) (s : Targs) (u : Targs × ℕ) (ts mid : List Token) (m : ℕ) → marks is_unused grammar depth (next_targ s) ts m ≡ got u mid → length mid < length ts
 targ_less depth s u ts mid m e = marks_less is_unused grammar eating advancing depth (next_targ s) (next_targ_advances s).1 (next_targ_advances s).0 ts m u mid e
 
--- what is declared in a task or function goes on by one
+-- What is declared in a task or function goes on by one
 pub locals_go_on : (depth : ℕ) (front : List LocalTree) (l : LocalTree) (ts mid : List Token) (m k : ℕ) → next_is begins_local ts ≡ true →
     marks is_unused grammar depth local ts m ≡ got (l, k) mid →
     joined_marks front (marks is_unused grammar depth locals ts m) ≡ joined_marks (front ++ l ∷ []) (marks is_unused grammar depth locals mid k)

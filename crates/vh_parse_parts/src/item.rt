@@ -7,15 +7,16 @@ ghost use Rattle.vh_syntax.specs.Statements.{set};
 ghost use Rattle.vh_syntax.specs.StatementConditions.{set_advances};
 ghost use Rattle.vh_syntax.specs.Items as parts;
 ghost use Rattle.vh_parse_expr.specs.Views.{Reads};
-ghost use Rattle.vh_parse_parts.specs.Views.{port_head_tree};
+ghost use Rattle.vh_parse_parts.specs.Views.{head_tree};
 
 use crate::boxed::boxed_type;
+use crate::head::{PortHead, port_head};
 use crate::ids::ids;
 use crate::instance::{Gates, Instances, written_overrides};
 use crate::made;
 use crate::nets::all_nets;
 use crate::parameters::Values;
-use crate::port::{PortHead, port_head, port_names};
+use crate::port::port_names;
 use crate::rows::{gate_type, net_type, parameter_word};
 use sqlite_items::Boxed;
 use std::alloc::Global;
@@ -27,9 +28,9 @@ use vh_syntax::Sign;
 // The names of ports and their end.
 #[tactic(auto, unfolding(vh_syntax::specs::Items::port_ids))]
 fn port_ids<'t>(alloc: Global, depth: usize, head: PortHead, at: At<'t>) -> Read<'t, Boxed<Item>>
-    ensures { Reads item_tree depth (parts.port_ids (port_head_tree head)) at.entry result }
+    ensures { Reads item_tree depth (parts.port_ids (head_tree head)) at.entry result }
 {
-    let (ids, more) = port_names(alloc, depth, head.port_type, at)?;
+    let (ids, more) = port_names(alloc, depth, head.kind, at)?;
     let (ids, rest) = then_sign(ids, Sign::Semicolon, more)?;
     Ok((made::ports(alloc, head, ids)?, rest))
 }

@@ -9,6 +9,7 @@
 #![tactic(auto)]
 
 mod boxed;
+mod head;
 mod ids;
 mod instance;
 mod item;

@@ -4,9 +4,9 @@ ghost use Rattle.std.specs.Prelude.{◌≡◌, MatchResult, option_map, map};
 ghost use Rattle.vh_grammar.specs.declared.stop.Stop.TheVariants.{Memory};
 ghost use Rattle.vh_ast.specs.Views.{type_tree, assigned_tree, net_tree, plain_tree, item_tree, decl_tree, set_tree, gate_tree, inst_tree, delay_tree};
 ghost use Rattle.vh_syntax.specs.Items as parts;
-ghost use Rattle.vh_parse_parts.specs.Views.{port_head_tree, nets_pair, conns_seen};
+ghost use Rattle.vh_parse_parts.specs.Views.{head_tree, nets_pair, conns_seen};
 
-use crate::port::PortHead;
+use crate::head::PortHead;
 use sqlite_items::{Boxed, Items};
 use std::alloc::Global;
 use vh_ast::{
@@ -27,12 +27,12 @@ pub fn plain(alloc: Global, place: Place, form: Plain) -> Result<Boxed<Item>, St
 
 // Ports of a module.
 pub(crate) fn ports(alloc: Global, head: PortHead, ids: Ids) -> Result<Boxed<Item>, Stop>
-    ensures { let made = parts.port_of (port_head_tree head) ids in
+    ensures { let made = parts.port_of (head_tree head) ids in
         MatchResult result (λ i. item_tree i ≡ made) (λ stop. stop ≡ Memory) }
 {
     let form = Plain::Port {
         direction: head.direction,
-        port_type: head.port_type,
+        port_type: head.kind,
         data_type: head.data_type.into_inner(),
         ids,
     };
@@ -46,7 +46,7 @@ pub(crate) fn nets(
     data_type: Boxed<DataType>,
     all: (Option<Boxed<Delay>>, Items<Net>),
 ) -> Result<Boxed<Item>, Stop>
-    ensures { let made = parts.net_of word (type_tree data_type, nets_pair all) in
+    ensures { let made = parts.net_item_of word (type_tree data_type, nets_pair all) in
         MatchResult result (λ i. item_tree i ≡ made) (λ stop. stop ≡ Memory) }
 {
     let form = Plain::Net {

@@ -9,27 +9,16 @@ ghost use Rattle.vh_syntax.specs.Declarations.{bare_id};
 ghost use Rattle.vh_syntax.specs.Parts.{comma_list};
 ghost use Rattle.vh_parse_expr.specs.Views.{Reads};
 ghost use Rattle.vh_parse_parts.specs.Pieces.{more_ports, port_or_name};
-ghost use Rattle.vh_parse_parts.specs.Views.{port_head_tree, header_tree};
+ghost use Rattle.vh_parse_parts.specs.Views.{header_tree};
 
-use crate::boxed::boxed_type;
+use crate::head::port_head;
 use crate::ids::{bare_ids, ids};
-use crate::rows::{direction, port_type};
 use sqlite_items::{Boxed, Items};
 use std::alloc::Global;
-use vh_ast::{DataType, Direction, Id, Ids, Pdecl, Port, PortType, Ports, Variable};
-use vh_base::Place;
+use vh_ast::{Id, Ids, Pdecl, Port, PortType, Ports, Variable};
 use vh_parse_decl::bare_id;
 use vh_parse_expr::{At, Read};
 use vh_syntax::{Class, Rows, Sign};
-
-// What stands in front of the names of ports.
-#[derive(Drop)]
-pub(crate) struct PortHead {
-    pub place: Place,
-    pub direction: Direction,
-    pub port_type: Option<PortType>,
-    pub data_type: Boxed<DataType>,
-}
 
 // Declared ports so far, and the type of the last of them.
 #[derive(Drop)]
@@ -37,23 +26,6 @@ pub(crate) struct Header {
     pub first: Boxed<Pdecl>,
     pub more: Items<Port>,
     pub port_type: Option<PortType>,
-}
-
-// `( "input" | "output" ) [ NET | "reg" | "integer" | "time" ] type`
-#[tactic(auto, unfolding(vh_syntax::specs::Items::port_head))]
-pub(crate) fn port_head<'t>(alloc: Global, depth: usize, at: At<'t>) -> Read<'t, PortHead>
-    ensures { Reads port_head_tree depth parts.port_head at.entry result }
-{
-    let ((place, direction), more) = direction(at)?;
-    let (port_type, more) = port_type(more)?;
-    let (data_type, rest) = boxed_type(alloc, depth, more)?;
-    let head = PortHead {
-        place,
-        direction,
-        port_type,
-        data_type,
-    };
-    Ok((head, rest))
 }
 
 // Whether a range is left out behind the name of such a port: behind that of any but a register.
@@ -95,11 +67,11 @@ fn pdecl<'t>(alloc: Global, depth: usize, at: At<'t>) -> Read<'t, Pdecl>
     ensures { Reads pdecl_tree depth parts.pdecl at.entry result }
 {
     let (head, more) = port_head(alloc, depth, at)?;
-    let (id, rest) = port_id(head.port_type, more)?;
+    let (id, rest) = port_id(head.kind, more)?;
     let pdecl = Pdecl {
         place: head.place,
         direction: head.direction,
-        port_type: head.port_type,
+        port_type: head.kind,
         data_type: head.data_type.into_inner(),
         id,
     };

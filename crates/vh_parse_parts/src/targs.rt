@@ -10,28 +10,17 @@ ghost use Rattle.vh_syntax.specs.Items as parts;
 ghost use Rattle.vh_syntax.specs.Items.{targ_bare, with_targ, with_id};
 ghost use Rattle.vh_parse_expr.specs.Views.{Reads};
 ghost use Rattle.vh_parse_parts.specs.Pieces.{more_targs, locals};
-ghost use Rattle.vh_parse_parts.specs.Views.{targ_head_tree, argument_tree, targs_tree};
+ghost use Rattle.vh_parse_parts.specs.Views.{head_tree, argument_tree, targs_tree};
 
-use crate::boxed::boxed_type;
+use crate::head::{TargHead, targ_head};
 use crate::ids::bare_ids;
-use crate::rows::{task_direction, variable};
-use sqlite_items::{Boxed, Items};
+use sqlite_items::Items;
 use std::alloc::Global;
-use vh_ast::{DataType, Id, Ids, Local, Targ, TaskDirection, Variable, only};
-use vh_base::Place;
+use vh_ast::{Id, Ids, Local, Targ, Variable, only};
 use vh_grammar::Stop;
 use vh_parse_decl::{bare_id, declaration};
 use vh_parse_expr::{At, Read, then_sign};
 use vh_syntax::{Class, Group, Rows, Sign};
-
-// What stands in front of the names of arguments.
-#[derive(Drop)]
-pub(crate) struct TargHead {
-    pub place: Place,
-    pub direction: TaskDirection,
-    pub variable: Option<Variable>,
-    pub data_type: Boxed<DataType>,
-}
 
 // An argument that may go on.
 #[derive(Drop)]
@@ -45,23 +34,6 @@ pub(crate) struct Argument {
 pub(crate) struct Arguments {
     pub front: Items<Targ>,
     pub last: Argument,
-}
-
-// `( "input" | "output" | "inout" ) [ "reg" | "integer" | "time" ] type`
-#[tactic(auto, unfolding(vh_syntax::specs::Items::targ_head))]
-fn targ_head<'t>(alloc: Global, depth: usize, at: At<'t>) -> Read<'t, TargHead>
-    ensures { Reads targ_head_tree depth parts.targ_head at.entry result }
-{
-    let ((place, direction), more) = task_direction(at)?;
-    let (variable, more) = variable(more)?;
-    let (data_type, rest) = boxed_type(alloc, depth, more)?;
-    let head = TargHead {
-        place,
-        direction,
-        variable,
-        data_type,
-    };
-    Ok((head, rest))
 }
 
 // Whether a range is left out behind the name of such an argument.
@@ -98,12 +70,12 @@ fn targ_names<'t>(
 
 // Arguments of their parts.
 fn targ_of(head: TargHead, ids: Ids) -> Targ
-    ensures { targ_tree result ≡ parts.targ_of (targ_head_tree head) ids }
+    ensures { targ_tree result ≡ parts.targ_of (head_tree head) ids }
 {
     Targ {
         place: head.place,
         direction: head.direction,
-        variable: head.variable,
+        variable: head.kind,
         data_type: head.data_type.into_inner(),
         ids,
     }
@@ -115,7 +87,7 @@ fn targ<'t>(alloc: Global, depth: usize, at: At<'t>) -> Read<'t, Targ>
     ensures { Reads targ_tree depth parts.targ at.entry result }
 {
     let (head, more) = targ_head(alloc, depth, at)?;
-    let (ids, rest) = targ_names(alloc, depth, head.variable, more)?;
+    let (ids, rest) = targ_names(alloc, depth, head.kind, more)?;
     Ok((targ_of(head, ids), rest))
 }
 
@@ -132,7 +104,7 @@ fn targ_one<'t>(alloc: Global, depth: usize, at: At<'t>) -> Read<'t, Argument>
     ensures { Reads argument_tree depth parts.targ_one at.entry result }
 {
     let (head, more) = targ_head(alloc, depth, at)?;
-    let (id, rest) = targ_id(head.variable, more)?;
+    let (id, rest) = targ_id(head.kind, more)?;
     let ids = one_id(alloc, id)?;
     Ok((Argument { head, ids }, rest))
 }
@@ -154,7 +126,7 @@ fn next_name<'t>(all: Arguments, at: At<'t>) -> Read<'t, Arguments>
         let part = act (with_id s) (bare_id (targ_bare (s.last).variable)) in
         Reads targs_tree 0 part at.entry result }
 {
-    let (id, rest) = targ_id(all.last.head.variable, at)?;
+    let (id, rest) = targ_id(all.last.head.kind, at)?;
     let mut all = all;
     all.last.ids.push(id)?;
     Ok((all, rest))
