@@ -66,19 +66,20 @@ plain_directed (process word s) = []
 plain_directed (task t) = []
 plain_directed (function f) = []
 
-abbrev pub item_directed : ItemTree → List Directed
-item_directed (item place (plain_item form)) = plain_directed form
-item_directed (item place generate_word) = []
-item_directed (item place endgenerate_word) = []
-item_directed (item place (for_item start test step body)) = []
-item_directed (item place (if_item test holds fails)) = []
+-- What is gathered of the plain items among a module's own, in their order.
+abbrev pub item_gathered : {A : Type 0} → (PlainTree → List A) → ItemTree → List A
+item_gathered of_plain (item place (plain_item form)) = of_plain form
+item_gathered of_plain (item place generate_word) = []
+item_gathered of_plain (item place endgenerate_word) = []
+item_gathered of_plain (item place (for_item start test step body)) = []
+item_gathered of_plain (item place (if_item test holds fails)) = []
 
-abbrev pub items_directed : List ItemTree → List Directed
-items_directed [] = []
-items_directed (i ∷ is) = item_directed i ++ items_directed is
+abbrev pub items_gathered : {A : Type 0} → (PlainTree → List A) → List ItemTree → List A
+items_gathered of_plain [] = []
+items_gathered of_plain (i ∷ is) = item_gathered of_plain i ++ items_gathered of_plain is
 
 abbrev pub directed_in : ModuleTree → List Directed
-directed_in m = header_directed m.ports ++ items_directed m.items
+directed_in m = header_directed m.ports ++ items_gathered plain_directed m.items
 
 -- The names of the header, in order. (12.3.2)
 abbrev pub written_ids : PortsTree → List Id
@@ -174,16 +175,8 @@ plain_typed (process word s) = []
 plain_typed (task t) = []
 plain_typed (function f) = []
 
-abbrev pub item_typed : ItemTree → List Typed
-item_typed (item place (plain_item form)) = plain_typed form
-item_typed (item place generate_word) = []
-item_typed (item place endgenerate_word) = []
-item_typed (item place (for_item start test step body)) = []
-item_typed (item place (if_item test holds fails)) = []
-
 abbrev pub items_typed : List ItemTree → List Typed
-items_typed [] = []
-items_typed (i ∷ is) = item_typed i ++ items_typed is
+items_typed is = items_gathered plain_typed is
 
 abbrev pub typed_name : Typed → List ℕ
 typed_name t = t.name

@@ -121,7 +121,8 @@ fn add_plain<'a>(plain: &'a Plain, all: &mut Vec<Directed<'a>>) -> Result<(), No
 
 fn add_item<'a>(item: &'a Item, all: &mut Vec<Directed<'a>>) -> Result<(), NoMemory>
     ensures { OnOk result (map directed_seen all.new.items ≡
-        map directed_seen all.old.items ++ spec.item_directed (item_tree item.now)) }
+        map directed_seen all.old.items
+        ++ spec.item_gathered spec.plain_directed (item_tree item.now)) }
 {
     match &item.form {
         ItemForm::Plain(plain) => add_plain(plain, all),
@@ -132,7 +133,8 @@ fn add_item<'a>(item: &'a Item, all: &mut Vec<Directed<'a>>) -> Result<(), NoMem
 
 fn add_items<'a>(items: &'a [Item], all: &mut Vec<Directed<'a>>) -> Result<(), NoMemory>
     ensures { OnOk result (map directed_seen all.new.items ≡
-        map directed_seen all.old.items ++ spec.items_directed (map item_tree items.now)) }
+        map directed_seen all.old.items
+        ++ spec.items_gathered spec.plain_directed (map item_tree items.now)) }
 {
     for item in items {
         add_item(item, all)?;
@@ -140,7 +142,7 @@ fn add_items<'a>(items: &'a [Item], all: &mut Vec<Directed<'a>>) -> Result<(), N
     Ok(())
 }
 
-/// The directions of a module's ports: those in its header, and those among its own items.
+// The directions of a module's ports: those in its header, and those among its own items.
 pub(crate) fn directed_in(alloc: Global, module: &Module) -> Result<Vec<Directed<'_>>, NoMemory>
     ensures { IfOk result (λ v. map directed_seen v.items
         ≡ spec.directed_in (module_tree module.now)) }

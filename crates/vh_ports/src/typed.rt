@@ -7,7 +7,7 @@ use std::alloc::Global;
 use vh_ast::{DataType, Decl, Item, ItemForm, Net, Plain, Var, VarPart};
 use vh_base::NoMemory;
 
-/// A register or net that a module's items declare, with its type.
+// A register or net that a module's items declare, with its type.
 #[derive(Clone, Copy)]
 pub(crate) struct Typed<'a> {
     pub(crate) name: &'a [u8],
@@ -111,7 +111,7 @@ fn add_plain<'a>(plain: &'a Plain, typed: &mut Vec<Typed<'a>>) -> Result<(), NoM
 
 fn add_item<'a>(item: &'a Item, typed: &mut Vec<Typed<'a>>) -> Result<(), NoMemory>
     ensures { OnOk result (map typed_seen typed.new.items ≡ map typed_seen typed.old.items
-        ++ spec.item_typed (item_tree item.now)) }
+        ++ spec.item_gathered spec.plain_typed (item_tree item.now)) }
 {
     match &item.form {
         ItemForm::Plain(plain) => add_plain(plain, typed),
