@@ -156,21 +156,15 @@ by_loop f (loop t) m = f t m
 by_loop f (turn v) m = m
 by_loop f end_of_loop m = m
 
-abbrev pub by_first : (BlockText → Making → Making) → Choice → Making → Making
-by_first f neither m = m
-by_first f (holds t) m = f t m
-by_first f (fails t) m = m
-by_first f (loop t) m = m
-by_first f (turn v) m = m
-by_first f end_of_loop m = m
-
-abbrev pub by_else : (BlockText → Making → Making) → Choice → Making → Making
-by_else f neither m = m
-by_else f (holds t) m = m
-by_else f (fails t) m = f t m
-by_else f (loop t) m = m
-by_else f (turn v) m = m
-by_else f end_of_loop m = m
+-- Of two branches one is made, or none.
+abbrev pub by_branch : (BlockText → Making → Making) → (BlockText → Making → Making) → Choice
+    → Making → Making
+by_branch first other neither m = m
+by_branch first other (holds t) m = first t m
+by_branch first other (fails t) m = other t m
+by_branch first other (loop t) m = m
+by_branch first other (turn v) m = m
+by_branch first other end_of_loop m = m
 
 -- A loop declares its name, also one without turns. (12.4.1)
 abbrev pub loop_site : Standing → Place → BlockText → Sites → Sites
@@ -197,8 +191,7 @@ abbrev mutual
       by_loop (in_loop st (block_place body) (turn_made st start.id body))
       (first_choice m.left) (taken m)
   form_made st place (if_item test block other) m =
-      by_else (else_made st other) (first_choice m.left)
-      (by_first (branch_made st block) (first_choice m.left) (taken m))
+      by_branch (branch_made st block) (else_made st other) (first_choice m.left) (taken m)
 
   pub turn_made : Standing → Id → GblockTree → BlockText → ℤ → Making → Making
   turn_made st id (one_item place all) t v m =

@@ -19,20 +19,20 @@ use vh_sites::{
     block_place, is_lone, name_place,
 };
 
-/// Above this number nothing is looked for.
+// Above this number nothing is looked for.
 const MOST_NUMBERS: u32 = 100_001;
 
-/// The turns that are looked at.
+// The turns that are looked at.
 const MOST_TURNS: u32 = 100_001;
 
-/// The genvar of a loop's block, with its value there.
+// The genvar of a loop's block, with its value there.
 #[derive(Clone, Copy)]
 pub(crate) struct Turn<'a> {
     pub(crate) id: &'a Id,
     pub(crate) value: i32,
 }
 
-/// What constructs come to that aren't reached yet.
+// What constructs come to that aren't reached yet.
 #[derive(Drop)]
 pub(crate) struct Left<'a, 'b> {
     pub(crate) all: &'b [Choice<'a>],
@@ -81,7 +81,7 @@ fn genvar_at<'a>(names: &Names, standing: Standing, turn: Option<Turn<'a>>) -> O
     }
 }
 
-/// Names that are declared in a scope.
+// Names that are declared in a scope.
 pub(crate) fn declare_ids(
     alloc: Global,
     scope: u32,
@@ -190,28 +190,7 @@ fn add_branch<'a>(
     }
 }
 
-// The first branch, where a construct comes to it.
-#[cycle(blocks)]
-fn add_first<'a>(
-    alloc: Global,
-    standing: Standing<'a, '_>,
-    block: &'a Gblock<Item>,
-    choice: Choice<'a>,
-    left: &mut Left<'a, '_>,
-    sites: &mut Listing<'a>,
-) -> Result<(), NoMemory>
-    ensures { OnOk result (making_seen left.new sites.new ≡ Instances.by_first
-        (Instances.branch_made (standing_seen standing.entry) (gblock_tree block.now))
-        (choice_seen choice.entry) (making_seen left.old sites.old)) }
-{
-    match choice {
-        Choice::Holds(word) => add_branch(alloc, standing, block, word, left, sites),
-        Choice::Neither | Choice::Fails(_) | Choice::Loop(_) | Choice::Turn(_) | Choice::End => Ok(
-            (),
-        ),
-    }
-}
-
+// The branch behind `else`, if there is one.
 #[cycle(blocks)]
 fn add_other<'a>(
     alloc: Global,
@@ -228,28 +207,6 @@ fn add_other<'a>(
     match block {
         None => Ok(()),
         Some(block) => add_branch(alloc, standing, block.get(), word, left, sites),
-    }
-}
-
-// The branch behind `else`, where a construct comes to it.
-#[cycle(blocks)]
-fn add_else<'a>(
-    alloc: Global,
-    standing: Standing<'a, '_>,
-    block: &'a Option<Boxed<Gblock<Item>>>,
-    choice: Choice<'a>,
-    left: &mut Left<'a, '_>,
-    sites: &mut Listing<'a>,
-) -> Result<(), NoMemory>
-    ensures { OnOk result (making_seen left.new sites.new ≡ Instances.by_else
-        (Instances.else_made (standing_seen standing.entry) (gelse_tree block.now))
-        (choice_seen choice.entry) (making_seen left.old sites.old)) }
-{
-    match choice {
-        Choice::Fails(word) => add_other(alloc, standing, block, word, left, sites),
-        Choice::Neither | Choice::Holds(_) | Choice::Loop(_) | Choice::Turn(_) | Choice::End => Ok(
-            (),
-        ),
     }
 }
 
@@ -397,9 +354,13 @@ fn add_one<'a>(
             )
         }
         ItemForm::If { holds, fails, .. } => {
-            let choice = take(left);
-            add_first(alloc, standing, holds.get(), choice, left, sites)?;
-            add_else(alloc, standing, fails, choice, left, sites)
+            match take(left) {
+                Choice::Holds(word) => {
+                    add_branch(alloc, standing, holds.get(), word, left, sites)
+                }
+                Choice::Fails(word) => add_other(alloc, standing, fails, word, left, sites),
+                Choice::Neither | Choice::Loop(_) | Choice::Turn(_) | Choice::End => Ok(()),
+            }
         }
     }
 }
@@ -422,7 +383,7 @@ fn add_next<'a>(
     add_one(alloc, standing, item, left, sites)
 }
 
-/// Items in a row.
+// Items in a row.
 #[cycle(blocks)]
 pub(crate) fn add_all<'a>(
     alloc: Global,

@@ -153,7 +153,7 @@ fn see_item<'a>(item: &'a Item, ids: &mut Vec<&'a Id>) -> Result<(), NoMemory>
     }
 }
 
-/// The names that items declare in their scope, behind some others.
+// The names that items declare in their scope, behind some others.
 pub(crate) fn see_items<'a>(items: &'a [Item], ids: &mut Vec<&'a Id>) -> Result<(), NoMemory>
     ensures { let all = Instances.items_ids (tree.items (map item_tree items.now)) in
         OnOk result (AddsIds all ids.old ids.new) }
@@ -192,7 +192,7 @@ pub fn declared_ids<'a>(alloc: Global, items: &'a [Item]) -> Result<Vec<&'a Id>,
     Ok(ids)
 }
 
-/// The names that a module declares: in its header, and by its own items.
+// The names that a module declares: in its header, and by its own items.
 pub(crate) fn module_ids<'a>(
     alloc: Global,
     pars: &'a [Par],

@@ -35,14 +35,8 @@ decreases-add_inside l = 8 * goal.size-add_inside l + 3
 abbrev pub decreases-add_branch : goal.decreases-add_branch
 decreases-add_branch l = 8 * goal.size-add_branch l + 4
 
-abbrev pub decreases-add_first : goal.decreases-add_first
-decreases-add_first l = 8 * goal.size-add_first l + 5
-
 abbrev pub decreases-add_other : goal.decreases-add_other
 decreases-add_other l = 8 * goal.size-add_other l + 5
-
-abbrev pub decreases-add_else : goal.decreases-add_else
-decreases-add_else l = 8 * goal.size-add_else l + 6
 
 abbrev pub decreases-add_block : goal.decreases-add_block
 decreases-add_block l = 8 * goal.size-add_block l + 4
