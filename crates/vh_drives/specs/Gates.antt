@@ -22,7 +22,7 @@ use Rattle.vh_bind.specs.Steps.{Step, ◌>>=◌, pure}
 use Rattle.vh_bind.specs.Constants.{chain_pushed, selected_pushed, unary_pushed, whole_of}
 use Rattle.vh_bind_stmt.specs.Calls.{Surroundings}
 use Rattle.vh_flow.specs.declared.code_kind.CodeKind.TheVariants as of
-use Rattle.vh_lower.specs.Labels.{and_then}
+use Rattle.vh_lower.specs.Labels.{with_label}
 use Rattle.vh_lower.specs.Making as M
 use Rattle.vh_lower.specs.Making.{Making, performed, reading_from, mark}
 use Rattle.vh_lower.specs.Processes.{drive_at, plain_code}
@@ -84,7 +84,7 @@ gate_delay w before (Some d) = M.◌>>=◌ (delay_of w before d) (λ x. M.pure (
 -- Its label, behind all calls: it waits for what its inputs read, whose nodes stand from `from` on.
 abbrev pub driving_from : List ℕ → ℕ → Option Delay → ℕ × List Operation → Making Code
 driving_from drivers from delay v =
-    M.◌>>=◌ (reading_from from) (λ t. M.pure (plain_code of.Assign (and_then v.1 (drive_at drivers v.0 delay t))))
+    M.◌>>=◌ (reading_from from) (λ t. M.pure (plain_code of.Assign (with_label v.1 (drive_at drivers v.0 delay t))))
 
 abbrev pub gate_code : Surroundings → Place → GateType → List ℕ → ℕ → Option Delay → ℕ → List ℕ → List Operation → Making Code
 gate_code w place g drivers from delay e es before =

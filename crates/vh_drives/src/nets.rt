@@ -313,7 +313,7 @@ pub fn is_net_at(objects: &[ObjectInfo], object: ObjId) -> bool
     }
 }
 
-/// What a name with its select drives.
+// What a name with its select drives.
 pub(crate) fn name_driver(
     alloc: Global,
     scope: &Scope,

@@ -108,9 +108,9 @@ plain-push os o h k = plain-both os (o ∷ []) h (both k refl)
 
 -- A label behind some, and one behind these and others.
 two-plain : (front behind : List Operation) (first last : Operation) → Plain front → Plain behind → is_plain first ≡ true
-    → is_plain last ≡ true → Plain (rows.and_then (rows.and_then front first ++ behind) last)
+    → is_plain last ≡ true → Plain (rows.with_label (rows.with_label front first ++ behind) last)
 two-plain front behind first last h k l m =
-    plain-push (rows.and_then front first ++ behind) last (plain-both (rows.and_then front first) behind (plain-push front first h l) k) m
+    plain-push (rows.with_label front first ++ behind) last (plain-both (rows.with_label front first) behind (plain-push front first h l) k) m
 
 -- The calls that expressions make: a begin, an end, or both.
 one-plain : (b : Bool) (o : Operation) → is_plain o ≡ true → Plain (if b then o ∷ [] else [])

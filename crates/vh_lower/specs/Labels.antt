@@ -56,12 +56,12 @@ again n calls g body = sized (turns (in_row (body ++ further n calls)) g (marked
 
 -- The labels of a blocking assignment: with a delay its first label reads the value, and its second one the indexes of
 -- the target. (9.2.1; own for the indexes)
-abbrev pub and_then : List Operation → Operation → List Operation
-and_then os o = os ++ o ∷ []
+abbrev pub with_label : List Operation → Operation → List Operation
+with_label os o = os ++ o ∷ []
 
 abbrev pub delayed_in : List Operation → List Operation → ℕ → ℕ → Delay → List Selected → List Operation
 delayed_in front calls value width delay targets =
-    and_then (and_then front (op.Hold value width delay) ++ calls) (op.Store targets)
+    with_label (with_label front (op.Hold value width delay) ++ calls) (op.Store targets)
 
 abbrev pub delayed : List ObjectInfo → List Operation → List Operation → ℕ → Delay → List Selected → List Operation
 delayed os front calls value delay targets = delayed_in front calls value (targets_width os targets) delay targets

@@ -12,7 +12,7 @@ use Rattle.vh_flow.specs.declared.code_kind.CodeKind.{CodeKind}
 use Rattle.vh_flow.specs.declared.code_kind.CodeKind.TheVariants as of
 use Rattle.vh_flow.specs.Laid.{code_of}
 use Rattle.vh_flow.specs.Trees.{FlowTree, step, sized}
-use Rattle.vh_lower.specs.Labels.{in_row, and_then}
+use Rattle.vh_lower.specs.Labels.{in_row, with_label}
 use Rattle.vh_lower.specs.Making.{Making, ◌>>=◌, pure, reading_from, mark}
 use Rattle.vh_lower.specs.Statements.{value_of, delay_of}
 
@@ -28,7 +28,7 @@ plain_code kind os = code_of kind (in_row (plain_labels os))
 
 -- A declared initial value: the calls in it, and the assignment.
 abbrev pub initial_labels : Surroundings → ℕ → ExprTree → Making (List Operation)
-initial_labels w o e = value_of w [] e >>= (λ v. pure (and_then v.1 (op.Initial o v.0)))
+initial_labels w o e = value_of w [] e >>= (λ v. pure (with_label v.1 (op.Initial o v.0)))
 
 abbrev pub initial_code : Surroundings → ℕ → ExprTree → Making Code
 initial_code w o e = initial_labels w o e >>= (λ os. pure (plain_code of.Value os))
@@ -40,7 +40,7 @@ drive_at drivers value delay wait = op.Drive (record { drivers = drivers; value 
 abbrev pub drive_behind : Surroundings → List ℕ → List Operation → Option Delay → ExprTree → Making (List Operation)
 drive_behind w drivers before delay e =
     mark >>= (λ from. value_of w before e >>= (λ v. reading_from from >>= (λ t.
-    pure (and_then v.1 (drive_at drivers v.0 delay t)))))
+    pure (with_label v.1 (drive_at drivers v.0 delay t)))))
 
 -- With a delay or without one: the delay's calls come first.
 abbrev pub drive_labels : Surroundings → List ℕ → Option DelayTree → ExprTree → Making (List Operation)

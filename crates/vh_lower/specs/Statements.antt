@@ -70,7 +70,7 @@ use Rattle.vh_flow.specs.Laid.{code_of}
 use Rattle.vh_lower.specs.declared.heads.ForHead.{ForHead}
 use Rattle.vh_lower.specs.declared.heads.Front.{Front}
 use Rattle.vh_lower.specs.declared.heads.Head.{Head}
-use Rattle.vh_lower.specs.Labels.{marked, labels, in_row, nothing, further, from_first, gated, gated_further, again, is_empty, and_then, delayed, behind_label}
+use Rattle.vh_lower.specs.Labels.{marked, labels, in_row, nothing, further, from_first, gated, gated_further, again, is_empty, with_label, delayed, behind_label}
 use Rattle.vh_lower.specs.Making.{Making, ◌>>=◌, pure, refused, looking, found, performed, numbered, with_wait, with_show, reading_from, mark, scope_of}
 
 -- A value, and the targets of an assignment, with the calls that they make behind others.
@@ -88,7 +88,7 @@ output_of w before e = performed w before (output_bound w.scope e)
 
 -- An assignment without a delay, as a row of labels.
 abbrev pub set_parts : Surroundings → LvTree → ExprTree → Making (List Operation)
-set_parts w lv value = targets_of w [] lv >>= (λ t. value_of w t.1 value >>= (λ v. pure (and_then v.1 (op.Assign v.0 t.0))))
+set_parts w lv value = targets_of w [] lv >>= (λ t. value_of w t.1 value >>= (λ v. pure (with_label v.1 (op.Assign v.0 t.0))))
 
 abbrev pub set_of : Surroundings → SetTree → Making (List Operation)
 set_of w set = set_parts w set.target set.value
@@ -105,12 +105,12 @@ schedule_at targets value delay = op.Schedule (record { targets = targets; value
 
 abbrev pub scheduled_parts : Surroundings → LvTree → ExprTree → Making (List Operation)
 scheduled_parts w lv value =
-    targets_of w [] lv >>= (λ t. value_of w t.1 value >>= (λ v. pure (and_then v.1 (schedule_at t.0 v.0 None))))
+    targets_of w [] lv >>= (λ t. value_of w t.1 value >>= (λ v. pure (with_label v.1 (schedule_at t.0 v.0 None))))
 
 abbrev pub scheduled_later : Surroundings → LvTree → DelayTree → ExprTree → Making (List Operation)
 scheduled_later w lv d value =
     targets_of w [] lv >>= (λ t. delay_of w t.1 d >>= (λ x. value_of w x.1 value >>= (λ v.
-    pure (and_then v.1 (schedule_at t.0 v.0 (Some x.0))))))
+    pure (with_label v.1 (schedule_at t.0 v.0 (Some x.0))))))
 
 -- An assignment, a row for each form. (9.2)
 abbrev pub assign_labels : Surroundings → LvTree → AssignWord → Option DelayTree → ExprTree → Making (List Operation)
@@ -243,7 +243,7 @@ no_call = record { front = []; behind = []; inputs = []; outputs = [] }
 -- Its labels: its begin, which writes the inputs, and its end, which writes the outputs. (10.2.2)
 abbrev pub call_labels : ℕ → Calling → List Operation
 call_labels task c =
-    and_then (and_then c.front (op.Enter task c.inputs) ++ c.behind)
+    with_label (with_label c.front (op.Enter task c.inputs) ++ c.behind)
     (op.Leave (record { outputs = c.outputs; result = None }))
 
 abbrev pub task_labels : Surroundings → NameTree → List ExprTree → Making (List Operation)
@@ -262,7 +262,7 @@ show_labels w place es task =
     if arguments_fit 0 es then
     arguments_of_show w [] es >>= (λ v.
     with_show (record { task = task; scope = scope_of w; unit = w.scope.unit; args = v.0 }) >>= (λ s.
-    pure (and_then v.1 (op.Single (single.Show s)))))
+    pure (with_label v.1 (op.Single (single.Show s)))))
     else refused N10 place
 
 abbrev pub ending_labels : Place → List (Option ExprTree) → Single → Making (List Operation)
@@ -287,7 +287,7 @@ disable_labels w n = object_of w n is_disable_target >>= (λ o. one_single (sing
 abbrev pub force_labels : Surroundings → ForceWord → SetTree → Making (List Operation)
 force_labels w word set =
     whole_object w set.target (force_kinds word) >>= (λ o.
-    value_of w [] set.value >>= (λ v. pure (and_then v.1 (op.Single (force_single word o v.0)))))
+    value_of w [] set.value >>= (λ v. pure (with_label v.1 (op.Single (force_single word o v.0)))))
 
 abbrev pub release_labels : Surroundings → ReleaseWord → LvTree → Making (List Operation)
 release_labels w word lv = whole_object w lv (release_kinds word) >>= (λ o. one_single (release_single word o))
@@ -482,12 +482,12 @@ front_of n os = record { number = n; labels = os }
 abbrev pub delay_front : Surroundings → Place → DelayTree → Making Front
 delay_front w place d =
     numbered a.DelayControl w place >>= (λ n. delay_of w [] d >>= (λ x.
-    pure (front_of n (and_then x.1 (op.Pause (pause.Wait x.0))))))
+    pure (front_of n (with_label x.1 (op.Pause (pause.Wait x.0))))))
 
 abbrev pub wait_front : Surroundings → Place → ExprTree → Making Front
 wait_front w place e =
     mark >>= (λ from. headed a.Wait w place e >>= (λ h. reading_from from >>= (λ t.
-    pure (front_of h.number (and_then h.calls (op.Pause (pause.WaitFor h.test t)))))))
+    pure (front_of h.number (with_label h.calls (op.Pause (pause.WaitFor h.test t)))))))
 
 abbrev pub event_front : Surroundings → Place → EventTree → Making Front
 event_front w place e =

@@ -60,17 +60,11 @@ MakesTo see outcome (Err faults.NoMemory) a = Unit {0}
 -- The same with the labels behind which it stands.
 abbrev pub Performs : {A : Type 0} → Result ((A × List Operation) × Added) (Option Fault) → List Operation
     → Result A LowerFault → Added → Type 0
-Performs outcome os (Ok x) a = outcome ≡ Ok ((x, os), a)
-Performs outcome os (Err (faults.Refused fault place)) a = outcome ≡ Err (Some (fault, place))
-Performs outcome os (Err faults.PassedOver) a = outcome ≡ Err None
-Performs outcome os (Err faults.NoMemory) a = Unit {0}
+Performs outcome os result a = MakesTo (λ x. (x, os)) outcome result a
 
 -- It is what a step leaves of a call, or of a `case`.
 abbrev pub Leaves : {A B : Type 0} → Result (B × Added) (Option Fault) → B → Result A LowerFault → Added → Type 0
-Leaves outcome left (Ok x) a = outcome ≡ Ok (left, a)
-Leaves outcome left (Err (faults.Refused fault place)) a = outcome ≡ Err (Some (fault, place))
-Leaves outcome left (Err faults.PassedOver) a = outcome ≡ Err None
-Leaves outcome left (Err faults.NoMemory) a = Unit {0}
+Leaves outcome left result a = MakesTo (λ x. left) outcome result a
 
 -- What statements stand in, and what they have added.
 abbrev pub around_of : code.Maker → Surroundings

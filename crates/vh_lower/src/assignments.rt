@@ -1,7 +1,7 @@
 ghost use Rattle.std.specs.Prelude.{◌≡◌, IfOk};
 ghost use Rattle.std.specs.Option.{option_map};
 ghost use Rattle.vh_ast.specs.Views.{delay_tree, expr_tree, lv_tree, set_tree};
-ghost use Rattle.vh_lower.specs.Labels.{and_then, delayed_in};
+ghost use Rattle.vh_lower.specs.Labels.{with_label, delayed_in};
 ghost use Rattle.vh_lower.specs.Making.{Makes};
 ghost use Rattle.vh_lower.specs.Statements.{set_parts, set_of, schedule_at, delayed_parts, scheduled_parts, scheduled_later, assign_labels};
 ghost use Rattle.vh_lower.specs.Views.{Stands, Adds};
@@ -17,12 +17,12 @@ use vh_base::{Boxed, ExprId, NoMemory, Sequence};
 use vh_bind_stmt::targets_width;
 use vh_code::{Delay as Wait, Operation, Schedule, Targets};
 
-/// A label behind others.
-pub(crate) fn and_then(
+// A label behind others.
+pub(crate) fn with_label(
     mut operations: Vec<Operation>,
     operation: Operation,
 ) -> Result<Operations, NoMemory>
-    ensures { IfOk result (λ os. os ≡ and_then operations.items operation) }
+    ensures { IfOk result (λ os. os ≡ with_label operations.items operation) }
 {
     operations.push(operation)?;
     Ok(Sequence::new(operations))
@@ -63,7 +63,7 @@ fn delayed(
         delay,
     })?;
     front.append(&mut calls)?;
-    and_then(front, Operation::Store(targets))
+    with_label(front, Operation::Store(targets))
 }
 
 // A blocking assignment without a delay.
@@ -75,10 +75,10 @@ fn set_parts(maker: &mut Maker, target: &Lv, value: &Expr) -> Lowered<Operations
     let mut operations = Vec::new(maker.alloc);
     let targets = targets_of(maker, &mut operations, target)?;
     let value = value_of(maker, &mut operations, value)?;
-    Ok(and_then(operations, Operation::Assign { value, targets })?)
+    Ok(with_label(operations, Operation::Assign { value, targets })?)
 }
 
-/// The same in a `for`.
+// The same in a `for`.
 pub(crate) fn set_of(maker: &mut Maker, set: &Set) -> Lowered<Operations>
     requires stands { Stands maker.old }
     ensures { Adds (λ s a. Makes (set_of s (set_tree set.now) a)) maker.old result maker.new }
@@ -113,7 +113,7 @@ fn scheduled_parts(maker: &mut Maker, target: &Lv, value: &Expr) -> Lowered<Oper
     let targets = targets_of(maker, &mut operations, target)?;
     let value = value_of(maker, &mut operations, value)?;
     let schedule = schedule_at(maker.alloc, targets, value, None)?;
-    Ok(and_then(operations, schedule)?)
+    Ok(with_label(operations, schedule)?)
 }
 
 // A nonblocking assignment with a delay.
@@ -134,10 +134,10 @@ fn scheduled_later(
     let delay = delay_of(maker, &mut operations, delay)?;
     let value = value_of(maker, &mut operations, value)?;
     let schedule = schedule_at(maker.alloc, targets, value, Some(delay))?;
-    Ok(and_then(operations, schedule)?)
+    Ok(with_label(operations, schedule)?)
 }
 
-/// An assignment, a row for each form (IEEE 1364-2005, 9.2).
+// An assignment, a row for each form (IEEE 1364-2005, 9.2).
 pub(crate) fn assign_labels(
     maker: &mut Maker,
     target: &Lv,

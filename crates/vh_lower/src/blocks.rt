@@ -4,7 +4,7 @@ ghost use Rattle.vh_flow.specs.Views.{flow_tree};
 ghost use Rattle.vh_bind_stmt.specs.Views.{surroundings_seen};
 ghost use Rattle.vh_lower.specs.Making.{Makes};
 ghost use Rattle.vh_lower.specs.Statements.{block_number, block_of, block_of_row, block_named, block_scope, joined, named_block};
-ghost use Rattle.vh_lower.specs.Views.{flows_seen, Stands, Adds, Finds};
+ghost use Rattle.vh_lower.specs.Views.{flows_seen, Finds, IsSame, added_of, around_of};
 
 use crate::added::Maker;
 use crate::fault::{LowerFault, Lowered};
@@ -21,10 +21,12 @@ use vh_code::StmtKind;
 use vh_flow::{Flow, FlowForm, Mark};
 use vh_nodes::is_named_block_at;
 
-/// The number of a `fork`; a `begin` is no statement and has none.
+// The number of a `fork`; a `begin` is no statement and has none.
 pub(crate) fn block_number(maker: &mut Maker, word: BlockWord, place: Place) -> Lowered<u32>
-    requires stands { Stands maker.old }
-    ensures { Adds (λ s a. Makes (block_number word s place a)) maker.old result maker.new }
+    ensures made { Makes (block_number word (around_of maker.old) place (added_of maker.old)) result
+        (added_of maker.new) }
+    ensures exprs { (added_of maker.new).exprs ≡ (added_of maker.old).exprs }
+    ensures same { IsSame maker.old maker.new }
 {
     match word {
         BlockWord::Begin => Ok(0),
@@ -56,7 +58,7 @@ fn block_named(maker: &Maker, id: &Id) -> Lowered<ObjId>
     Ok(object)
 }
 
-/// The scope of a named block.
+// The scope of a named block.
 pub(crate) fn block_scope(maker: &Maker, id: &Option<Id>) -> Lowered<Option<ObjId>>
     ensures { Finds (λ s a. Makes (block_scope s id.now a)) maker.now result }
 {
@@ -101,7 +103,7 @@ fn named_block(alloc: Global, object: Option<ObjId>, body: Flow) -> Result<Flow,
     }
 }
 
-/// A block with its statements.
+// A block with its statements.
 pub(crate) fn block_of_row(
     alloc: Global,
     word: BlockWord,

@@ -17,8 +17,8 @@ use vh_code::{CaseKind, Operation};
 use vh_flow::{CaseHead, CaseItem, Flow, FlowForm, Mark};
 use vh_nodes::{ExprIds, ExprNode, signed_of, width_of};
 
-/// A `case` so far: the calls that its test makes, all its labels, its statements, and what is done
-/// where no label fits.
+// A `case` so far: the calls that its test makes, all its labels, its statements, and what is done
+// where no label fits.
 #[derive(Drop)]
 pub(crate) struct Cases {
     pub calls: Vec<Operation>,
@@ -67,7 +67,7 @@ fn case_head(word: CaseWord, subject: ExprId, labels: &[ExprId], nodes: &[ExprNo
     }
 }
 
-/// None yet, behind some calls.
+// None yet, behind some calls.
 pub(crate) fn no_cases(alloc: Global, calls: Operations) -> Cases
     ensures { cases_seen result ≡ no_cases calls }
 {
@@ -132,7 +132,7 @@ fn case_tree(alloc: Global, number: u32, head: CaseHead, cases: Cases) -> Result
     in_row(row)
 }
 
-/// A `case` (IEEE 1364-2005, 9.5).
+// A `case` (IEEE 1364-2005, 9.5).
 pub(crate) fn case_flow(
     alloc: Global,
     word: CaseWord,
@@ -150,7 +150,7 @@ pub(crate) fn case_flow(
     case_tree(alloc, number, compared, cases)
 }
 
-/// The labels of one statement, with the calls that they make behind those before.
+// The labels of one statement, with the calls that they make behind those before.
 pub(crate) fn values_of(
     maker: &mut Maker,
     calls: &mut Vec<Operation>,
@@ -186,7 +186,7 @@ fn add_numbers(numbers: &mut Vec<ExprId>, more: &[ExprId]) -> Result<(), NoMemor
     Ok(())
 }
 
-/// One statement more, whose labels' calls are there.
+// One statement more, whose labels' calls are there.
 pub(crate) fn with_item(cases: &mut Cases, labels: ExprIds, body: Flow) -> Result<(), NoMemory>
     ensures { OnOk result
         (cases_seen cases.new ≡
@@ -197,7 +197,7 @@ pub(crate) fn with_item(cases: &mut Cases, labels: ExprIds, body: Flow) -> Resul
     Ok(())
 }
 
-/// What is done where no label fits.
+// What is done where no label fits.
 pub(crate) fn with_default(cases: &mut Cases, body: Flow) -> Result<(), NoMemory>
     ensures { OnOk result
         (cases_seen cases.new ≡ with_default (cases_seen cases.old) (flow_tree body)) }

@@ -61,7 +61,7 @@ fn waited_terms(maker: &Maker, event: &Event) -> Lowered<Terms>
     }
 }
 
-/// An event control before a statement.
+// An event control before a statement.
 pub(crate) fn event_front(maker: &mut Maker, place: Place, event: &Event) -> Lowered<Front>
     requires stands { Stands maker.old }
     ensures { Adds (λ s a. Makes (event_front s place (event_tree event.now) a))

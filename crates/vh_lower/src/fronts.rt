@@ -4,7 +4,7 @@ ghost use Rattle.vh_lower.specs.Statements.{headed, delay_front, wait_front, for
 ghost use Rattle.vh_lower.specs.Views.{Stands, Adds};
 
 use crate::added::Maker;
-use crate::assignments::{and_then, set_of};
+use crate::assignments::{set_of, with_label};
 use crate::fault::Lowered;
 use crate::heads::{ForHead, Front, Head};
 use crate::making::{delay_of, numbered, reading_from, value_of};
@@ -12,7 +12,7 @@ use vh_ast::{Delay, Expr, Set};
 use vh_base::{Place, Sequence};
 use vh_code::{Operation, Pause, StmtKind};
 
-/// A statement's number, with its test and the calls that this makes.
+// A statement's number, with its test and the calls that this makes.
 pub(crate) fn headed(maker: &mut Maker, kind: StmtKind, place: Place, test: &Expr) -> Lowered<Head>
     requires stands { Stands maker.old }
     ensures { Adds (λ s a. Makes (headed kind s place (expr_tree test.now) a))
@@ -28,7 +28,7 @@ pub(crate) fn headed(maker: &mut Maker, kind: StmtKind, place: Place, test: &Exp
     })
 }
 
-/// A delay before a statement.
+// A delay before a statement.
 pub(crate) fn delay_front(maker: &mut Maker, place: Place, delay: &Delay) -> Lowered<Front>
     requires stands { Stands maker.old }
     ensures { Adds (λ s a. Makes (delay_front s place (delay_tree delay.now) a))
@@ -37,11 +37,11 @@ pub(crate) fn delay_front(maker: &mut Maker, place: Place, delay: &Delay) -> Low
     let number = numbered(maker, StmtKind::DelayControl, place)?;
     let mut operations = Vec::new(maker.alloc);
     let delay = delay_of(maker, &mut operations, delay)?;
-    let labels = and_then(operations, Operation::Pause(Pause::Wait(delay)))?;
+    let labels = with_label(operations, Operation::Pause(Pause::Wait(delay)))?;
     Ok(Front { number, labels })
 }
 
-/// A `wait` before a statement.
+// A `wait` before a statement.
 pub(crate) fn wait_front(maker: &mut Maker, place: Place, test: &Expr) -> Lowered<Front>
     requires stands { Stands maker.old }
     ensures { Adds (λ s a. Makes (wait_front s place (expr_tree test.now) a))
@@ -58,11 +58,11 @@ pub(crate) fn wait_front(maker: &mut Maker, place: Place, test: &Expr) -> Lowere
         condition: test,
         wait,
     };
-    let labels = and_then(calls.into_vec(), Operation::Pause(pause))?;
+    let labels = with_label(calls.into_vec(), Operation::Pause(pause))?;
     Ok(Front { number, labels })
 }
 
-/// What a `for` has before its body.
+// What a `for` has before its body.
 pub(crate) fn for_head(
     maker: &mut Maker,
     place: Place,

@@ -9,7 +9,7 @@ use vh_base::{NoMemory, Sequence};
 use vh_code::Operation;
 use vh_flow::{Flow, FlowForm, Gate, Mark, Step, copied};
 
-/// Labels in a row, which contracts see as a list.
+// Labels in a row, which contracts see as a list.
 pub(crate) type Operations = Sequence<Operation>;
 
 // A label of a statement.
@@ -23,21 +23,21 @@ fn label(number: u32, first: bool, operation: Operation) -> Result<Flow, NoMemor
     Flow::new(FlowForm::Step(Step { operation, mark }))
 }
 
-/// Statements in a row.
+// Statements in a row.
 pub(crate) fn in_row(items: Items<Flow>) -> Result<Flow, NoMemory>
     ensures { IfOk result (λ f. flow_tree f ≡ in_row (flows_seen items)) }
 {
     Flow::new(FlowForm::Row(items))
 }
 
-/// None.
+// None.
 pub(crate) fn nothing(alloc: Global) -> Result<Flow, NoMemory>
     ensures { IfOk result (λ f. flow_tree f ≡ nothing) }
 {
     in_row(Items::new(alloc))
 }
 
-/// Further labels of a statement.
+// Further labels of a statement.
 pub(crate) fn add_further(
     row: &mut Items<Flow>,
     number: u32,
@@ -52,7 +52,7 @@ pub(crate) fn add_further(
     Ok(())
 }
 
-/// Labels of a statement from its first on.
+// Labels of a statement from its first on.
 pub(crate) fn add_first(
     row: &mut Items<Flow>,
     number: u32,
@@ -69,7 +69,7 @@ pub(crate) fn add_first(
     Ok(())
 }
 
-/// The labels of a statement.
+// The labels of a statement.
 pub(crate) fn labels(alloc: Global, number: u32, operations: Operations) -> Result<Flow, NoMemory>
     ensures { IfOk result (λ f. flow_tree f ≡ labels number operations) }
 {
@@ -93,7 +93,7 @@ fn choice(alloc: Global, gate: Gate, mark: Mark, holds: Flow, fails: Flow) -> Re
     })
 }
 
-/// Behind some calls, a label that goes on in one of two ways.
+// Behind some calls, a label that goes on in one of two ways.
 pub(crate) fn gated(
     alloc: Global,
     number: u32,
@@ -115,14 +115,14 @@ pub(crate) fn gated(
     in_row(row)
 }
 
-/// Whether there are none.
+// Whether there are none.
 pub(crate) fn is_empty(operations: &Operations) -> bool
     ensures { result ≡ is_empty operations.now }
 {
     operations.as_slice().is_empty()
 }
 
-/// The same where it isn't the first label.
+// The same where it isn't the first label.
 pub(crate) fn gated_further(
     alloc: Global,
     number: u32,
@@ -144,7 +144,7 @@ pub(crate) fn gated_further(
     in_row(row)
 }
 
-/// The turns of a loop: its body, the calls that its gate needs, and the gate again.
+// The turns of a loop: its body, the calls that its gate needs, and the gate again.
 pub(crate) fn again(
     alloc: Global,
     number: u32,
@@ -163,7 +163,7 @@ pub(crate) fn again(
     Flow::new(FlowForm::Turns { body, gate, mark })
 }
 
-/// One statement in a row.
+// One statement in a row.
 pub(crate) fn alone(alloc: Global, flow: Flow) -> Result<Items<Flow>, NoMemory>
     ensures { IfOk result (λ row. flows_seen row ≡ flow_tree flow ∷ []) }
 {
@@ -172,7 +172,7 @@ pub(crate) fn alone(alloc: Global, flow: Flow) -> Result<Items<Flow>, NoMemory>
     Ok(row)
 }
 
-/// A label that waits, or others, and the statement behind.
+// A label that waits, or others, and the statement behind.
 pub(crate) fn behind_label(
     alloc: Global,
     number: u32,
@@ -187,7 +187,7 @@ pub(crate) fn behind_label(
     in_row(row)
 }
 
-/// Labels once more.
+// Labels once more.
 pub(crate) fn copies(alloc: Global, operations: &Operations) -> Result<Operations, NoMemory>
     ensures { IfOk result (λ os. os ≡ operations.now) }
 {

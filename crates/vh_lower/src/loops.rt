@@ -19,7 +19,7 @@ fn none(alloc: Global) -> Operations
     Sequence::new(Vec::new(alloc))
 }
 
-/// An `if` (IEEE 1364-2005, 9.4).
+// An `if` (IEEE 1364-2005, 9.4).
 pub(crate) fn if_flow(alloc: Global, head: Head, holds: Flow, fails: Flow) -> Result<Flow, NoMemory>
     ensures { IfOk result (λ f. flow_tree f ≡ if_flow head (flow_tree holds) (flow_tree fails)) }
 {
@@ -72,7 +72,7 @@ fn repeat_flow(alloc: Global, head: Head, body: Flow) -> Result<Flow, NoMemory>
     )
 }
 
-/// A `while` or a `repeat` (IEEE 1364-2005, 9.6).
+// A `while` or a `repeat` (IEEE 1364-2005, 9.6).
 pub(crate) fn loop_flow(
     alloc: Global,
     word: LoopWord,
@@ -104,7 +104,7 @@ fn for_turns(
     again(alloc, number, calls, gate, row)
 }
 
-/// A `for` (IEEE 1364-2005, 9.6).
+// A `for` (IEEE 1364-2005, 9.6).
 pub(crate) fn for_flow(alloc: Global, head: ForHead, body: Flow) -> Result<Flow, NoMemory>
     ensures { IfOk result (λ f. flow_tree f ≡ for_flow head (flow_tree body)) }
 {
@@ -125,7 +125,7 @@ pub(crate) fn for_flow(alloc: Global, head: ForHead, body: Flow) -> Result<Flow,
     in_row(row)
 }
 
-/// A `forever` (IEEE 1364-2005, 9.6).
+// A `forever` (IEEE 1364-2005, 9.6).
 pub(crate) fn forever_flow(alloc: Global, number: u32, body: Flow) -> Result<Flow, NoMemory>
     ensures { IfOk result (λ f. flow_tree f ≡ forever_flow number (flow_tree body)) }
 {

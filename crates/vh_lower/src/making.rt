@@ -3,7 +3,7 @@ ghost use Rattle.vh_ast.specs.Views.{delay_tree, expr_tree, lv_tree};
 ghost use Rattle.vh_bind_stmt.specs.Views.{surroundings_seen};
 ghost use Rattle.vh_lower.specs.Making.{Makes, numbered, scope_of, reading_from, with_show, with_wait, called_behind};
 ghost use Rattle.vh_lower.specs.Statements.{value_of, targets_of, delay_of, output_of};
-ghost use Rattle.vh_lower.specs.Views.{added_seen, Performs, Stands, Adds, Finds, added_of};
+ghost use Rattle.vh_lower.specs.Views.{added_seen, Performs, Stands, Adds, Finds, IsSame, added_of, around_of};
 
 use crate::added::{Added, Maker};
 use crate::fault::{LowerFault, Lowered};
@@ -47,7 +47,7 @@ pub fn value_of(maker: &mut Maker, calls: &mut Vec<Operation>, e: &Expr) -> Lowe
     with_calls(maker, calls, from, found)
 }
 
-/// The left side of an assignment, with the calls that it makes.
+// The left side of an assignment, with the calls that it makes.
 pub(crate) fn targets_of(maker: &mut Maker, calls: &mut Vec<Operation>, lv: &Lv) -> Lowered<Targets>
     requires stands { Stands maker.old }
     ensures { Adds
@@ -76,7 +76,7 @@ pub fn delay_of(maker: &mut Maker, calls: &mut Vec<Operation>, delay: &Delay) ->
     with_calls(maker, calls, from, found)
 }
 
-/// An output of a task, with the calls that it makes.
+// An output of a task, with the calls that it makes.
 pub(crate) fn output_of(maker: &mut Maker, calls: &mut Vec<Operation>, e: &Expr) -> Lowered<Targets>
     requires stands { Stands maker.old }
     ensures { Adds
@@ -88,7 +88,7 @@ pub(crate) fn output_of(maker: &mut Maker, calls: &mut Vec<Operation>, e: &Expr)
     with_calls(maker, calls, from, found)
 }
 
-/// The scope that a statement stands in.
+// The scope that a statement stands in.
 pub(crate) fn scope_of(around: &Surroundings) -> ObjId
     ensures { result ≡ scope_of (surroundings_seen around.now) }
 {
@@ -98,10 +98,12 @@ pub(crate) fn scope_of(around: &Surroundings) -> ObjId
     }
 }
 
-/// One statement more, under the next number.
+// One statement more, under the next number.
 pub(crate) fn numbered(maker: &mut Maker, kind: StmtKind, place: Place) -> Lowered<u32>
-    requires stands { Stands maker.old }
-    ensures { Adds (λ s a. Makes (numbered kind s place a)) maker.old result maker.new }
+    ensures made { Makes (numbered kind (around_of maker.old) place (added_of maker.old)) result
+        (added_of maker.new) }
+    ensures exprs { (added_of maker.new).exprs ≡ (added_of maker.old).exprs }
+    ensures same { IsSame maker.old maker.new }
 {
     let Ok(number) = u32::try_from(maker.added.stmts.len()) else {
         return Err(LowerFault::NoMemory);
@@ -113,7 +115,7 @@ pub(crate) fn numbered(maker: &mut Maker, kind: StmtKind, place: Place) -> Lower
     Ok(number)
 }
 
-/// One wait more.
+// One wait more.
 pub(crate) fn with_wait(added: &mut Added, terms: Terms) -> Result<WaitId, LowerFault>
     ensures made { Makes (with_wait terms (added_seen added.old)) result (added_seen added.new) }
     ensures exprs { (added_seen added.new).exprs ≡ (added_seen added.old).exprs }
@@ -136,7 +138,7 @@ pub fn reading_from(alloc: Global, added: &mut Added, from: usize) -> Result<Wai
     with_wait(added, terms)
 }
 
-/// One display call more.
+// One display call more.
 pub(crate) fn with_show(added: &mut Added, show: ShowCall) -> Result<ShowId, LowerFault>
     ensures made { Makes (with_show show (added_seen added.old)) result (added_seen added.new) }
     ensures exprs { (added_seen added.new).exprs ≡ (added_seen added.old).exprs }

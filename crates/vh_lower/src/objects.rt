@@ -23,7 +23,7 @@ use vh_nodes::{
 };
 use vh_scope::{Meaning, Top};
 
-/// It, or else the name's fault.
+// It, or else the name's fault.
 pub(crate) fn meant_object(place: Place, object: Option<ObjId>) -> Result<Option<ObjId>, ElabFault>
     ensures { Gives (meant_object place object) result }
 {
@@ -43,7 +43,7 @@ fn object_named(place: Place, meaning: Option<Meaning>) -> Result<Option<ObjId>,
     meant_object(place, object_meant(meaning))
 }
 
-/// The object that a name stands for.
+// The object that a name stands for.
 pub(crate) fn named_object(maker: &Maker, is_call: bool, name: &Name<Expr>) -> Lowered<ObjId>
     ensures { Finds (λ s a. Makes (named_object s is_call (name_tree name.now) a))
         maker.now result }
@@ -70,7 +70,7 @@ pub(crate) fn named_object(maker: &Maker, is_call: bool, name: &Name<Expr>) -> L
     }
 }
 
-/// A named event.
+// A named event.
 pub(crate) fn event_of(maker: &Maker, name: &Name<Expr>) -> Lowered<ObjId>
     ensures { Finds (λ s a. Makes (object_of s (name_tree name.now) is_event a)) maker.now result }
 {
@@ -81,7 +81,7 @@ pub(crate) fn event_of(maker: &Maker, name: &Name<Expr>) -> Lowered<ObjId>
     Ok(object)
 }
 
-/// A named block or a task.
+// A named block or a task.
 pub(crate) fn disable_target_of(maker: &Maker, name: &Name<Expr>) -> Lowered<ObjId>
     ensures { Finds (λ s a. Makes (object_of s (name_tree name.now) is_disable_target a))
         maker.now result }
@@ -164,7 +164,7 @@ fn takes_release(objects: &[ObjectInfo], word: ReleaseWord, object: ObjId) -> bo
     }
 }
 
-/// What a `force` or an `assign` changes.
+// What a `force` or an `assign` changes.
 pub(crate) fn forced_of(maker: &Maker, word: ForceWord, target: &Lv) -> Lowered<ObjId>
     ensures { Finds (λ s a. Makes (whole_object s (lv_tree target.now) (force_kinds word) a))
         maker.now result }
@@ -176,7 +176,7 @@ pub(crate) fn forced_of(maker: &Maker, word: ForceWord, target: &Lv) -> Lowered<
     Ok(object)
 }
 
-/// What a `release` or a `deassign` changes.
+// What a `release` or a `deassign` changes.
 pub(crate) fn released_of(maker: &Maker, word: ReleaseWord, target: &Lv) -> Lowered<ObjId>
     ensures { Finds (λ s a. Makes (whole_object s (lv_tree target.now) (release_kinds word) a))
         maker.now result }
@@ -197,7 +197,7 @@ fn is_task_at(objects: &[ObjectInfo], object: ObjId) -> bool
         .map_or(false, |info| matches!(info.kind, Kind::Task))
 }
 
-/// The task that is called with so many arguments.
+// The task that is called with so many arguments.
 pub(crate) fn task_of(maker: &Maker, name: &Name<Expr>, count: usize) -> Lowered<ObjId>
     ensures { Finds (λ s a. Makes (task_of s (name_tree name.now) count a)) maker.now result }
 {

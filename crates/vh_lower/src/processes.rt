@@ -10,7 +10,7 @@ ghost use Rattle.vh_lower.specs.Processes.{plain_label, plain_labels, plain_code
 ghost use Rattle.vh_lower.specs.Views.{flows_seen, Stands, Adds};
 
 use crate::added::Maker;
-use crate::assignments::and_then;
+use crate::assignments::with_label;
 use crate::fault::Lowered;
 use crate::labels::{Operations, in_row};
 use crate::making::{delay_of, reading_from, value_of};
@@ -60,7 +60,7 @@ fn initial_labels(maker: &mut Maker, object: ObjId, value: &Expr) -> Lowered<Ope
 {
     let mut operations = Vec::new(maker.alloc);
     let value = value_of(maker, &mut operations, value)?;
-    Ok(and_then(operations, Operation::Initial { object, value })?)
+    Ok(with_label(operations, Operation::Initial { object, value })?)
 }
 
 // The code of a declared initial value.
@@ -119,7 +119,7 @@ fn drive_behind(
     let value = value_of(maker, &mut operations, value)?;
     let wait = reading_from(maker.alloc, maker.added, from)?;
     let drive = drive_at(maker.alloc, drivers, value, delay, wait)?;
-    Ok(and_then(operations, drive)?)
+    Ok(with_label(operations, drive)?)
 }
 
 // Its labels, with those of its delay.
@@ -189,10 +189,10 @@ pub fn driving_code(
     operations: Vec<Operation>,
 ) -> Result<Code, NoMemory>
     ensures { IfOk result (λ c. c
-        ≡ plain_code of.Assign (Labels.and_then operations.items
+        ≡ plain_code of.Assign (Labels.with_label operations.items
         (drive_at drivers value delay wait))) }
 {
     let drive = drive_at(alloc, drivers, value, delay, wait)?;
-    let operations = and_then(operations, drive)?;
+    let operations = with_label(operations, drive)?;
     plain_code(alloc, CodeKind::Assign, operations)
 }

@@ -7,7 +7,7 @@ ghost use Rattle.vh_lower.specs.Statements.{force_single, release_single, force_
 ghost use Rattle.vh_lower.specs.Views.{MakesTo, Stands, Adds};
 
 use crate::added::Maker;
-use crate::assignments::{and_then, assign_labels};
+use crate::assignments::{assign_labels, with_label};
 use crate::fault::Lowered;
 use crate::labels::{Operations, labels, nothing};
 use crate::making::{numbered, value_of};
@@ -20,18 +20,18 @@ use vh_base::{ExprId, NoMemory, ObjId, Place};
 use vh_code::{Operation, Pause, Single, StmtKind};
 use vh_flow::Flow;
 
-/// One label.
+// One label.
 pub(crate) fn one_single(alloc: Global, single: Single) -> Result<Operations, NoMemory>
     ensures { IfOk result (λ os. os ≡ Op.Single single ∷ []) }
 {
-    and_then(Vec::new(alloc), Operation::Single(single))
+    with_label(Vec::new(alloc), Operation::Single(single))
 }
 
-/// One label that waits.
+// One label that waits.
 pub(crate) fn one_pause(alloc: Global, pause: Pause) -> Result<Operations, NoMemory>
     ensures { IfOk result (λ os. os ≡ Op.Pause pause ∷ []) }
 {
-    and_then(Vec::new(alloc), Operation::Pause(pause))
+    with_label(Vec::new(alloc), Operation::Pause(pause))
 }
 
 // The label of a `force` or an `assign`.
@@ -104,7 +104,7 @@ fn force_labels(maker: &mut Maker, word: ForceWord, set: &Set) -> Lowered<Operat
     let mut operations = Vec::new(maker.alloc);
     let value = value_of(maker, &mut operations, &set.value)?;
     let single = force_single(word, object, value);
-    Ok(and_then(operations, Operation::Single(single))?)
+    Ok(with_label(operations, Operation::Single(single))?)
 }
 
 // A `release` or a `deassign`.
@@ -171,7 +171,7 @@ fn is_null(simple: &Simple) -> bool
     }
 }
 
-/// A statement in which none stands.
+// A statement in which none stands.
 pub(crate) fn simple_flow(maker: &mut Maker, place: Place, simple: &Simple) -> Lowered<Flow>
     requires stands { Stands maker.old }
     ensures { Adds (λ s a. MakesTo flow_tree (simple_flow s place (simple_tree simple.now) a))

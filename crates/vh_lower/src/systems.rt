@@ -7,7 +7,7 @@ ghost use Rattle.vh_lower.specs.Statements.{arguments_of_show, show_labels, endi
 ghost use Rattle.vh_lower.specs.Views.{Performs, Stands, Adds, Finds};
 
 use crate::added::Maker;
-use crate::assignments::and_then;
+use crate::assignments::with_label;
 use crate::fault::{LowerFault, Lowered};
 use crate::labels::Operations;
 use crate::making::{scope_of, with_calls, with_show};
@@ -65,7 +65,7 @@ fn show_labels(
         args,
     };
     let show = with_show(maker.added, call)?;
-    Ok(and_then(operations, Operation::Single(Single::Show(show)))?)
+    Ok(with_label(operations, Operation::Single(Single::Show(show)))?)
 }
 
 // `$finish` or `$stop`.
@@ -100,7 +100,7 @@ fn other_labels(maker: &Maker, id: &Id, values: &[Option<Expr>]) -> Lowered<Oper
     }
 }
 
-/// The labels of a system task that is built in (IEEE 1364-2005, 17.1 and 17.4).
+// The labels of a system task that is built in (IEEE 1364-2005, 17.1 and 17.4).
 pub(crate) fn system_labels(
     maker: &mut Maker,
     id: &Id,

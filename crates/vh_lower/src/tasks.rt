@@ -5,7 +5,7 @@ ghost use Rattle.vh_lower.specs.Statements.{with_input, with_output, with_argume
 ghost use Rattle.vh_lower.specs.Views.{calling_seen, Stands, Adds, Leaves};
 
 use crate::added::Maker;
-use crate::assignments::and_then;
+use crate::assignments::with_label;
 use crate::fault::Lowered;
 use crate::labels::Operations;
 use crate::making::{output_of, value_of};
@@ -17,7 +17,7 @@ use vh_base::{Boxed, ExprId, NoMemory, ObjId, Sequence};
 use vh_bind_stmt::{Argument, arguments_of};
 use vh_code::{Input, Leave, Operation, Output, Targets};
 
-/// The call of a task so far: the labels before its begin and before its end, and what these write.
+// The call of a task so far: the labels before its begin and before its end, and what these write.
 #[derive(Drop)]
 pub(crate) struct Calling {
     pub front: Vec<Operation>,
@@ -153,10 +153,10 @@ fn call_labels(alloc: Global, task: ObjId, call: Calling) -> Result<Operations, 
         outputs: Sequence::new(outputs),
         result: None,
     };
-    and_then(front, Operation::Leave(Boxed::new(alloc, leave)?))
+    with_label(front, Operation::Leave(Boxed::new(alloc, leave)?))
 }
 
-/// The labels of a call of a task (IEEE 1364-2005, 10.2.2).
+// The labels of a call of a task (IEEE 1364-2005, 10.2.2).
 pub(crate) fn task_labels(
     maker: &mut Maker,
     name: &Name<Expr>,
