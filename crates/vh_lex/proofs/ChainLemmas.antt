@@ -22,7 +22,7 @@ use Rattle.vh_lex.specs.declared.piece.Piece.{Piece}
 use Rattle.vh_lex.specs.declared.piece.Piece.TheVariants.{Blank, Kept, Fault}
 use Rattle.vh_lex.specs.Bytes.{begins, begins_with, is_line_end, is_name_byte, is_graphic}
 use Rattle.vh_lex.specs.Front.{Named, front, comment_len, use_by, simple_name, escaped_name, name_of, word_name, is_long}
-use Rattle.vh_lex.specs.Made.{Macros as Rows, Made, macro_of, with_macro}
+use Rattle.vh_lex.specs.Made.{MacroRows as Rows, Made, macro_of, with_macro}
 use Rattle.vh_lex.specs.MacroTexts.{parts_of, macro_text, macro_len}
 use Rattle.vh_lex.specs.Conditionals.{is_skipped, skips}
 use Rattle.vh_lex.specs.State.{State, first_setting, moved}
@@ -32,20 +32,20 @@ use Rattle.vh_lex.specs.declared.fault.LexFault.{LexFault}
 use Rattle.vh_lex.specs.declared.fault.LexFault.TheVariants.{Refused, NoMemory}
 use Rattle.vh_lex.specs.Lexed.{File, Lexed, reading, refused as refused_at, exhausted, nothing_read, Refuses, files_after, closed_by, end_of, IfReading, files_read}
 use Rattle.vh_lex.specs.MacroTokens.{Macros, with_text, token_of}
-use Rattle.vh_lex.specs.SourceText.{At, place_of, past, opened, IsWord, Names, Goes, blank, token, macro, define, undef, sets, file, Passes, comment, byte, quote, word, skipped_file, If, ifdef, ifndef, Elsif, elsif, Else, else_, Endif, endif, is_conditional, before, Reads, read_end, read_piece, read_chosen, read_sought, Skips, skip_end, skip_piece, skip_conditional, Others, other_elsif, other_else, other_endif, Seeks, seek_chosen, seek_elsif, seek_else, seek_endif, HasText}
+use Rattle.vh_lex.specs.SourceText.{At, place_of, past, at_start, IsWord, Names, Goes, blank, token, macro, define, undef, sets, file, Passes, comment, byte, quote, word, skipped_file, If, ifdef, ifndef, Elsif, elsif, Else, else_, Endif, endif, is_conditional, before, Reads, read_end, read_piece, read_chosen, read_sought, Skips, skip_end, skip_piece, skip_conditional, Others, other_elsif, other_else, other_endif, Seeks, seek_chosen, seek_elsif, seek_else, seek_endif, HasText}
 use Rattle.vh_lex.specs.Reached.{ReadsTo, read_here, in_chosen, in_sought, in_others, in_seeks, SkipsTo, skip_here, skip_in, skip_others, OthersTo, other_in, other_past, other_in_else, SeeksTo, seek_in, seek_others, seek_skipped, seek_past, seek_in_else, IsStuck, IsLeftOpen}
 use Rattle.vh_lex.specs.Laws.{TokensOrRefused}
 use Rattle.vh_lex.specs.TextLaws.{SpelledHasText, FaultStops}
-use Rattle.vh_lex.proofs.LawLemmas.{IsKnown, known-files}
-use Rattle.vh_lex.proofs.StackLemmas.{innermost-last, without-last, with-last, skips-last}
+use Rattle.vh_lex.proofs.LawsLemmas.{IsKnown, known-files}
+use Rattle.vh_lex.proofs.ConditionalsLemmas.{innermost-last, without-last, with-last, skips-last}
 use Rattle.vh_lex.proofs.MacroLemmas.{Knows, knows-none, knows-with}
 use Rattle.vh_lex.proofs.FrontLemmas.{IsFine, fine-front}
-use Rattle.vh_lex.proofs.UseLemmas.{made-gives}
+use Rattle.vh_lex.proofs.MacroTokensLemmas.{made-gives}
 use Rattle.vh_lex.proofs.GoesLemmas.{names-long, goes-leads}
-use Rattle.vh_lex.proofs.PlaceLemmas.{moved-place}
+use Rattle.vh_lex.proofs.PlacesLemmas.{moved-place}
 use Rattle.vh_lex.proofs.CondLemmas.{begun, turned, elsed, defined-same, passes-leads, if-leads}
 use Rattle.vh_lex.proofs.StepLemmas.{state_of, lexed_in, outcome, IsMore, again, run-step, file-leads, eq-literal, kept-more, comment-more, left-in, config-of, next-step, next-of, next, Reach, here, further, reach-join, reach-end, reach-less, run-next}
-use Rattle.vh_lex.proofs.TextLemmas.{reads-to}
+use Rattle.vh_lex.proofs.ReachedLemmas.{reads-to}
 
 -- The conditionals that are open, the innermost first: what is left of each.
 abbrev TextFor : Branch → At → At → Type 0
@@ -67,7 +67,7 @@ abbrev stacked : List Conditional → List Conditional
 stacked [] = []
 stacked (c ∷ below) = stacked below ++ c ∷ []
 
--- text in front of what is left of the innermost
+-- Text in front of what is left of the innermost
 on-read : (a b e : At) (st : List Conditional) → skips (stacked st) ≡ false → ((z : At) → Reads b z → Reads a z) → Chain st b e → Chain st a e
 on-read a b e [] f go t = go e t
 on-read a b e (c ∷ below) f go t = by c.branch (sym (skips-last (stacked below) c) ∙ f) t
@@ -88,13 +88,13 @@ on-skips a b e (c ∷ below) f go t = by c.branch (sym (skips-last (stacked belo
     by branch.Sought g u = (u.0, (u.1.0, (go u.0 u.1.1.0, u.1.1.1)))
     by branch.Past g u = (u.0, (u.1.0, (go u.0 u.1.1.0, u.1.1.1)))
 
--- a conditional opens
+-- A conditional opens
 on-if : (holds : Bool) (a b e : At) (st : List Conditional) → If holds a b → (t : Bool) → skips (stacked st) ≡ t → Chain (begun a (opening t holds) ∷ st) b e → Chain st a e
 on-if true a b e st i false f u = on-read a u.1.0 e st f (λ z r. read_chosen i u.1.1.0 u.1.1.1.0 r) u.1.1.1.1
 on-if false a b e st i false f u = on-read a u.1.0 e st f (λ z r. read_sought i u.1.1.0 u.1.1.1.0 r) u.1.1.1.1
 on-if holds a b e st i true f u = on-skips a u.1.0 e st f (λ z r. skip_conditional i u.1.1.0 u.1.1.1.0 r) u.1.1.1.1
 
--- another branch of it
+-- Another branch of it
 rest-elsif : (a b x y : At) (br : Branch) (holds : Bool) → Elsif holds a b → TextFor (next_branch br holds) b x → RestFor false (next_branch br holds) x y → RestFor false br a y
 rest-elsif a b x y branch.Sought true i t r = seek_chosen i t r
 rest-elsif a b x y branch.Sought false i t r = seek_elsif i t r
@@ -264,7 +264,7 @@ on-else-to t a b e c below i h (inr (inr x)) =
 on-endif-to : (t : Bool) (a b e : At) (c : Conditional) (below : List Conditional) → Endif a b → ChainTo t below b e → ChainTo t (c ∷ below) a e
 on-endif-to t a b e c below i x = inr (inr (a, (b, (text-ends a c.branch, (rest-endif a b c.has_else c.branch i, x)))))
 
--- where it stands
+-- Where it stands
 stands : (st : List Conditional) (a : At) → ChainTo (skips (stacked st)) st a a
 stands [] a = read_here read_end
 stands (c ∷ below) a = subst (λ t. ChainTo t (c ∷ below) a a) (sym (skips-last (stacked below) c)) (by c.branch)
@@ -275,7 +275,7 @@ stands (c ∷ below) a = subst (λ t. ChainTo t (c ∷ below) a a) (sym (skips-l
     by branch.Sought = inl (refl, skip_here skip_end)
     by branch.Past = inl (refl, skip_here skip_end)
 
--- the limits of all files
+-- The limits of all files
 abbrev Fits : At → Type 0
 Fits a = (length a.tokens ≤ 4194304) × (a.uses ≤ 1048576)
 
@@ -320,7 +320,7 @@ blank-long : (bytes : List ℕ) (len : ℕ) → IsMore bytes → front bytes ≡
 blank-long [] len i e = let h = i.bytes_are in cc
 blank-long (b ∷ bs) len i e = subst (IsFine b) e (fine-front b bs)
 
--- a directive's word in text that is read
+-- A directive's word in text that is read
 word-of : (a : At) (d : Directive) (name : List ℕ) (len : ℕ) → front a.bytes ≡ Kept (part.Use name) len → directive_behind (drop 1 a.bytes) name ≡ Some d → IsWord d a len
 unfolding piece-len piece-name
 word-of a d name len e g = by a.bytes refl e g
@@ -701,7 +701,7 @@ at-end o a rows st tokens e f g =
     by [] h = record { last = a; chain = read_end; ends = e; is_last = f; tokens_are = h.1 }
     by (c ∷ below) h = absurd (not-closed (stacked below) c h.0)
 
--- what is left behind a step, by what is left behind the next one
+-- What is left behind a step, by what is left behind the next one
 abbrev Left : ℕ → List Token → Type 0
 Left most tokens = (a : At) (rows : Rows) (st : List Conditional) (o : Option Place) → left-of a ≤ most → Fits a → Knows a.macros rows → IsGiven (outcome o a rows (stacked st)) tokens → Ends a st tokens
 
@@ -710,12 +710,12 @@ at-file : (most : ℕ) (tokens : List Token) → Left most tokens → (a : At) (
 at-file most tokens rest a rows st o f fs e g h fit k i =
     let l = (file-leads o a rows (stacked st) f fs e g k).leads in
     let size : left-of a ≡ 1 + length f.bytes + left-in fs = ap (λ bytes. length bytes + left-in a.files) e ∙ ap (λ files. length {A = ℕ} [] + left-in files) g ∙ omega arith in
-    let r = rest (opened f fs a) l.macros st l.first (omega arith) fit l.knows (subst (λ x. IsGiven x tokens) l.same i) in
+    let r = rest (at_start f fs a) l.macros st l.first (omega arith) fit l.knows (subst (λ x. IsGiven x tokens) l.same i) in
     record { last = r.last; chain = by (skips (stacked st)) refl r.last r.chain; ends = r.ends; is_last = r.is_last; tokens_are = r.tokens_are }
   where
-    by : (t : Bool) → skips (stacked st) ≡ t → (last : At) → Chain st (opened f fs a) last → Chain st a last
-    by true x last t = on-skips a (opened f fs a) last st x (λ z r. skip_piece (skipped_file f fs e g) r) t
-    by false x last t = on-read a (opened f fs a) last st x (λ z r. read_piece (file f fs e g) r) t
+    by : (t : Bool) → skips (stacked st) ≡ t → (last : At) → Chain st (at_start f fs a) last → Chain st a last
+    by true x last t = on-skips a (at_start f fs a) last st x (λ z r. skip_piece (skipped_file f fs e g) r) t
+    by false x last t = on-read a (at_start f fs a) last st x (λ z r. read_piece (file f fs e g) r) t
 
 at-byte : (most : ℕ) (tokens : List Token) → Left most tokens → (a : At) (rows : Rows) (st : List Conditional) (o : Option Place) (b : ℕ) (bs : List ℕ) → a.bytes ≡ b ∷ bs
     → left-of a ≤ suc most → Fits a → Knows a.macros rows → IsGiven (outcome o a rows (stacked st)) tokens → Ends a st tokens
@@ -823,12 +823,12 @@ stop-at-file : (most : ℕ) (fault : DesignFault) (place : Place) → StopsLeft 
 stop-at-file most fault place rest a rows st o f fs e g h fit k i =
     let l = (file-leads o a rows (stacked st) f fs e g k).leads in
     let size : left-of a ≡ 1 + length f.bytes + left-in fs = ap (λ bytes. length bytes + left-in a.files) e ∙ ap (λ files. length {A = ℕ} [] + left-in files) g ∙ omega arith in
-    let r = rest (opened f fs a) l.macros st l.first (omega arith) fit l.knows (sym (ap end_of l.same) ∙ i) in
+    let r = rest (at_start f fs a) l.macros st l.first (omega arith) fit l.knows (sym (ap end_of l.same) ∙ i) in
     record { last = r.last; is_skipped = r.is_skipped; front = by (skips (stacked st)) refl r.is_skipped r.last r.front; rows_now = r.rows_now; stack = r.stack; reach = reach-join {z = config-of r.last r.rows_now r.stack} l.reach r.reach; is_end = r.is_end; why = r.why }
   where
-    by : (t : Bool) → skips (stacked st) ≡ t → (u : Bool) (last : At) → ChainTo u st (opened f fs a) last → ChainTo u st a last
-    by true x u last t = on-skips-to u a (opened f fs a) last st x (λ z r. skip_piece (skipped_file f fs e g) r) t
-    by false x u last t = on-read-to u a (opened f fs a) last st x (λ z r. read_piece (file f fs e g) r) t
+    by : (t : Bool) → skips (stacked st) ≡ t → (u : Bool) (last : At) → ChainTo u st (at_start f fs a) last → ChainTo u st a last
+    by true x u last t = on-skips-to u a (at_start f fs a) last st x (λ z r. skip_piece (skipped_file f fs e g) r) t
+    by false x u last t = on-read-to u a (at_start f fs a) last st x (λ z r. read_piece (file f fs e g) r) t
 
 stop-at-byte : (most : ℕ) (fault : DesignFault) (place : Place) → StopsLeft most fault place → (a : At) (rows : Rows) (st : List Conditional) (o : Option Place) (b : ℕ) (bs : List ℕ) → a.bytes ≡ b ∷ bs
     → left-of a ≤ suc most → Fits a → Knows a.macros rows → end_of (outcome o a rows (stacked st)) ≡ Err (Refused fault place) → StopsAt a rows st fault place

@@ -8,19 +8,19 @@ use Rattle.vh_lex.specs.declared.directive.Directive.{Directive}
 use Rattle.vh_lex.specs.declared.directive.Directive.TheVariants as directive
 use Rattle.vh_lex.specs.Bytes.{begins_with}
 use Rattle.vh_lex.specs.Front.{comment_len, word_name}
-use Rattle.vh_lex.specs.Made.{Macros as Rows, macro_of}
+use Rattle.vh_lex.specs.Made.{MacroRows as Rows, macro_of}
 use Rattle.vh_lex.specs.MacroTexts.{parts_of}
 use Rattle.vh_lex.specs.Conditionals.{skips}
 use Rattle.vh_lex.specs.State.{State}
 use Rattle.vh_lex.specs.Directives.{Step, directive_of, name_behind, named_then, condition, opening, next_branch, opened as opened_in, branching, elsif_in, else_in, endif_by, directed, refused}
 use Rattle.vh_lex.specs.Spelling.{comment_skipped, use_skipped, name_skipped, step}
 use Rattle.vh_lex.specs.SourceText.{At, place_of, past, Names, Passes, comment, byte, quote, word, skipped_file, If, ifdef, ifndef, Elsif, elsif, Else, else_, Endif, endif, is_conditional}
-use Rattle.vh_lex.proofs.StackLemmas.{innermost-last, without-last, with-last}
+use Rattle.vh_lex.proofs.ConditionalsLemmas.{innermost-last, without-last, with-last}
 use Rattle.vh_lex.proofs.MacroLemmas.{Knows}
 use Rattle.vh_lex.proofs.StepLemmas.{state_of, Moves, IsMore, step-leads, file-leads, skipped-step, quote-skips, word-step, more, word-more, comment-more}
 use Rattle.vh_lex.proofs.GoesLemmas.{named-read, names-long}
 
--- a piece of skipped text
+-- A piece of skipped text
 bare-step : (b : ℕ) (bs : List ℕ) (s : State) → nat_eq b 96 ≡ false → comment_len (b ∷ bs) ≡ None → begins_with 47 42 (b ∷ bs) ≡ false
     → comment_skipped (comment_len (b ∷ bs)) (b ∷ bs) s ≡ Ok (s, 1)
 bare-step b bs s q c d =
@@ -65,7 +65,7 @@ passes-leads {a} (word name q w c) o rows cs k f =
     (quote-skips a.bytes s f q ∙ ap (λ x. use_skipped x a.bytes s) w ∙ plain-word (directive_of name.name) (name.len + 1) (drop (name.len + 1) a.bytes) s c)
 passes-leads {a} (skipped_file f fs e g) o rows cs k h = file-leads o a rows cs f fs e g k
 
--- whether a macro is defined
+-- Whether a macro is defined
 known-same : (o : Option (List ℕ)) → is_some (option_map parts_of o) ≡ is_some o
 known-same None = refl
 known-same (Some x) = refl
@@ -73,7 +73,7 @@ known-same (Some x) = refl
 pub defined-same : (a : At) (rows : Rows) (name : List ℕ) → Knows a.macros rows → is_some (macro_of name rows) ≡ is_some (a.macros name)
 defined-same a rows name k = ap is_some (k name) ∙ known-same (a.macros name)
 
--- a conditional more
+-- A conditional more
 abbrev pub begun : At → Branch → Conditional
 begun a b = record { place = place_of a; branch = b; has_else = false }
 
@@ -97,7 +97,7 @@ if-leads {a = a} (ifndef name len w) o rows cs t k f =
     step-leads o a rows rows cs (cs ++ begun a (opening t (condition false (is_some (a.macros name)))) ∷ []) a.macros a.setting a.tokens a.uses len (word-more a.bytes w.word.quote)
     (names-long directive.Ifndef a name len w) k (if-step false directive.Ifndef a rows cs name len t w refl (λ at bytes s. refl) k f)
 
--- another branch of the innermost one
+-- Another branch of the innermost one
 abbrev pub turned : Bool → Conditional → Conditional
 turned holds c = record c { branch = next_branch c.branch holds }
 

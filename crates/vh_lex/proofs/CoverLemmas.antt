@@ -6,12 +6,12 @@ use Rattle.vh_lex.specs.declared.directive.Directive.TheVariants as directive
 use Rattle.vh_lex.specs.declared.piece.Part.TheVariants as part
 use Rattle.vh_lex.specs.Lexed.{File}
 use Rattle.vh_lex.specs.MacroTokens.{Macros}
-use Rattle.vh_lex.specs.SourceText.{HasText, At, past, opened, Goes, blank, token, macro, define, undef, sets, file, Passes, comment, byte, quote, word, skipped_file, If, ifdef, ifndef, Elsif, elsif, Else, else_, Endif, endif}
+use Rattle.vh_lex.specs.SourceText.{HasText, At, past, at_start, Goes, blank, token, macro, define, undef, sets, file, Passes, comment, byte, quote, word, skipped_file, If, ifdef, ifndef, Elsif, elsif, Else, else_, Endif, endif}
 use Rattle.vh_lex.specs.Laws.{NeverBoth}
 use Rattle.vh_lex.specs.TextLaws.{Cuts, Opens, Covers}
 use Rattle.vh_lex.proofs.StepLemmas.{IsMore, again, more, word-more, kept-more, blank-more, comment-more}
 use Rattle.vh_lex.proofs.GoesLemmas.{names-long, sets-long}
-use Rattle.vh_lex.proofs.TextLemmas.{text_is_spelled}
+use Rattle.vh_lex.proofs.ReachedLemmas.{text_is_spelled}
 
 cuts : (a : At) (macros : Macros) (setting : Setting) (tokens : List Token) (uses len : ℕ) → IsMore a.bytes → 1 ≤ len → Cuts a (past len (again macros setting tokens uses a))
 cuts a macros setting tokens uses len i h =
@@ -24,7 +24,7 @@ cuts a macros setting tokens uses len i h =
       files = refl;
     }
 
-opens : (a : At) (f : File) (fs : List File) → a.bytes ≡ [] → a.files ≡ f ∷ fs → Opens a (opened f fs a)
+opens : (a : At) (f : File) (fs : List File) → a.bytes ≡ [] → a.files ≡ f ∷ fs → Opens a (at_start f fs a)
 opens a f fs e g = record { next = f; none_left = e; bytes = refl; passed = refl; file = refl; files = g }
 
 read-covers : {a c : At} → Goes a c → Cuts a c ⊎ Opens a c

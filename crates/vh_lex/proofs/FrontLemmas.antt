@@ -20,9 +20,9 @@ use Rattle.vh_lex.specs.Keywords.{module_word, keyword_of}
 use Rattle.vh_lex.specs.Marks.{mark_rows}
 use Rattle.vh_lex.specs.Numbers.{begins_real, based_len, valued, number_of, number_by, number_at}
 use Rattle.vh_lex.specs.Texts.{decoded, text_len, text_by, text_of, text_at}
-use Rattle.vh_lex.specs.Front.{Named, comment_len, escaped_name, simple_name, name_of, is_long, named, word_by, word_of, word_at, system_of, system_at, escaped_by, use_by, mark_by, mark_piece, slash_by, begins_attribute, attribute_of, bracket_at, marked, front}
+use Rattle.vh_lex.specs.Front.{Named, comment_len, escaped_name, simple_name, name_of, is_long, named, word_by, word_of, word_at, system_of, system_at, escaped_by, use_by, mark_by, mark_piece, slash_piece, begins_attribute, attribute_of, bracket_at, marked, front}
 
--- a use begins with a backquote
+-- A use begins with a backquote
 abbrev IsQuoted : ℕ → Part → Type 0
 IsQuoted byte (part.Use name) = nat_eq byte 96 ≡ true
 IsQuoted byte (part.Token kind) = Unit {0}
@@ -44,7 +44,7 @@ some-more n e = grind (arith, nat_tests)
 prefix-long : (p : ℕ → Bool) (b : ℕ) (bs : List ℕ) → p b ≡ true → 1 ≤ prefix_len p (b ∷ bs)
 prefix-long p b bs e = rw e (omega arith)
 
--- a word that begins with a byte of its class
+-- A word that begins with a byte of its class
 run-long : (p : ℕ → Bool) (b : ℕ) (bs : List ℕ) → p b ≡ true → 1 ≤ length (take (prefix_len p (b ∷ bs)) (b ∷ bs))
 run-long p b bs e = rw (length-take (prefix_len p (b ∷ bs)) (b ∷ bs)) (let h = prefix-long p b bs e in omega arith)
 
@@ -133,7 +133,7 @@ comment-long b bs len e = by (begins_with 47 47 (b ∷ bs)) refl (begins_with 47
     by false f true None e = cc
     by false f false o e = cc
 
-fine-slash : (byte b : ℕ) (bs : List ℕ) (o : Option ℕ) → comment_len (b ∷ bs) ≡ o → IsFine byte (slash_by o (b ∷ bs))
+fine-slash : (byte b : ℕ) (bs : List ℕ) (o : Option ℕ) → comment_len (b ∷ bs) ≡ o → IsFine byte (slash_piece o (b ∷ bs))
 fine-slash byte b bs (Some len) e = comment-long b bs len e
 fine-slash byte b bs None e = if-fine byte (begins_with 47 42 (b ∷ bs)) (Fault L5 0) (mark_piece (b ∷ bs)) (λ _. tt) (λ _. fine-mark byte (b ∷ bs))
 
@@ -154,7 +154,7 @@ fine-marked b bs =
     (λ _. if-fine b (nat_eq b 34) (text_at bs) _ (λ _. fine-text b (text_len false bs) bs)
     (λ _. if-fine b (nat_eq b 92) (escaped_by (name_of (b ∷ bs))) _ (λ _. fine-escaped b b bs)
     (λ _. if-fine b (nat_eq b 96) (use_by (name_of bs)) _ (λ e. fine-use b (name_of bs) e)
-    (λ _. if-fine b (nat_eq b 47) (slash_by (comment_len (b ∷ bs)) (b ∷ bs)) _ (λ _. fine-slash b b bs (comment_len (b ∷ bs)) refl)
+    (λ _. if-fine b (nat_eq b 47) (slash_piece (comment_len (b ∷ bs)) (b ∷ bs)) _ (λ _. fine-slash b b bs (comment_len (b ∷ bs)) refl)
     (λ _. if-fine b (nat_eq b 40) (bracket_at (b ∷ bs)) (mark_piece (b ∷ bs))
     (λ _. if-fine b (begins_attribute (b ∷ bs)) (attribute_of (through 42 41 false (drop 2 (b ∷ bs))) (b ∷ bs)) (mark_piece (b ∷ bs))
     (λ _. fine-attribute b (through 42 41 false (drop 2 (b ∷ bs))) (b ∷ bs)) (λ _. fine-mark b (b ∷ bs)))

@@ -15,7 +15,7 @@ use Rattle.vh_lex.specs.declared.piece.Part.{Part}
 use Rattle.vh_lex.specs.declared.piece.Part.TheVariants as part
 use Rattle.vh_lex.specs.Bytes.{begins, is_name_byte}
 use Rattle.vh_lex.specs.Front.{Named, name_of, is_long}
-use Rattle.vh_lex.specs.Made.{Macros as Rows, Made, with_macro}
+use Rattle.vh_lex.specs.Made.{MacroRows as Rows, Made, with_macro}
 use Rattle.vh_lex.specs.MacroTexts.{parts_of, macro_text, macro_len}
 use Rattle.vh_lex.specs.Conditionals.{skips}
 use Rattle.vh_lex.specs.State.{State}
@@ -24,10 +24,10 @@ use Rattle.vh_lex.specs.Spelling.{and_then, with_token as token_more, used_by, w
 use Rattle.vh_lex.specs.MacroTokens.{with_text, token_of, Gives}
 use Rattle.vh_lex.specs.SourceText.{At, place_of, Defines, Names, Sets, Goes, blank, token, macro, define, undef, sets, file}
 use Rattle.vh_lex.proofs.MacroLemmas.{Knows, knows-with}
-use Rattle.vh_lex.proofs.UseLemmas.{gives-made}
+use Rattle.vh_lex.proofs.MacroTokensLemmas.{gives-made}
 use Rattle.vh_lex.proofs.StepLemmas.{state_of, Moves, again, step-leads, file-leads, kept-step, blank-step, word-read, word-more, kept-more, blank-more}
 
--- a token
+-- A token
 token-read : (a : At) (rows : Rows) (cs : List Conditional) (p : Part) (k : Kind) (len : ℕ) (bytes : List ℕ) → token_of a.setting p ≡ Some k
     → part_read p len bytes (state_of a rows cs) ≡ made_in (state_of a rows cs) len (token_more k (place_of a) (state_of a rows cs).made)
 token-read a rows cs (part.Token kind) k len bytes e = let same : kind ≡ k = cc in ap (λ x. made_in (state_of a rows cs) len (token_more x (place_of a) (state_of a rows cs).made)) same
@@ -42,7 +42,7 @@ token-fits k place m h = let e : nat_lt (length m.tokens) 4194304 ≡ true = gri
 use-fits : (m : Made) → m.uses + 1 ≤ 1048576 → with_use m ≡ Ok (record m { uses = m.uses + 1 })
 use-fits m h = let e : nat_lt m.uses 1048576 ≡ true = grind (arith, nat_tests) in rw e refl
 
--- the use of a macro
+-- The use of a macro
 macro-read : (a : At) (rows : Rows) (cs : List Conditional) (name text : List ℕ) (len inner : ℕ) (tokens : List Token) (bytes : List ℕ) → Knows a.macros rows
     → directive_behind (drop 1 bytes) name ≡ None → a.macros name ≡ Some text → Gives a.macros a.setting (place_of a) 63 text tokens inner
     → length (a.tokens ++ tokens) ≤ 4194304 → a.uses + 1 + inner ≤ 1048576
@@ -59,7 +59,7 @@ abbrev from-of : Naming → ℕ
 from-of (Ok found) = found.0
 from-of (Err wrong) = 0
 
--- a name stands behind the word
+-- A name stands behind the word
 name-from : (at from : ℕ) (bytes : List ℕ) (n : Named) → name_behind at bytes ≡ Ok (from, n) → at ≤ from
 name-from at from bytes n e = by (name_of (drop (gap_len bytes) bytes)) e
   where
@@ -94,14 +94,14 @@ define-read a rows cs name text len w =
     ∙ ap (λ x. Ok (state_of a (with_macro name (Some (parts_of x)) rows) cs, w.at + gap + w.named.len + macro_len (drop w.named.len rest))) (sym w.text_is)
     ∙ ap (λ n. Ok (state_of a (with_macro name (Some (parts_of text)) rows) cs, n)) (sym w.long)
 
--- a directive with a name
+-- A directive with a name
 pub named-read : (d : Directive) (a : At) (name : List ℕ) (len : ℕ) (w : Names d a name len) (go : List ℕ → State)
     → named_then (name_behind w.at (drop w.at a.bytes)) (λ from n. Ok (go n.name, from + n.len)) ≡ Ok (go name, len)
 named-read d a name len w go =
     ap (λ o. named_then o (λ from n. Ok (go n.name, from + n.len))) w.found
     ∙ ap (λ x. Ok (go x, w.from + w.named.len)) (sym w.name_is) ∙ ap (λ n. Ok (go name, n)) (sym w.long)
 
--- a directive of settings
+-- A directive of settings
 sets-read : (d : Directive) (a : At) (rows : Rows) (cs : List Conditional) (at len : ℕ) (bytes : List ℕ) (new : Setting) → Sets d at bytes a.setting new len
     → directed d at bytes (state_of a rows cs) ≡ Ok (state_of (again a.macros new a.tokens a.uses a) rows cs, len)
 sets-read directive.Timescale a rows cs at len bytes new w =
@@ -142,7 +142,7 @@ sets-long directive.Else at len bytes old new h w = absurd w
 sets-long directive.Endif at len bytes old new h w = absurd w
 sets-long directive.Other at len bytes old new h w = absurd w
 
--- a piece of text that is read
+-- A piece of text that is read
 pub goes-leads : {a c : At} → Goes a c → (o : Option Place) (rows : Rows) (cs : List Conditional) → Knows a.macros rows → skips cs ≡ false → Moves o a c rows cs cs
 goes-leads {a} (blank len h e) o rows cs k f =
     step-leads o a rows rows cs cs a.macros a.setting a.tokens a.uses len (blank-more a.bytes len h e) h k (blank-step a.bytes (state_of a rows cs) len f e)

@@ -17,10 +17,10 @@ use Rattle.vh_lex.specs.Bytes.{begins_with, through, one_more, is_text, is_line_
 use Rattle.vh_lex.specs.Keywords.{module_word, keyword_of}
 use Rattle.vh_lex.specs.Marks.{mark_rows}
 use Rattle.vh_lex.specs.Texts.{Decoded, decoded, text_len, text_by, text_within, text_of, text_at}
-use Rattle.vh_lex.specs.Front.{Named, comment_len, escaped_name, simple_name, name_of, is_long, named, word_by, word_of, word_at, system_of, system_at, escaped_by, use_by, mark_by, mark_piece, slash_by}
-use Rattle.vh_lex.proofs.RunLemmas.{take-front, run-same, pair-front, not-front}
+use Rattle.vh_lex.specs.Front.{Named, comment_len, escaped_name, simple_name, name_of, is_long, named, word_by, word_of, word_at, system_of, system_at, escaped_by, use_by, mark_by, mark_piece, slash_piece}
+use Rattle.vh_lex.proofs.BytesLemmas.{take-front, run-same, pair-front, not-front}
 
--- how many bytes a piece has that is kept
+-- How many bytes a piece has that is kept
 abbrev pub Len : ℕ → Piece → Type 0
 Len n (Blank len) = Unit {0}
 Len n (Kept p len) = n ≡ len
@@ -46,7 +46,7 @@ word-len word = if-len (length word) (bytes_eq module_word word) (Kept part.Modu
 system-len : (name : List ℕ) → Len (length name) (system_of name)
 system-len name = if-len (length name) (nat_lt 1 (length name)) (named kind.SysName name (length name)) (Fault L1 0) (λ _. named-len kind.SysName name (length name)) (λ _. tt)
 
--- a run of bytes, and what it is
+-- A run of bytes, and what it is
 run-kept : (of : List ℕ → Piece) → ((word : List ℕ) → Len (length word) (of word)) → (c : ℕ → Bool) (xs ys : List ℕ) (p : Part) (len : ℕ)
     → of (take (prefix_len c (xs ++ ys)) (xs ++ ys)) ≡ Kept p len → len ≤ length xs → of (take (prefix_len c xs) xs) ≡ Kept p len
 run-kept of lens c xs ys p len e h =
@@ -62,7 +62,7 @@ word-same xs ys p len e h = run-kept word_of word-len is_name_byte xs ys p len e
 pub system-same : (xs ys : List ℕ) (p : Part) (len : ℕ) → system_at (xs ++ ys) ≡ Kept p len → len ≤ length xs → system_at xs ≡ Kept p len
 system-same xs ys p len e h = run-kept system_of system-len is_name_byte xs ys p len e h
 
--- names
+-- Names
 size-of : Option Named → ℕ
 size-of None = 0
 size-of (Some n) = n.len
@@ -136,7 +136,7 @@ use-kept xs ys p len e h = by (name_of (xs ++ ys)) refl e
         let size : n.len + 1 ≡ len = len-is (n.len + 1) (Kept (part.Use n.name) (n.len + 1)) p len refl g in
         ap use_by (name-same xs ys n f (omega arith)) ∙ g
 
--- strings
+-- Strings
 less-one : (o : Option ℕ) (k : ℕ) → one_more o ≡ Some k → (j : ℕ) × ((o ≡ Some j) × (k ≡ j + 1))
 less-one None k e = cc
 less-one (Some j) k e = (j, (refl, let same : j + 1 ≡ k = cc in sym same))
@@ -181,7 +181,7 @@ text-kept xs ys p len e h = by (text_len false (xs ++ ys)) refl e
         let small : k + 1 ≤ length xs = omega arith in
         ap (λ o. text_of o xs) (text-end false xs ys k f small) ∙ ap (λ w. text_within (decoded w) k) (sym (take-front k xs ys (omega arith))) ∙ g
 
--- operators and marks
+-- Operators and marks
 starts-same : (xs ys r : List ℕ) → length r ≤ length xs → starts_with nat_eq (xs ++ ys) r ≡ starts_with nat_eq xs r
 starts-same xs ys r h = ap (pointwise nat_eq r) (take-front (length r) xs ys h)
 
@@ -208,14 +208,14 @@ mark-found (row ∷ rows) xs ys p len e h =
 pub mark-kept : (xs ys : List ℕ) (p : Part) (len : ℕ) → mark_piece (xs ++ ys) ≡ Kept p len → len ≤ length xs → mark_piece xs ≡ Kept p len
 mark-kept xs ys p len e h = mark-found mark_rows xs ys p len e h
 
--- a slash that begins no comment
-pub slash-kept : (xs ys : List ℕ) (p : Part) (len : ℕ) → slash_by (comment_len (xs ++ ys)) (xs ++ ys) ≡ Kept p len → len ≤ length xs → slash_by (comment_len xs) xs ≡ Kept p len
+-- A slash that begins no comment
+pub slash-kept : (xs ys : List ℕ) (p : Part) (len : ℕ) → slash_piece (comment_len (xs ++ ys)) (xs ++ ys) ≡ Kept p len → len ≤ length xs → slash_piece (comment_len xs) xs ≡ Kept p len
 slash-kept xs ys p len e h =
     by (begins_with 47 47 (xs ++ ys)) refl (begins_with 47 42 (xs ++ ys)) refl (through 42 47 false (drop 2 (xs ++ ys))) e
   where
     by : (t : Bool) → begins_with 47 47 (xs ++ ys) ≡ t → (u : Bool) → begins_with 47 42 (xs ++ ys) ≡ u → (o : Option ℕ)
-        → slash_by (if t then Some (prefix_len is_line_byte (xs ++ ys)) else (if u then option_map (λ n. n + 2) o else None)) (xs ++ ys) ≡ Kept p len
-        → slash_by (comment_len xs) xs ≡ Kept p len
+        → slash_piece (if t then Some (prefix_len is_line_byte (xs ++ ys)) else (if u then option_map (λ n. n + 2) o else None)) (xs ++ ys) ≡ Kept p len
+        → slash_piece (comment_len xs) xs ≡ Kept p len
     by true f u g o k = cc
     by false f true g (Some n) k = cc
     by false f true g None k =
@@ -226,7 +226,7 @@ slash-kept xs ys p len e h =
         let no_block = not-front (begins_with 47 42 xs) (begins_with 47 42 (xs ++ ys)) (pair-front 47 42 xs ys) g in
         let whole : Piece = mark_piece (xs ++ ys) in
         let here : Piece = mark_piece xs in
-        ap (λ t. slash_by (if t then Some (prefix_len is_line_byte xs) else (if begins_with 47 42 xs then option_map (λ n. n + 2) (through 42 47 false (drop 2 xs)) else None)) xs) no_line
-        ∙ ap (λ t. slash_by (if t then option_map (λ n. n + 2) (through 42 47 false (drop 2 xs)) else None) xs) no_block
+        ap (λ t. slash_piece (if t then Some (prefix_len is_line_byte xs) else (if begins_with 47 42 xs then option_map (λ n. n + 2) (through 42 47 false (drop 2 xs)) else None)) xs) no_line
+        ∙ ap (λ t. slash_piece (if t then option_map (λ n. n + 2) (through 42 47 false (drop 2 xs)) else None) xs) no_block
         ∙ ap (λ t. if t then Fault L5 0 else here) no_block
         ∙ mark-kept xs ys p len (sym (ap (λ t. if t then Fault L5 0 else whole) g) ∙ k) h

@@ -8,20 +8,20 @@ use Rattle.vh_lex.specs.declared.piece.Piece.TheVariants.{Blank, Kept}
 use Rattle.vh_lex.specs.Bytes.{begins, begins_with, through}
 use Rattle.vh_lex.specs.Numbers.{number_at}
 use Rattle.vh_lex.specs.Texts.{text_at}
-use Rattle.vh_lex.specs.Front.{comment_len, name_of, word_at, system_at, escaped_by, use_by, mark_piece, slash_by, attribute_of, bracket_at, marked, front}
+use Rattle.vh_lex.specs.Front.{comment_len, name_of, word_at, system_at, escaped_by, use_by, mark_piece, slash_piece, attribute_of, bracket_at, marked, front}
 use Rattle.vh_lex.specs.TextLaws.{Longest}
 use Rattle.vh_lex.proofs.FrontLemmas.{IsFine, fine-front}
-use Rattle.vh_lex.proofs.RunLemmas.{pair-front, not-front}
+use Rattle.vh_lex.proofs.BytesLemmas.{pair-front, not-front}
 use Rattle.vh_lex.proofs.LongLemmas.{word-same, system-same, escape-kept, use-kept, text-kept, mark-kept, slash-kept}
-use Rattle.vh_lex.proofs.DigitLemmas.{number-kept}
+use Rattle.vh_lex.proofs.NumbersLemmas.{number-kept}
 
--- the same test of both
+-- The same test of both
 if-kept : (t : Bool) (f g q r : Piece) (p : Part) (len : ℕ) → (f ≡ Kept p len → g ≡ Kept p len) → (q ≡ Kept p len → r ≡ Kept p len)
     → (if t then f else q) ≡ Kept p len → (if t then g else r) ≡ Kept p len
 if-kept true f g q r p len h k e = h e
 if-kept false f g q r p len h k e = k e
 
--- a bracket that begins no attribute
+-- A bracket that begins no attribute
 bracket-kept : (xs ys : List ℕ) (p : Part) (len : ℕ) → begins_with 40 42 (xs ++ ys) ≡ false → bracket_at (xs ++ ys) ≡ Kept p len → len ≤ length xs → bracket_at xs ≡ Kept p len
 bracket-kept xs ys p len a e h =
     let none = not-front (begins_with 40 42 xs) (begins_with 40 42 (xs ++ ys)) (pair-front 40 42 xs ys) a in
@@ -41,7 +41,7 @@ marked-kept b xs ys p len a h e =
     (if-kept (nat_eq b 34) (text_at (xs ++ ys)) (text_at xs) _ _ p len (λ f. text-kept xs ys p len f (omega arith))
     (if-kept (nat_eq b 92) (escaped_by (name_of (b ∷ (xs ++ ys)))) (escaped_by (name_of (b ∷ xs))) _ _ p len (λ f. escape-kept (b ∷ xs) ys p len f h)
     (if-kept (nat_eq b 96) (use_by (name_of (xs ++ ys))) (use_by (name_of xs)) _ _ p len (λ f. use-kept xs ys p len f (omega arith))
-    (if-kept (nat_eq b 47) (slash_by (comment_len (b ∷ (xs ++ ys))) (b ∷ (xs ++ ys))) (slash_by (comment_len (b ∷ xs)) (b ∷ xs)) _ _ p len (λ f. slash-kept (b ∷ xs) ys p len f h)
+    (if-kept (nat_eq b 47) (slash_piece (comment_len (b ∷ (xs ++ ys))) (b ∷ (xs ++ ys))) (slash_piece (comment_len (b ∷ xs)) (b ∷ xs)) _ _ p len (λ f. slash-kept (b ∷ xs) ys p len f h)
     (if-kept (nat_eq b 40) (bracket_at (b ∷ (xs ++ ys))) (bracket_at (b ∷ xs)) (mark_piece (b ∷ (xs ++ ys))) (mark_piece (b ∷ xs)) p len (λ f. bracket-kept (b ∷ xs) ys p len a f h)
     (λ f. mark-kept (b ∷ xs) ys p len f h)))))) e
 

@@ -10,7 +10,7 @@ use Rattle.vh_lex.specs.Directives.{directive_rows}
 use Rattle.vh_lex.specs.Spelling.{expanded}
 use Rattle.vh_lex.specs.Lexed.{File, files_read}
 use Rattle.vh_lex.specs.SourceText.{HasText}
-use Rattle.vh_lex.proofs.TextLemmas.{Gives, one-list, text_is_spelled}
+use Rattle.vh_lex.proofs.ReachedLemmas.{Gives, one-list, text_is_spelled}
 use Rattle.vh_lex.proofs.ChainLemmas.{spelled_has_text}
 
 abbrev text : List ℕ → List File
@@ -19,7 +19,7 @@ text bytes = record { number = 0; bytes = bytes } ∷ []
 abbrev name : List ℕ → ℕ → ℕ → Token
 name bytes line column = record { kind = kind.Name bytes; place = record { file = 0; line = line; column = column } }
 
--- of the first token: how long its name is, its line and its column
+-- Of the first token: how long its name is, its line and its column
 abbrev size-of : List Token → ℕ
 size-of [] = 0
 size-of (t ∷ ts) = size t.kind
@@ -42,7 +42,7 @@ differ m n e f = let h : m ≢ n = grind (arith, nat_tests) in h f
 only : (bytes : List ℕ) (tokens others : List Token) → Gives (files_read (text bytes)) tokens → HasText (text bytes) others → tokens ≡ others
 only bytes tokens others h t = one-list (files_read (text bytes)) tokens others h (text_is_spelled (text bytes) others t)
 
--- a name is the longest one, and no byte less
+-- A name is the longest one, and no byte less
 whole-name : HasText (text (codes "ab")) (name (codes "ab") 1 1 ∷ [])
 unfolding keyword_rows mark_rows directive_rows expanded
 whole-name = spelled_has_text (text (codes "ab")) (name (codes "ab") 1 1 ∷ []) (refl, refl)
@@ -53,7 +53,7 @@ short-name t =
     let e = only (codes "ab") (name (codes "ab") 1 1 ∷ []) (name (codes "a") 1 1 ∷ name (codes "b") 1 2 ∷ []) (refl, refl) t in
     differ 2 1 refl (ap size-of e)
 
--- a tab is one column
+-- A tab is one column
 tabbed : HasText (text (9 ∷ 97 ∷ [])) (name (codes "a") 1 2 ∷ [])
 unfolding keyword_rows mark_rows directive_rows expanded
 tabbed = spelled_has_text (text (9 ∷ 97 ∷ [])) (name (codes "a") 1 2 ∷ []) (refl, refl)
@@ -64,7 +64,7 @@ tab-of-eight t =
     let e = only (9 ∷ 97 ∷ []) (name (codes "a") 1 2 ∷ []) (name (codes "a") 1 9 ∷ []) (refl, refl) t in
     differ 2 9 refl (ap column-of e)
 
--- the token of a macro stands where the macro is used
+-- The token of a macro stands where the macro is used
 
 at-the-use : HasText (text (codes "`define A x" ++ 10 ∷ codes "`A")) (name (codes "x") 2 1 ∷ [])
 unfolding keyword_rows mark_rows directive_rows expanded
@@ -76,7 +76,7 @@ at-the-text t =
     let e = only (codes "`define A x" ++ 10 ∷ codes "`A") (name (codes "x") 2 1 ∷ []) (name (codes "x") 1 11 ∷ []) (refl, refl) t in
     differ 2 1 refl (ap line-of e)
 
--- of a conditional one text is read
+-- Of a conditional one text is read
 one-text : HasText (text (codes "`define A" ++ 10 ∷ codes "`ifdef A a `elsif A b `endif")) (name (codes "a") 2 10 ∷ [])
 unfolding keyword_rows mark_rows directive_rows expanded
 one-text = spelled_has_text (text (codes "`define A" ++ 10 ∷ codes "`ifdef A a `elsif A b `endif")) (name (codes "a") 2 10 ∷ []) (refl, refl)

@@ -13,20 +13,20 @@ use Rattle.vh_lex.specs.declared.piece.Part.TheVariants as part
 use Rattle.vh_lex.specs.declared.piece.Piece.TheVariants.{Blank, Kept}
 use Rattle.vh_lex.specs.Bytes.{begins}
 use Rattle.vh_lex.specs.Front.{Named, front, comment_len, word_name, simple_name}
-use Rattle.vh_lex.specs.Made.{Macros as Rows}
+use Rattle.vh_lex.specs.Made.{MacroRows as Rows}
 use Rattle.vh_lex.specs.Conditionals.{skips}
 use Rattle.vh_lex.specs.State.{State, start_of, moved}
 use Rattle.vh_lex.specs.Directives.{Step, directive_of, directive_behind, directed, seen_directive}
 use Rattle.vh_lex.specs.Spelling.{Stop, name_read, part_read, piece_read, name_skipped, use_skipped, skipped, step, step_then, read_after, read}
 use Rattle.vh_lex.specs.Lexed.{File, Lexed, reading, refused, lexed_by, first_place, files_after}
 use Rattle.vh_lex.specs.MacroTokens.{Macros}
-use Rattle.vh_lex.specs.SourceText.{At, place_of, past, opened, IsWord, is_conditional}
-use Rattle.vh_lex.proofs.PlaceLemmas.{moved-place}
+use Rattle.vh_lex.specs.SourceText.{At, place_of, past, at_start, IsWord, is_conditional}
+use Rattle.vh_lex.proofs.PlacesLemmas.{moved-place}
 use Rattle.vh_lex.proofs.MacroLemmas.{Knows}
 use Rattle.vh_lex.proofs.FrontLemmas.{IsFine, fine-front, comment-long}
-use Rattle.vh_lex.proofs.UseLemmas.{drop-less}
+use Rattle.vh_lex.proofs.MacroTokensLemmas.{drop-less}
 
--- the state in which the function is
+-- The state in which the function is
 abbrev pub state_of : At → Rows → List Conditional → State
 state_of a rows cs =
     record { macros = rows; made = record { tokens = a.tokens; uses = a.uses }; conditionals = cs; setting = a.setting; place = place_of a }
@@ -35,7 +35,7 @@ abbrev pub lexed_in : Option Place → Result State Stop → Lexed
 lexed_in o (Ok s) = reading o s
 lexed_in o (Err stop) = refused stop.fault stop.place
 
--- what the files come to from there on
+-- What the files come to from there on
 abbrev pub outcome : Option Place → At → Rows → List Conditional → Lexed
 outcome o a rows cs = files_after (lexed_in o (read a.bytes (state_of a rows cs))) a.files
 
@@ -52,7 +52,7 @@ read-step b bs s t len h e =
     ∙ passed (len - 1) bs (record t { place = moved (take len (b ∷ bs)) s.place })
     ∙ ap (λ r. read r (record t { place = moved (take len (b ∷ bs)) s.place })) (drop-less len b bs h)
 
--- there, with other macros, settings, tokens and uses
+-- There, with other macros, settings, tokens and uses
 abbrev pub again : Macros → Setting → List Token → ℕ → At → At
 again macros setting tokens uses a = record a { macros = macros; setting = setting; tokens = tokens; uses = uses }
 
@@ -100,14 +100,14 @@ abbrev or-other : Config → Option Config → Config
 or-other c None = c
 or-other c (Some d) = d
 
--- what is reached is on the way to the end
+-- What is reached is on the way to the end
 pub reach-end : {x y z : Config} → Reach x y → next y ≡ None → Reach x z → Reach z y
 reach-end here n here = here
 reach-end here n (further e q) = let no = sym n ∙ e in cc
 reach-end (further e r) n here = further e r
 reach-end {z = z} (further {x = x} {y = y} e r) n (further f q) = reach-end r n (subst (λ w. Reach w z) (ap (or-other y) (sym f ∙ e)) q)
 
--- and no more is left there
+-- And no more is left there
 abbrev pub left-in : List File → ℕ
 left-in [] = 0
 left-in (f ∷ fs) = 1 + length f.bytes + left-in fs
@@ -149,7 +149,7 @@ pub record Leads (o : Option Place) (a c : At) (rows : Rows) (cs cs2 : List Cond
 pub leads-then : {o : Option Place} {a b c : At} {rows : Rows} {cs cs2 cs3 : List Conditional} (l : Leads o a b rows cs cs2) → Leads l.first b c l.macros cs2 cs3 → Leads o a c rows cs cs3
 leads-then l m = record { first = m.first; macros = m.macros; knows = m.knows; same = l.same ∙ m.same; reach = reach-join l.reach m.reach }
 
--- in text that is read
+-- In text that is read
 pub kept-step : (bytes : List ℕ) (s : State) (p : Part) (len : ℕ) → skips s.conditionals ≡ false → front bytes ≡ Kept p len → step bytes s ≡ part_read p len bytes s
 kept-step bytes s p len e f = ap (λ t. if t then skipped bytes s else piece_read (front bytes) bytes s) e ∙ ap (λ q. piece_read q bytes s) f
 
@@ -162,7 +162,7 @@ skipped-step bytes s e = ap (λ t. if t then skipped bytes s else piece_read (fr
 pub eq-literal : (b n : ℕ) → nat_eq b n ≡ true → b ≡ n
 eq-literal b n e = grind (arith, nat_tests)
 
--- a directive's word
+-- A directive's word
 word-front : (bs : List ℕ) (n : Named) (d : Directive) → word_name bs ≡ Some n → directive_of n.name ≡ Some d
     → (front (96 ∷ bs) ≡ Kept (part.Use n.name) (n.len + 1)) × (directive_behind bs n.name ≡ Some d)
 word-front bs n d e f = by (begins is_name_start bs) refl e
@@ -195,7 +195,7 @@ word-skips d a at s w e =
     ∙ ap (λ o. name_skipped o (w.name.len + 1) (drop (w.name.len + 1) a.bytes) s) w.directive
     ∙ ap (λ n. seen_directive d n (drop n a.bytes) s) (sym w.long)
 
--- one of a conditional is seen in both
+-- One of a conditional is seen in both
 seen-same : (d : Directive) (at : ℕ) (bytes : List ℕ) (s : State) → is_conditional (Some d) ≡ true → seen_directive d at bytes s ≡ directed d at bytes s
 seen-same directive.Ifdef at bytes s e = refl
 seen-same directive.Ifndef at bytes s e = refl
@@ -216,7 +216,7 @@ word-step d a at s w c = by (skips s.conditionals) refl
     by true e = word-skips d a at s w e ∙ seen-same d at (drop at a.bytes) s c
     by false e = word-read d a at s w e
 
--- there is a byte
+-- There is a byte
 pub record IsMore (bytes : List ℕ) : Type 0 where
   pub first : ℕ
   pub rest : List ℕ
@@ -246,7 +246,7 @@ pub record Moves (o : Option Place) (a c : At) (rows : Rows) (cs cs2 : List Cond
   pub leads : Leads o a c rows cs cs2
   pub steps : IsMore a.bytes → (x : State × ℕ) × (step a.bytes (state_of a rows cs) ≡ Ok x)
 
--- a step leads to what it leaves
+-- A step leads to what it leaves
 pub step-leads : (o : Option Place) (a : At) (rows rows2 : Rows) (cs cs2 : List Conditional) (macros : Macros) (setting : Setting) (tokens : List Token) (uses len : ℕ)
     → IsMore a.bytes → 1 ≤ len → Knows macros rows2 → step a.bytes (state_of a rows cs) ≡ Ok (state_of (again macros setting tokens uses a) rows2 cs2, len)
     → Moves o a (past len (again macros setting tokens uses a)) rows cs cs2
@@ -260,7 +260,7 @@ lexed-same : (first : Place) (r : Result State Stop) → lexed_by first r ≡ le
 lexed-same first (Ok s) = refl
 lexed-same first (Err stop) = refl
 
-pub file-leads : (o : Option Place) (a : At) (rows : Rows) (cs : List Conditional) (f : File) (fs : List File) → a.bytes ≡ [] → a.files ≡ f ∷ fs → Knows a.macros rows → Moves o a (opened f fs a) rows cs cs
+pub file-leads : (o : Option Place) (a : At) (rows : Rows) (cs : List Conditional) (f : File) (fs : List File) → a.bytes ≡ [] → a.files ≡ f ∷ fs → Knows a.macros rows → Moves o a (at_start f fs a) rows cs cs
 file-leads o a rows cs f fs e g k =
     record {
       leads =
@@ -270,7 +270,7 @@ file-leads o a rows cs f fs e g k =
             knows = k;
             same =
                 ap (λ bytes. files_after (lexed_in o (read bytes (state_of a rows cs))) a.files) e ∙ ap (λ files. files_after (reading o (state_of a rows cs)) files) g
-                ∙ ap (λ l. files_after l fs) (lexed-same (first_place o f.number) (read f.bytes (state_of (opened f fs a) rows cs)));
+                ∙ ap (λ l. files_after l fs) (lexed-same (first_place o f.number) (read f.bytes (state_of (at_start f fs a) rows cs)));
             reach = further (ap (λ bytes. next-of bytes a.files (state_of a rows cs)) e ∙ ap (λ files. next-of [] files (state_of a rows cs)) g) here;
           };
       steps = λ i. let no = sym e ∙ i.bytes_are in cc;

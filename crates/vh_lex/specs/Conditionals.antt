@@ -4,18 +4,18 @@ use Rattle.vh_lex.specs.declared.conditional.Conditional.{Conditional}
 use Rattle.vh_lex.specs.declared.conditional.Branch.{Branch}
 use Rattle.vh_lex.specs.declared.conditional.Branch.TheVariants as branch
 
--- the innermost conditional that is open, and those without it
+-- The innermost conditional that is open, and those without it
 abbrev pub innermost : List Conditional → Option Conditional
 innermost conditionals = slice_get conditionals (length conditionals - 1)
 
 abbrev pub without_innermost : List Conditional → List Conditional
 without_innermost conditionals = take (length conditionals - 1) conditionals
 
--- another one in its place
+-- Another one in its place
 abbrev pub with_innermost : Conditional → List Conditional → List Conditional
 with_innermost c conditionals = slice_set conditionals (length conditionals - 1) c
 
--- text is skipped where the branch of the innermost conditional is (19.4)
+-- Text is skipped where the branch of the innermost conditional is (19.4)
 abbrev pub is_skipped : Branch → Bool
 is_skipped branch.Sought = true
 is_skipped branch.Read = false

@@ -23,11 +23,11 @@ use Rattle.vh_lex.specs.MacroTexts.{macro_text, macro_len, parts_of}
 abbrev pub Step : Type 0
 Step = Result (State × ℕ) (DesignFault × ℕ)
 
--- a fault at the backquote
+-- A fault at the backquote
 abbrev pub refused : DesignFault → Step
 refused fault = Err (fault, 0)
 
--- a spelling and its directive, a row for each; the last nine are left out (clause 19)
+-- A spelling and its directive, a row for each; the last nine are left out (clause 19)
 unfoldable pub directive_rows : List (List ℕ × Directive)
 directive_rows =
     (codes "define", directive.Define) ∷
@@ -51,15 +51,15 @@ directive_rows =
     (codes "unconnected_drive", directive.Other) ∷
     []
 
--- the directive that a name behind a backquote is, if it is one
+-- The directive that a name behind a backquote is, if it is one
 abbrev pub directive_of : List ℕ → Option Directive
 directive_of name = option_map (λ row. row.1) (find (λ row. bytes_eq row.0 name) directive_rows)
 
--- the directive that a name is with which these bytes behind a backquote begin; an escaped one is none (own; clause 19)
+-- The directive that a name is with which these bytes behind a backquote begin; an escaped one is none (own; clause 19)
 abbrev pub directive_behind : List ℕ → List ℕ → Option Directive
 directive_behind bytes name = if begins is_name_start bytes then directive_of name else None
 
--- a blank or a comment that has an end begins there, of so many bytes behind its first
+-- A blank or a comment that has an end begins there, of so many bytes behind its first
 abbrev pub blank_by : Option ℕ → ℕ → Option ℕ
 blank_by None byte = if is_space byte then Some 0 else None
 blank_by (Some len) byte = Some (len - 1)
@@ -68,7 +68,7 @@ abbrev pub blank_at : List ℕ → Option ℕ
 blank_at [] = None
 blank_at (byte ∷ bytes) = blank_by (comment_len (byte ∷ bytes)) byte
 
--- how many bytes of white space and comments there are, after the first so many
+-- How many bytes of white space and comments there are, after the first so many
 abbrev pub gap_then : Option ℕ → (ℕ → ℕ) → ℕ
 gap_then None rest = 0
 gap_then (Some skip) rest = 1 + rest skip
@@ -78,7 +78,7 @@ gap_after skip [] = 0
 gap_after (suc skip) (byte ∷ bytes) = 1 + gap_after skip bytes
 gap_after zero (byte ∷ bytes) = gap_then (blank_at (byte ∷ bytes)) (λ skip. gap_after skip bytes)
 
--- how many bytes of white space and comments, with line ends, may stand before a part of a directive (own)
+-- How many bytes of white space and comments, with line ends, may stand before a part of a directive (own)
 abbrev pub gap_len : List ℕ → ℕ
 gap_len bytes = gap_after 0 bytes
 
@@ -86,16 +86,16 @@ gap_len bytes = gap_after 0 bytes
 abbrev pub Naming : Type 0
 Naming = Result (ℕ × Named) (DesignFault × ℕ)
 
--- the name behind so many bytes: without one the directive is L2, and one above 1,024 bytes is L6 where it begins
+-- The name behind so many bytes: without one the directive is L2, and one above 1,024 bytes is L6 where it begins
 abbrev pub name_by : Option Named → ℕ → Naming
 name_by None at = Err (L2, 0)
 name_by (Some n) at = if is_long n.name then Err (L6, at) else Ok (at, n)
 
--- the same behind white space and comments, the bytes standing `at` bytes behind the backquote
+-- The same behind white space and comments, the bytes standing `at` bytes behind the backquote
 abbrev pub name_behind : ℕ → List ℕ → Naming
 name_behind at bytes = name_by (name_of (drop (gap_len bytes) bytes)) (at + gap_len bytes)
 
--- what is done with the name
+-- What is done with the name
 abbrev pub named_then : Naming → (ℕ → Named → Step) → Step
 named_then (Ok found) go = go found.0 found.1
 named_then (Err wrong) go = Err wrong
@@ -127,7 +127,7 @@ abbrev pub undef : ℕ → List ℕ → State → Step
 undef at bytes s =
     named_then (name_behind at bytes) (λ from n. Ok (record s { macros = with_macro n.name None s.macros }, from + n.len))
 
--- a branch is read where its condition holds (19.4)
+-- A branch is read where its condition holds (19.4)
 abbrev pub chosen : Bool → Branch
 chosen true = branch.Read
 chosen false = branch.Sought
@@ -155,13 +155,13 @@ opened wanted name s =
 abbrev pub ifdef : Bool → ℕ → List ℕ → State → Step
 ifdef wanted at bytes s = named_then (name_behind at bytes) (λ from n. Ok (opened wanted n.name s, from + n.len))
 
--- the branch behind one, where its condition holds or not (19.4)
+-- The branch behind one, where its condition holds or not (19.4)
 abbrev pub next_branch : Branch → Bool → Branch
 next_branch branch.Sought holds = chosen holds
 next_branch branch.Read holds = branch.Past
 next_branch branch.Past holds = branch.Past
 
--- the conditional that may have a further branch: the innermost one, before its `else
+-- The conditional that may have a further branch: the innermost one, before its `else
 abbrev pub branching : Option Conditional → (Conditional → Step) → Step
 branching None go = refused L2
 branching (Some c) go = if c.has_else then refused L2 else go c
@@ -191,7 +191,7 @@ endif_by (Some c) at s = Ok (record s { conditionals = without_innermost s.condi
 abbrev pub endif : ℕ → State → Step
 endif at s = endif_by (innermost s.conditionals) at s
 
--- a value that stands there, and how many bytes it has with the white space and comments before it
+-- A value that stands there, and how many bytes it has with the white space and comments before it
 pub record Found : Type 0 where
   pub value : ℕ
   pub len : ℕ
@@ -212,7 +212,7 @@ amount_of word =
 abbrev pub amount_at : List ℕ → Option Found
 amount_at bytes = found (prefix_len is_digit bytes) (amount_of (take (prefix_len is_digit bytes) bytes))
 
--- s, ms, us, ns, ps or fs, as a power of ten of 1 fs (19.8)
+-- S, ms, us, ns, ps or fs, as a power of ten of 1 fs (19.8)
 abbrev pub unit_of : List ℕ → Option ℕ
 unit_of word =
     if bytes_eq (codes "s") word then Some 15
@@ -224,7 +224,7 @@ unit_of word =
 abbrev pub unit_at : List ℕ → Option Found
 unit_at bytes = found (prefix_len is_name_byte bytes) (unit_of (take (prefix_len is_name_byte bytes) bytes))
 
--- an amount and its unit, with white space and comments before each (19.8)
+-- An amount and its unit, with white space and comments before each (19.8)
 abbrev pub plus : Found → Option Found → Option Found
 plus first None = None
 plus first (Some second) = Some (record { value = first.value + second.value; len = first.len + second.len })
@@ -238,7 +238,7 @@ unit_behind bytes = further (gap_len bytes) (unit_at (drop (gap_len bytes) bytes
 abbrev pub time_behind : List ℕ → Option Found
 time_behind bytes = option_and_then (λ amount. plus amount (unit_behind (drop amount.len bytes))) (amount_behind bytes)
 
--- the slash between the two times, and the time behind it (19.8)
+-- The slash between the two times, and the time behind it (19.8)
 abbrev pub slash_by : Bool → ℕ → List ℕ → Option Found
 slash_by false len bytes = None
 slash_by true len bytes = further len (time_behind bytes)
@@ -283,7 +283,7 @@ default_nettype at bytes s =
 abbrev pub resetall : ℕ → State → Step
 resetall at s = Ok (record s { setting = first_setting }, at)
 
--- a directive in text that is read, behind whose name, `at` bytes behind the backquote, these bytes stand
+-- A directive in text that is read, behind whose name, `at` bytes behind the backquote, these bytes stand
 abbrev pub directed : Directive → ℕ → List ℕ → State → Step
 directed directive.Define at bytes s = define at bytes s
 directed directive.Undef at bytes s = undef at bytes s
@@ -297,7 +297,7 @@ directed directive.DefaultNettype at bytes s = default_nettype at bytes s
 directed directive.Resetall at bytes s = resetall at s
 directed directive.Other at bytes s = refused L2
 
--- a directive in skipped text, where only those of conditionals are seen (own; 19.4)
+-- A directive in skipped text, where only those of conditionals are seen (own; 19.4)
 abbrev pub seen_directive : Directive → ℕ → List ℕ → State → Step
 seen_directive directive.Ifdef at bytes s = ifdef true at bytes s
 seen_directive directive.Ifndef at bytes s = ifdef false at bytes s

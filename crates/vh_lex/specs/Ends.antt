@@ -9,7 +9,7 @@ use Rattle.vh_lex.specs.Lexed.{File, Lexed, reading, refused, exhausted, files_r
 use Rattle.vh_lex.specs.SourceText.{HasText}
 use Rattle.vh_lex.specs.Reached.{Stops}
 
--- the tokens so far
+-- The tokens so far
 abbrev pub tokens_of : Lexed → List Token
 tokens_of (reading first s) = s.made.tokens
 tokens_of (refused fault place) = []
@@ -25,13 +25,13 @@ pub record IsNoText (files : List File) (fault : DesignFault) (place : Place) : 
   pub stops : Stops files fault place
   pub none : (tokens : List Token) → HasText files tokens → ⊥
 
--- what the answer at the end of the files says
+-- What the answer at the end of the files says
 abbrev pub EndsText : List File → List Token → Result (Unit {0}) LexFault → Type 0
 EndsText files tokens (Ok done) = IsText files tokens
 EndsText files tokens (Err (Refused fault place)) = IsNoText files fault place
 EndsText files tokens (Err NoMemory) = Unit {0}
 
--- and the answer for a file, behind which others may come
+-- And the answer for a file, behind which others may come
 abbrev pub StopsText : List File → Result (Unit {0}) LexFault → Type 0
 StopsText files (Ok done) = Unit {0}
 StopsText files (Err (Refused fault place)) = IsNoText files fault place

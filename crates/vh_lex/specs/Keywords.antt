@@ -5,11 +5,11 @@ use Rattle.std.specs.Option.{option_map}
 use Rattle.vh_lex.specs.declared.keyword.Keyword.{Keyword}
 use Rattle.vh_lex.specs.declared.keyword.Keyword.TheVariants as keyword
 
--- the word `module`, which stands alone, since it carries the settings where it stands
+-- The word `module`, which stands alone, since it carries the settings where it stands
 abbrev pub module_word : List ℕ
 module_word = codes "module"
 
--- a spelling and its keyword, a row for each other reserved word (Annex B)
+-- A spelling and its keyword, a row for each other reserved word (Annex B)
 unfoldable pub keyword_rows : List (List ℕ × Keyword)
 keyword_rows =
     (codes "always", keyword.Always) ∷
@@ -137,6 +137,6 @@ keyword_rows =
     (codes "xor", keyword.Xor) ∷
     []
 
--- the keyword that bytes spell, if they do (3.7.2)
+-- The keyword that bytes spell, if they do (3.7.2)
 abbrev pub keyword_of : List ℕ → Option Keyword
 keyword_of bytes = option_map (λ row. row.1) (find (λ row. bytes_eq row.0 bytes) keyword_rows)

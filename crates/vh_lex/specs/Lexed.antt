@@ -11,7 +11,7 @@ use Rattle.vh_lex.specs.Made.{nothing_made}
 use Rattle.vh_lex.specs.State.{State, first_setting, start_of}
 use Rattle.vh_lex.specs.Spelling.{Stop, read}
 
--- a file: its number among the file words, and its bytes
+-- A file: its number among the file words, and its bytes
 pub record File : Type 0 where
   pub number : ℕ
   pub bytes : List ℕ
@@ -23,25 +23,25 @@ pub data Lexed : Type 0 where
   refused : DesignFault → Place → Lexed
   exhausted : Lexed
 
--- how the code keeps it: whether it has stopped, where the first file begins, and the state
+-- How the code keeps it: whether it has stopped, where the first file begins, and the state
 abbrev pub lexed_of : Option LexFault → Option Place → State → Lexed
 lexed_of None first s = reading first s
 lexed_of (Some (Refused fault place)) first s = refused fault place
 lexed_of (Some NoMemory) first s = exhausted
 
--- the state before the first file: no macro is defined, and no conditional is open (IEEE 1364-2005, clause 19)
+-- The state before the first file: no macro is defined, and no conditional is open (IEEE 1364-2005, clause 19)
 abbrev pub first_state : State
 first_state = record { macros = []; made = nothing_made; conditionals = []; setting = first_setting; place = start_of 0 }
 
 abbrev pub nothing_read : Lexed
 nothing_read = reading None first_state
 
--- the place at which the first file begins
+-- The place at which the first file begins
 abbrev pub first_place : Option Place → ℕ → Place
 first_place None number = start_of number
 first_place (Some place) number = place
 
--- a file more, which goes on with what the directives of those before it set; after a fault that fault stays
+-- A file more, which goes on with what the directives of those before it set; after a fault that fault stays
 abbrev pub lexed_by : Place → Result State Stop → Lexed
 lexed_by first (Ok s) = reading (Some first) s
 lexed_by first (Err stop) = refused stop.fault stop.place
@@ -51,7 +51,7 @@ file_read f (reading first s) = lexed_by (first_place first f.number) (read f.by
 file_read f (refused fault place) = refused fault place
 file_read f exhausted = exhausted
 
--- all files, in order
+-- All files, in order
 abbrev pub files_after : Lexed → List File → Lexed
 files_after l [] = l
 files_after l (f ∷ fs) = files_after (file_read f l) fs
@@ -59,13 +59,13 @@ files_after l (f ∷ fs) = files_after (file_read f l) fs
 abbrev pub files_read : List File → Lexed
 files_read fs = files_after nothing_read fs
 
--- what is answered for the files so far
+-- What is answered for the files so far
 abbrev pub answer_of : Lexed → Result (Unit {0}) LexFault
 answer_of (reading first s) = Ok tt
 answer_of (refused fault place) = Err (Refused fault place)
 answer_of exhausted = Err NoMemory
 
--- what is answered at the end of the last file: a conditional that is open is L2 where it begins, the outermost one (19.4; own)
+-- What is answered at the end of the last file: a conditional that is open is L2 where it begins, the outermost one (19.4; own)
 abbrev pub closed_by : Option Conditional → Result (Unit {0}) LexFault
 closed_by None = Ok tt
 closed_by (Some c) = Err (Refused L2 c.place)
@@ -75,13 +75,13 @@ end_of (reading first s) = closed_by (slice_get s.conditionals 0)
 end_of (refused fault place) = Err (Refused fault place)
 end_of exhausted = Err NoMemory
 
--- what holds of the state that the files so far have led to
+-- What holds of the state that the files so far have led to
 abbrev pub IfReading : Lexed → (Option Place → State → Type 0) → Type 0
 IfReading (reading first s) holds = holds first s
 IfReading (refused fault place) holds = Unit {0}
 IfReading exhausted holds = Unit {0}
 
--- the files have been read up to here, and there is one
+-- The files have been read up to here, and there is one
 abbrev pub IsBegun : Lexed → Type 0
 IsBegun (reading None s) = ⊥
 IsBegun (reading (Some first) s) = Unit {0}
@@ -92,6 +92,6 @@ IsBegun exhausted = ⊥
 abbrev pub Spells : List File → List Token → Type 0
 Spells fs tokens = (end_of (files_read fs) ≡ Ok tt) × IfReading (files_read fs) (λ first s. s.made.tokens ≡ tokens)
 
--- the files are refused with this fault at this place
+-- The files are refused with this fault at this place
 abbrev pub Refuses : List File → DesignFault → Place → Type 0
 Refuses fs fault place = end_of (files_read fs) ≡ Err (Refused fault place)

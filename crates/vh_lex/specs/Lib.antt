@@ -1,22 +1,42 @@
+-- The bytes of which texts are made
 pub mod Bytes
+-- The classes of bytes that runs are made of
 pub mod Classes
+-- The reserved words and their keywords
 pub mod Keywords
+-- The operators and marks
 pub mod Marks
+-- The number with which bytes begin
 pub mod Numbers
+-- The string with which bytes begin
 pub mod Texts
+-- What bytes begin with
 pub mod Front
+-- The macros, and what has been made of the text so far
 pub mod Made
-pub mod Texted
+-- How contracts see the table of macros
+pub mod MacroViews
+-- The conditionals that are open
 pub mod Conditionals
+-- What reading has come to
 pub mod State
+-- The text of a macro, and its parts
 pub mod MacroTexts
+-- The directives: the state after each
 pub mod Directives
+-- How the bytes of files spell tokens
 pub mod Spelling
+-- What the files so far come to
 pub mod Lexed
-pub mod Seen
+-- How contracts see what the code holds
+pub mod Views
+-- What the code answers, against what the bytes come to
 pub mod Outcomes
+-- Pieces stand inside the bytes
 pub mod Inside
+-- The texts of macros that are open
 pub mod Uses
+-- The laws of spelling
 pub mod Laws
 -- The place of a byte
 pub mod Places

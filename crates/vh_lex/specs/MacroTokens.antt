@@ -18,11 +18,11 @@ Macros = List ℕ → Option (List ℕ)
 abbrev pub no_macros : Macros
 no_macros name = None
 
--- one more, or one less (19.3.1, 19.3.2)
+-- One more, or one less (19.3.1, 19.3.2)
 abbrev pub with_text : List ℕ → Option (List ℕ) → Macros → Macros
 with_text name text macros other = if bytes_eq other name then text else macros other
 
--- the token that a piece is: `module` carries what the directives before it set
+-- The token that a piece is: `module` carries what the directives before it set
 abbrev pub token_of : Setting → Part → Option Kind
 token_of setting (part.Token kind) = Some kind
 token_of setting part.Module = Some (kind.Module setting)

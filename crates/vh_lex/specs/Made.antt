@@ -3,21 +3,21 @@ use Rattle.std.specs.Prelude.{ℕ, List, [], ◌∷◌, Option, None, if◌then�
 use Rattle.vh_lex.specs.declared.token.Token.{Token}
 use Rattle.vh_lex.specs.declared.piece.Part.{Part}
 
--- the parts of each macro's text, and nothing for a name that is undefined again (19.3)
-abbrev pub Macros : Type 0
-Macros = List (List ℕ × Option (List Part))
+-- The parts of each macro's text, and nothing for a name that is undefined again (19.3)
+abbrev pub MacroRows : Type 0
+MacroRows = List (List ℕ × Option (List Part))
 
--- the text of a macro, if it is defined (19.3.1)
-abbrev pub macro_of : List ℕ → Macros → Option (List Part)
+-- The text of a macro, if it is defined (19.3.1)
+abbrev pub macro_of : List ℕ → MacroRows → Option (List Part)
 macro_of name [] = None
 macro_of name (row ∷ rows) = if bytes_eq name row.0 then row.1 else macro_of name rows
 
--- a macro with a text, or undefined (19.3.1, 19.3.2)
-abbrev pub with_macro : List ℕ → Option (List Part) → Macros → Macros
+-- A macro with a text, or undefined (19.3.1, 19.3.2)
+abbrev pub with_macro : List ℕ → Option (List Part) → MacroRows → MacroRows
 with_macro name text [] = (name, text) ∷ []
 with_macro name text (row ∷ rows) = if bytes_eq name row.0 then (row.0, text) ∷ rows else row ∷ with_macro name text rows
 
--- the tokens, and how many macros were used
+-- The tokens, and how many macros were used
 pub record Made : Type 0 where
   pub tokens : List Token
   pub uses : ℕ

@@ -4,7 +4,7 @@ use Rattle.std.specs.List.{find, starts_with}
 use Rattle.vh_lex.specs.declared.mark.Mark.{Mark}
 use Rattle.vh_lex.specs.declared.mark.Mark.TheVariants as mark
 
--- a spelling and its mark, a row for each, the longest first (IEEE 1364-2005, 3.4, Table 5-1 and Annex A)
+-- A spelling and its mark, a row for each, the longest first (IEEE 1364-2005, 3.4, Table 5-1 and Annex A)
 unfoldable pub mark_rows : List (List ℕ × Mark)
 mark_rows =
     (codes "<<<", mark.ArithmeticShiftLeft) ∷
@@ -55,6 +55,6 @@ mark_rows =
     (codes "?", mark.Question) ∷
     []
 
--- the longest mark with which bytes begin, and how many bytes it has (3.4)
+-- The longest mark with which bytes begin, and how many bytes it has (3.4)
 abbrev pub mark_at : List ℕ → Option (List ℕ × Mark)
 mark_at bytes = find (λ row. starts_with ◌==◌ bytes row.0) mark_rows

@@ -12,20 +12,20 @@ use Rattle.vh_lex.specs.declared.piece.Piece.TheVariants.{Kept, Fault}
 use Rattle.vh_lex.specs.Bytes.{begins, is_decimal, is_based_letter, is_question, is_based, is_base_ten, is_base, is_sign_mark, is_exponent, is_plus_or_minus}
 use Rattle.vh_base.specs.Classes.{is_space, is_digit}
 
--- a point with a digit behind it (3.5.2)
+-- A point with a digit behind it (3.5.2)
 abbrev pub begins_fraction : List ℕ → Bool
 begins_fraction bytes = begins (λ b. b == 46) bytes && begins is_digit (drop 1 bytes)
 
--- an exponent: its mark, and a digit with or without a sign (3.5.2)
+-- An exponent: its mark, and a digit with or without a sign (3.5.2)
 abbrev pub begins_exponent : List ℕ → Bool
 begins_exponent bytes =
     begins is_exponent bytes && (begins is_digit (drop 1 bytes) || begins is_plus_or_minus (drop 1 bytes) && begins is_digit (drop 2 bytes))
 
--- a real number goes on so behind its first digits (3.5.2)
+-- A real number goes on so behind its first digits (3.5.2)
 abbrev pub begins_real : List ℕ → Bool
 begins_real bytes = begins_fraction bytes || begins_exponent bytes
 
--- how many bytes a base has, with its apostrophe and the mark of a sign; 0 where no base stands (3.5.1)
+-- How many bytes a base has, with its apostrophe and the mark of a sign; 0 where no base stands (3.5.1)
 abbrev pub base_len_behind : List ℕ → ℕ
 base_len_behind bytes =
     if begins is_base bytes then 2 else (if begins is_sign_mark bytes && begins is_base (drop 1 bytes) then 3 else 0)
@@ -33,17 +33,17 @@ base_len_behind bytes =
 abbrev pub base_len : List ℕ → ℕ
 base_len bytes = if begins (λ b. b == 39) bytes then base_len_behind (drop 1 bytes) else 0
 
--- how many bytes the digits behind a base have: in base ten a `?` is a digit only as the first one (3.5.1; own)
+-- How many bytes the digits behind a base have: in base ten a `?` is a digit only as the first one (3.5.1; own)
 abbrev pub digits_len : Bool → List ℕ → ℕ
 digits_len false bytes = prefix_len is_based bytes
 digits_len true bytes =
     if begins is_question bytes then 1 + prefix_len is_based_letter (drop 1 bytes) else prefix_len is_based_letter bytes
 
--- the same with the white space before them (3.5.1)
+-- The same with the white space before them (3.5.1)
 abbrev pub spaced_digits_len : Bool → List ℕ → ℕ
 spaced_digits_len is_ten bytes = prefix_len is_space bytes + digits_len is_ten (drop (prefix_len is_space bytes) bytes)
 
--- how many bytes a base and its digits have; 0 where no base stands
+-- How many bytes a base and its digits have; 0 where no base stands
 abbrev pub based_len_by : ℕ → List ℕ → ℕ
 based_len_by len bytes =
     if len == 0 then 0 else len + spaced_digits_len (begins is_base_ten (drop (len - 1) bytes)) (drop len bytes)
@@ -51,16 +51,16 @@ based_len_by len bytes =
 abbrev pub based_len : List ℕ → ℕ
 based_len bytes = based_len_by (base_len bytes) bytes
 
--- a number by its value, or L4 at its first byte (3.5.1)
+-- A number by its value, or L4 at its first byte (3.5.1)
 abbrev pub valued : Result Vector LiteralFault → Bool → ℕ → Piece
 valued (Ok value) is_sized len = Kept (Token (Number (record { value = value; sized = is_sized }))) len
 valued (Err fault) is_sized len = Fault L4 0
 
--- a number of so many bytes
+-- A number of so many bytes
 abbrev pub number_of : List ℕ → Bool → ℕ → Piece
 number_of bytes is_sized len = valued (literal (take len bytes)) is_sized len
 
--- the number by its decimal digits, white space, and the base with its digits; an apostrophe without a base is L1,
+-- The number by its decimal digits, white space, and the base with its digits; an apostrophe without a base is L1,
 -- a real number L4
 abbrev pub number_by : List ℕ → ℕ → ℕ → ℕ → Piece
 number_by bytes digits spaces based =
@@ -68,7 +68,7 @@ number_by bytes digits spaces based =
     else (if nat_lt 0 based then number_of bytes (nat_lt 0 digits) (digits + spaces + based)
     else (if nat_lt 0 digits then number_of bytes false digits else Fault L1 0))
 
--- white space may stand behind the size, and a comment may not (3.5.1)
+-- White space may stand behind the size, and a comment may not (3.5.1)
 abbrev pub behind_digits : List ℕ → ℕ → ℕ → Piece
 behind_digits bytes digits spaces = number_by bytes digits spaces (based_len (drop (digits + spaces) bytes))
 

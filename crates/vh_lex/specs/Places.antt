@@ -4,14 +4,14 @@ use Rattle.std.specs.List.{prefix_len}
 use Rattle.vh_base.specs.declared.place.Place.{Place}
 use Rattle.vh_lex.specs.Bytes.{is_line_end, is_line_byte}
 
--- how many lines have ended
+-- How many lines have ended
 abbrev pub lines_in : List ℕ → ℕ
 lines_in bytes = count_by is_line_end bytes
 
--- how many bytes stand behind the last line feed
+-- How many bytes stand behind the last line feed
 abbrev pub since_line : List ℕ → ℕ
 since_line bytes = prefix_len is_line_byte (reverse bytes)
 
--- the place of a byte in that file before which these bytes stand
+-- The place of a byte in that file before which these bytes stand
 abbrev pub place_behind : ℕ → List ℕ → Place
 place_behind file bytes = record { file = file; line = 1 + lines_in bytes; column = 1 + since_line bytes }

@@ -48,7 +48,7 @@ pub record IsStuck (is_skipped : Bool) (a : At) (place : Place) : Type 0 where
 abbrev pub IsLeftOpen : At → DesignFault → Type 0
 IsLeftOpen a fault = (a.bytes ≡ []) × (a.files ≡ []) × (fault ≡ L2)
 
--- how many bytes and files are left
+-- How many bytes and files are left
 abbrev pub left_in : List File → ℕ
 left_in [] = 0
 left_in (f ∷ fs) = 1 + length f.bytes + left_in fs

@@ -33,24 +33,24 @@ pub record At : Type 0 where
   pub tokens : List Token
   pub uses : ℕ
 
--- the place of the next byte
+-- The place of the next byte
 abbrev pub place_of : At → Place
 place_of a = place_behind a.file a.passed
 
--- behind a piece of so many bytes
+-- Behind a piece of so many bytes
 abbrev pub past : ℕ → At → At
 past len a = record a { bytes = drop len a.bytes; passed = a.passed ++ take len a.bytes }
 
--- a token more, where the piece stands
-abbrev pub with_token : Kind → At → At
-with_token k a = record a { tokens = a.tokens ++ record { kind = k; place = place_of a } ∷ [] }
+-- A token more, where the piece stands
+abbrev pub with_kind : Kind → At → At
+with_kind k a = record a { tokens = a.tokens ++ record { kind = k; place = place_of a } ∷ [] }
 
--- before the first file, and where a file begins
+-- Before the first file, and where a file begins
 abbrev pub before : List File → At
 before files = record { bytes = []; passed = []; file = 0; files = files; macros = no_macros; setting = first_setting; tokens = []; uses = 0 }
 
-abbrev pub opened : File → List File → At → At
-opened f fs a = record a { bytes = f.bytes; passed = []; file = f.number; files = fs }
+abbrev pub at_start : File → List File → At → At
+at_start f fs a = record a { bytes = f.bytes; passed = []; file = f.number; files = fs }
 
 -- A backquote and a directive's word stand there, of so many bytes; in text that is read or skipped.
 pub record IsWord (d : Directive) (a : At) (len : ℕ) : Type 0 where
@@ -74,7 +74,7 @@ pub record Defines (a : At) (name text : List ℕ) (len : ℕ) : Type 0 where
   pub text_is : text ≡ macro_text (drop named.len (drop (gap_len (drop at a.bytes)) (drop at a.bytes)))
   pub long : len ≡ at + gap_len (drop at a.bytes) + named.len + macro_len (drop named.len (drop (gap_len (drop at a.bytes)) (drop at a.bytes)))
 
--- a directive with a name behind it (19.3.2, 19.4)
+-- A directive with a name behind it (19.3.2, 19.4)
 pub record Names (d : Directive) (a : At) (name : List ℕ) (len : ℕ) : Type 0 where
   pub at : ℕ
   pub from : ℕ
@@ -84,7 +84,7 @@ pub record Names (d : Directive) (a : At) (name : List ℕ) (len : ℕ) : Type 0
   pub name_is : name ≡ named.name
   pub long : len ≡ from + named.len
 
--- what a directive of settings makes of them, and how many bytes it has, where so many stand before the given ones (19.2, 19.6, 19.8)
+-- What a directive of settings makes of them, and how many bytes it has, where so many stand before the given ones (19.2, 19.6, 19.8)
 pub record Scales (at : ℕ) (bytes : List ℕ) (old new : Setting) (len : ℕ) : Type 0 where
   pub unit : Found
   pub precision : Found
@@ -111,7 +111,7 @@ Sets _ at bytes old new len = ⊥
 pub data Goes : At → At → Type 0 where
   blank : {a : At} (len : ℕ) → 1 ≤ len → front a.bytes ≡ Blank len → Goes a (past len a)
   token : {a : At} (p : Part) (k : Kind) (len : ℕ) → front a.bytes ≡ Kept p len → token_of a.setting p ≡ Some k → length a.tokens + 1 ≤ 4194304
-      → Goes a (past len (with_token k a))
+      → Goes a (past len (with_kind k a))
   -- the tokens of the macro's text stand where the use does; at most 64 uses are open at one time
   macro : {a : At} (name text : List ℕ) (len inner : ℕ) (tokens : List Token) → front a.bytes ≡ Kept (Use name) len
       → directive_behind (drop 1 a.bytes) name ≡ None → a.macros name ≡ Some text → Gives a.macros a.setting (place_of a) 63 text tokens inner
@@ -121,9 +121,9 @@ pub data Goes : At → At → Type 0 where
   undef : {a : At} (name : List ℕ) (len : ℕ) → Names directive.Undef a name len → Goes a (past len (record a { macros = with_text name None a.macros }))
   sets : {a : At} (d : Directive) (at len : ℕ) (new : Setting) → IsWord d a at → Sets d at (drop at a.bytes) a.setting new len
       → Goes a (past len (record a { setting = new }))
-  file : {a : At} (f : File) (fs : List File) → a.bytes ≡ [] → a.files ≡ f ∷ fs → Goes a (opened f fs a)
+  file : {a : At} (f : File) (fs : List File) → a.bytes ≡ [] → a.files ≡ f ∷ fs → Goes a (at_start f fs a)
 
--- the directives of conditionals, which are seen in skipped text (19.4)
+-- The directives of conditionals, which are seen in skipped text (19.4)
 abbrev pub is_conditional : Option Directive → Bool
 is_conditional None = false
 is_conditional (Some directive.Ifdef) = true
@@ -142,7 +142,7 @@ pub data Passes : At → At → Type 0 where
   quote : {a : At} → begins (λ b. b == 96) a.bytes ≡ true → word_name (drop 1 a.bytes) ≡ None → Passes a (past 1 a)
   word : {a : At} (name : Named) → begins (λ b. b == 96) a.bytes ≡ true → word_name (drop 1 a.bytes) ≡ Some name
       → is_conditional (directive_of name.name) ≡ false → Passes a (past (name.len + 1) a)
-  skipped_file : {a : At} (f : File) (fs : List File) → a.bytes ≡ [] → a.files ≡ f ∷ fs → Passes a (opened f fs a)
+  skipped_file : {a : At} (f : File) (fs : List File) → a.bytes ≡ [] → a.files ≡ f ∷ fs → Passes a (at_start f fs a)
 
 -- `ifdef, or `ifndef, whose condition holds or not; `elsif; `else and `endif (19.4)
 pub data If : Bool → At → At → Type 0 where

@@ -13,18 +13,18 @@ use Rattle.vh_lex.specs.declared.setting.Setting.{Setting}
 use Rattle.vh_lex.specs.declared.directive.Directive.{Directive}
 use Rattle.vh_lex.specs.Bytes.{begins, begins_with}
 use Rattle.vh_lex.specs.Front.{Named, word_name, comment_len, front}
-use Rattle.vh_lex.specs.Made.{Macros, Made, macro_of}
+use Rattle.vh_lex.specs.Made.{MacroRows, Made, macro_of}
 use Rattle.vh_lex.specs.Conditionals.{skips}
 use Rattle.vh_lex.specs.State.{State, moved}
 use Rattle.vh_lex.specs.Directives.{Step, directive_of, directive_behind, directed, seen_directive}
 
--- where a part stands: the macros and what the directives set, and the place that its tokens have
+-- Where a part stands: the macros and what the directives set, and the place that its tokens have
 pub record Around : Type 0 where
-  pub macros : Macros
+  pub macros : MacroRows
   pub setting : Setting
   pub place : Place
 
--- what parts come to: the tokens and uses with theirs, or a fault
+-- What parts come to: the tokens and uses with theirs, or a fault
 abbrev pub Making : Type 0
 Making = Result Made DesignFault
 
@@ -32,12 +32,12 @@ abbrev pub and_then : Making → (Made → Making) → Making
 and_then (Ok m) f = f m
 and_then (Err fault) f = Err fault
 
--- a token more; past the 4,194,304th it is L6 (own)
+-- A token more; past the 4,194,304th it is L6 (own)
 abbrev pub with_token : Kind → Place → Made → Making
 with_token kind place m =
     if nat_lt (length m.tokens) 4194304 then Ok (record m { tokens = m.tokens ++ record { kind = kind; place = place } ∷ [] }) else Err L6
 
--- a name behind a backquote, in text that is read at `inner`: a directive in a macro's text and an undefined macro are L3
+-- A name behind a backquote, in text that is read at `inner`: a directive in a macro's text and an undefined macro are L3
 -- (19.3.1; the first own)
 abbrev pub used_by : (List Part → Made → Making) → Option (List Part) → Made → Making
 used_by inner None m = Err L3
@@ -50,33 +50,33 @@ abbrev pub used_within : Bool → (List Part → Made → Making) → Around →
 used_within true inner around name m = Err L3
 used_within false inner around name m = used inner around name m
 
--- a part of a macro's text (19.3.1)
+-- A part of a macro's text (19.3.1)
 abbrev pub part_made : (List Part → Made → Making) → Around → Part → Made → Making
 part_made inner around (part.Token kind) m = with_token kind around.place m
 part_made inner around part.Module m = with_token (kind.Module around.setting) around.place m
 part_made inner around (part.Use name) m = used_within (is_some (directive_of name)) inner around name m
 part_made inner around (part.Wrong fault) m = Err fault
 
--- the parts of a macro's text, the macros in it being read by `inner`
+-- The parts of a macro's text, the macros in it being read by `inner`
 abbrev pub parts_made : (List Part → Made → Making) → Around → List Part → Made → Making
 parts_made inner around [] m = Ok m
 parts_made inner around (p ∷ ps) m = and_then (part_made inner around p m) (parts_made inner around ps)
 
--- a macro use more; past the 1,048,576th it is L6 (own)
+-- A macro use more; past the 1,048,576th it is L6 (own)
 abbrev pub with_use : Made → Making
 with_use m = if nat_lt m.uses 1048576 then Ok (record m { uses = m.uses + 1 }) else Err L6
 
--- the use of a macro with this text, where so many levels of uses may still be open: its text is read where it is used,
+-- The use of a macro with this text, where so many levels of uses may still be open: its text is read where it is used,
 -- and so is that of each macro in it; above the last level it is L3 (19.3.1; the limit own)
 unfoldable pub expanded : ℕ → Around → List Part → Made → Making
 expanded zero around text m = Err L3
 expanded (suc levels) around text m = and_then (with_use m) (parts_made (expanded levels around) around text)
 
--- the greatest number of uses that are open at one time (own)
+-- The greatest number of uses that are open at one time (own)
 abbrev pub most_levels : ℕ
 most_levels = 64
 
--- tokens and uses in a state, and how many bytes gave them
+-- Tokens and uses in a state, and how many bytes gave them
 abbrev pub made_in : State → ℕ → Making → Step
 made_in s len (Ok m) = Ok (record s { made = m }, len)
 made_in s len (Err fault) = Err (fault, 0)
@@ -84,25 +84,25 @@ made_in s len (Err fault) = Err (fault, 0)
 abbrev pub around_of : State → Around
 around_of s = record { macros = s.macros; setting = s.setting; place = s.place }
 
--- a name behind a backquote in the source, behind which the bytes stand: a directive, or the use of a macro (clause 19)
+-- A name behind a backquote in the source, behind which the bytes stand: a directive, or the use of a macro (clause 19)
 abbrev pub name_read : Option Directive → List ℕ → ℕ → List ℕ → State → Step
 name_read (Some d) name len behind s = directed d len behind s
 name_read None name len behind s = made_in s len (used (expanded most_levels (around_of s)) (around_of s) name s.made)
 
--- a part that the bytes of the source begin with
+-- A part that the bytes of the source begin with
 abbrev pub part_read : Part → ℕ → List ℕ → State → Step
 part_read (part.Token kind) len bytes s = made_in s len (with_token kind s.place s.made)
 part_read part.Module len bytes s = made_in s len (with_token (kind.Module s.setting) s.place s.made)
 part_read (part.Use name) len bytes s = name_read (directive_behind (drop 1 bytes) name) name len (drop len bytes) s
 part_read (part.Wrong fault) len bytes s = Err (fault, 0)
 
--- what the bytes of the source begin with
+-- What the bytes of the source begin with
 abbrev pub piece_read : Piece → List ℕ → State → Step
 piece_read (piece.Blank len) bytes s = Ok (s, len)
 piece_read (piece.Kept p len) bytes s = part_read p len bytes s
 piece_read (piece.Fault fault at) bytes s = Err (fault, at)
 
--- what skipped bytes begin with: a comment, a directive of a conditional, or a byte or another word behind a backquote, of
+-- What skipped bytes begin with: a comment, a directive of a conditional, or a byte or another word behind a backquote, of
 -- no meaning (own; 19.4)
 abbrev pub name_skipped : Option Directive → ℕ → List ℕ → State → Step
 name_skipped None at bytes s = Ok (s, at)
@@ -121,27 +121,27 @@ comment_skipped None bytes s =
 abbrev pub skipped : List ℕ → State → Step
 skipped bytes s = comment_skipped (comment_len bytes) bytes s
 
--- what bytes begin with
+-- What bytes begin with
 abbrev pub step : List ℕ → State → Step
 step bytes s = if skips s.conditionals then skipped bytes s else piece_read (front bytes) bytes s
 
--- where a fault stands
+-- Where a fault stands
 pub record Stop : Type 0 where
   pub fault : DesignFault
   pub place : Place
 
--- the state after so many of the bytes, and what follows the first of them; or the fault at its place
+-- The state after so many of the bytes, and what follows the first of them; or the fault at its place
 abbrev pub step_then : Step → List ℕ → Place → (ℕ → State → Result State Stop) → Result State Stop
 step_then (Err wrong) bytes place rest = Err (record { fault = wrong.0; place = moved (take wrong.1 bytes) place })
 step_then (Ok went) bytes place rest = rest (went.1 - 1) (record went.0 { place = moved (take went.1 bytes) place })
 
--- the state after the bytes that follow the first so many, which belong to what stands before
+-- The state after the bytes that follow the first so many, which belong to what stands before
 abbrev pub read_after : ℕ → List ℕ → State → Result State Stop
 read_after skip [] s = Ok s
 read_after (suc skip) (byte ∷ bytes) s = read_after skip bytes s
 read_after zero (byte ∷ bytes) s =
     step_then (step (byte ∷ bytes) s) (byte ∷ bytes) s.place (λ skip went. read_after skip bytes went)
 
--- the state after the bytes, or the first fault
+-- The state after the bytes, or the first fault
 abbrev pub read : List ℕ → State → Result State Stop
 read bytes s = read_after 0 bytes s

@@ -12,20 +12,20 @@ use Rattle.vh_lex.specs.Bytes.{is_line_end}
 abbrev pub State : Type 0
 State = Reader
 
--- a time unit and a precision of 1 ns, and wires where nothing else is declared (own; 19.2, 19.8)
+-- A time unit and a precision of 1 ns, and wires where nothing else is declared (own; 19.2, 19.8)
 abbrev pub first_setting : Setting
 first_setting = record { unit = 6; precision = 6; default_net = Wire }
 
--- the place of the first byte of a file
+-- The place of the first byte of a file
 abbrev pub start_of : ℕ → Place
 start_of file = record { file = file; line = 1; column = 1 }
 
--- the place after a byte: columns count bytes, and a line feed ends a line (own)
+-- The place after a byte: columns count bytes, and a line feed ends a line (own)
 abbrev pub behind : ℕ → Place → Place
 behind byte place =
     if is_line_end byte then record place { line = place.line + 1; column = 1 } else record place { column = place.column + 1 }
 
--- the place after some bytes
+-- The place after some bytes
 abbrev pub moved : List ℕ → Place → Place
 moved [] place = place
 moved (byte ∷ bytes) place = moved bytes (behind byte place)

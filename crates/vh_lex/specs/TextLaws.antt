@@ -42,7 +42,7 @@ pub record Covers : Type 0 where
 abbrev pub SpelledHasText : Type 0
 SpelledHasText = (files : List File) (tokens : List Token) → Spells files tokens → HasText files tokens
 
--- and the tokens of each text that they have are what they spell.
+-- And the tokens of each text that they have are what they spell.
 abbrev pub TextIsSpelled : Type 0
 TextIsSpelled = (files : List File) (tokens : List Token) → HasText files tokens → Spells files tokens
 

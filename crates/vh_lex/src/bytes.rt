@@ -6,7 +6,7 @@ ghost use Rattle.vh_lex.specs.Classes.{of_class};
 
 use vh_base::{is_digit, is_name_start, is_space};
 
-/// A class of bytes.
+// A class of bytes.
 #[derive(Clone, Copy)]
 pub(crate) enum Class {
     /// White space.
@@ -31,7 +31,7 @@ pub(crate) enum Class {
     Octal,
 }
 
-/// Whether the byte is one of the class.
+// Whether the byte is one of the class.
 pub(crate) fn is_in(class: Class, byte: u8) -> bool
     ensures { result ≡ of_class class byte }
 {
@@ -49,7 +49,7 @@ pub(crate) fn is_in(class: Class, byte: u8) -> bool
     }
 }
 
-/// How many bytes at the front are of the class.
+// How many bytes at the front are of the class.
 pub(crate) fn run_len(class: Class, bytes: &[u8]) -> usize
     ensures value { result ≡ prefix_len (of_class class) bytes.now }
     ensures inside { result ≤ length bytes.now }
@@ -62,21 +62,21 @@ pub(crate) fn run_len(class: Class, bytes: &[u8]) -> usize
     bytes.len()
 }
 
-/// What tokens are made of.
+// What tokens are made of.
 pub(crate) fn is_graphic(byte: u8) -> bool
     ensures { result ≡ Bytes.is_graphic byte }
 {
     matches!(byte, b'!'..=b'~')
 }
 
-/// What a string is made of.
+// What a string is made of.
 pub(crate) fn is_text(byte: u8) -> bool
     ensures { result ≡ Bytes.is_text byte }
 {
     matches!(byte, b' '..=b'~')
 }
 
-/// A digit behind a base but `?` (IEEE 1364-2005, 3.5.1).
+// A digit behind a base but `?` (IEEE 1364-2005, 3.5.1).
 fn is_based_letter(byte: u8) -> bool
     ensures { result ≡ Bytes.is_based_letter byte }
 {
@@ -94,7 +94,7 @@ fn is_unknown(byte: u8) -> bool
     byte == b'x' || byte == b'X' || byte == b'z' || byte == b'Z'
 }
 
-/// Whether the bytes begin with this one.
+// Whether the bytes begin with this one.
 pub(crate) fn begins(byte: u8, bytes: &[u8]) -> bool
     ensures value { result ≡ Bytes.begins (λ b. nat_eq b byte) bytes.now }
     ensures inside { result ≡ true → 1 ≤ length bytes.now }
@@ -105,7 +105,7 @@ pub(crate) fn begins(byte: u8, bytes: &[u8]) -> bool
     }
 }
 
-/// Whether the bytes begin with these two.
+// Whether the bytes begin with these two.
 pub(crate) fn begins_with(first: u8, second: u8, bytes: &[u8]) -> bool
     ensures value { result ≡ Bytes.begins_with first second bytes.now }
     ensures inside { result ≡ true → 2 ≤ length bytes.now }
@@ -116,7 +116,7 @@ pub(crate) fn begins_with(first: u8, second: u8, bytes: &[u8]) -> bool
     }
 }
 
-/// Whether the bytes begin with a decimal digit.
+// Whether the bytes begin with a decimal digit.
 pub(crate) fn begins_digit(bytes: &[u8]) -> bool
     ensures { result ≡ Bytes.begins Classes.is_digit bytes.now }
 {
@@ -126,7 +126,7 @@ pub(crate) fn begins_digit(bytes: &[u8]) -> bool
     }
 }
 
-/// The bytes after the first `len`, or none where there are fewer.
+// The bytes after the first `len`, or none where there are fewer.
 pub(crate) fn after(len: usize, bytes: &[u8]) -> &[u8]
     ensures { result.now ≡ drop len bytes.now }
 {
@@ -137,7 +137,7 @@ pub(crate) fn after(len: usize, bytes: &[u8]) -> &[u8]
     }
 }
 
-/// The first `len` bytes, or all where there are fewer.
+// The first `len` bytes, or all where there are fewer.
 pub(crate) fn upto(len: usize, bytes: &[u8]) -> &[u8]
     ensures { result.now ≡ take len bytes.now }
 {
@@ -148,7 +148,7 @@ pub(crate) fn upto(len: usize, bytes: &[u8]) -> &[u8]
     }
 }
 
-/// How many bytes there are through the first `first` with `second` behind it.
+// How many bytes there are through the first `first` with `second` behind it.
 pub(crate) fn through(first: u8, second: u8, bytes: &[u8]) -> Option<usize>
     ensures value { result ≡ Bytes.through first second false bytes.now }
     ensures inside { IfSome result (λ len. len ≤ length bytes.now) }

@@ -26,7 +26,7 @@ pub struct Conditional {
     pub has_else: bool,
 }
 
-/// The conditionals that are open, the innermost last.
+// The conditionals that are open, the innermost last.
 #[derive(Drop)]
 pub(crate) struct Conditionals {
     items: Vec<Conditional>,
@@ -42,7 +42,7 @@ impl Model for Conditionals {
 }
 
 impl Conditionals {
-    /// No conditional.
+    // No conditional.
     pub(crate) fn new(alloc: Global) -> Conditionals
         ensures { result ≡ [] }
     {
@@ -51,21 +51,21 @@ impl Conditionals {
         }
     }
 
-    /// The outermost one.
+    // The outermost one.
     pub(crate) fn outermost(&self) -> Option<Conditional>
         ensures { result ≡ slice_get self.now 0 }
     {
         self.items.first().copied()
     }
 
-    /// The innermost one.
+    // The innermost one.
     pub(crate) fn innermost(&self) -> Option<Conditional>
         ensures { result ≡ innermost self.now }
     {
         self.items.last().copied()
     }
 
-    /// Whether text is skipped there.
+    // Whether text is skipped there.
     pub(crate) fn skips(&self) -> bool
         ensures { result ≡ skips self.now }
     {
@@ -75,7 +75,7 @@ impl Conditionals {
         }
     }
 
-    /// Opens one within the others.
+    // Opens one within the others.
     pub(crate) fn push(&mut self, opened: Conditional) -> Result<(), NoMemory>
         ensures { IfOk result (λ _. self.new ≡ self.old ++ opened ∷ []) }
     {
@@ -83,7 +83,7 @@ impl Conditionals {
         Ok(())
     }
 
-    /// Puts another one in the place of the innermost.
+    // Puts another one in the place of the innermost.
     pub(crate) fn replace(&mut self, changed: Conditional)
         requires { IsSome (innermost self.old) }
         ensures { self.new ≡ with_innermost changed self.old }
@@ -92,7 +92,7 @@ impl Conditionals {
         self.items[last] = changed;
     }
 
-    /// Closes the innermost.
+    // Closes the innermost.
     pub(crate) fn close(&mut self)
         ensures { self.new ≡ without_innermost self.old }
     {

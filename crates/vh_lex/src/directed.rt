@@ -2,7 +2,7 @@ ghost use Rattle.std.specs.Prelude.{◌≡◌, ◌≤◌, ◌+◌, length, IfOk}
 ghost use Rattle.std.specs.List.{list_any};
 ghost use Rattle.vh_lex.specs.Bytes.{is_line_end};
 ghost use Rattle.vh_lex.specs.Directives;
-ghost use Rattle.vh_lex.specs.Seen.{named_seen};
+ghost use Rattle.vh_lex.specs.Views.{named_seen};
 ghost use Rattle.vh_lex.specs.Outcomes.{Went, Finds};
 ghost use Rattle.vh_lex.specs.State.{first_setting};
 
@@ -20,8 +20,8 @@ use std::alloc::Global;
 use vh_base::DesignFault;
 
 impl Reader {
-    /// Performs a directive in text that is read, behind whose name, `at` bytes behind the
-    /// backquote, the bytes stand; answers how many bytes it has.
+    // Performs a directive in text that is read, behind whose name, `at` bytes behind the
+    // backquote, the bytes stand; answers how many bytes it has.
     pub(crate) fn directed(
         &mut self,
         alloc: Global,
@@ -50,7 +50,7 @@ impl Reader {
         }
     }
 
-    /// Performs a directive of a conditional in skipped text, and passes over another one.
+    // Performs a directive of a conditional in skipped text, and passes over another one.
     pub(crate) fn seen_directive(
         &mut self,
         directive: Directive,

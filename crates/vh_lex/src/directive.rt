@@ -21,7 +21,7 @@ pub enum Directive {
     Other,
 }
 
-/// The directives by their names (IEEE 1364-2005, clause 19).
+// The directives by their names (IEEE 1364-2005, clause 19).
 static DIRECTIVES: [(&[u8], Directive); 19] = [
     (b"define", Directive::Define),
     (b"undef", Directive::Undef),
@@ -44,15 +44,15 @@ static DIRECTIVES: [(&[u8], Directive); 19] = [
     (b"unconnected_drive", Directive::Other),
 ];
 
-/// The directive that a name behind a backquote is, if it is one.
+// The directive that a name behind a backquote is, if it is one.
 pub(crate) fn directive_of(name: &[u8]) -> Option<Directive>
     ensures { result ≡ Directives.directive_of name.now }
 {
     spelled(&DIRECTIVES, name)
 }
 
-/// The directive that a name is with which these bytes behind a backquote begin; an escaped one
-/// is none.
+// The directive that a name is with which these bytes behind a backquote begin; an escaped one
+// is none.
 pub(crate) fn directive_behind(bytes: &[u8], name: &[u8]) -> Option<Directive>
     ensures { result ≡ Directives.directive_behind bytes.now name.now }
 {
@@ -65,7 +65,7 @@ pub(crate) fn directive_behind(bytes: &[u8], name: &[u8]) -> Option<Directive>
     None
 }
 
-/// Whether a name is the word of a directive.
+// Whether a name is the word of a directive.
 pub(crate) fn is_directive(name: &[u8]) -> bool
     ensures { result ≡ is_some (Directives.directive_of name.now) }
 {

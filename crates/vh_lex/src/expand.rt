@@ -13,10 +13,10 @@ use crate::token::Kind;
 use std::alloc::Global;
 use vh_base::{Boxed, DesignFault, NoMemory, Place};
 
-/// The greatest number of uses of macros that are open at one time.
+// The greatest number of uses of macros that are open at one time.
 const LEVEL_LIMIT: usize = 64;
 
-/// Where a macro is used: the macros, what the directives set, and the place of its tokens.
+// Where a macro is used: the macros, what the directives set, and the place of its tokens.
 #[derive(Clone, Copy)]
 pub(crate) struct Around<'a> {
     pub(crate) macros: &'a Macros,
@@ -24,8 +24,8 @@ pub(crate) struct Around<'a> {
     pub(crate) place: Place,
 }
 
-/// Reads the text of a macro where it is used in a file, and the texts of the macros in it. It
-/// takes time in the number of tokens and uses that they give.
+// Reads the text of a macro where it is used in a file, and the texts of the macros in it. It
+// takes time in the number of tokens and uses that they give.
 pub(crate) fn expand<'a>(
     alloc: Global,
     around: &Around<'a>,

@@ -14,14 +14,14 @@ pub enum LexFault {
     NoMemory,
 }
 
-/// Why a piece is not read: a fault, so many bytes behind its first one.
+// Why a piece is not read: a fault, so many bytes behind its first one.
 #[derive(Clone, Copy)]
 pub(crate) enum Stop {
     Fault(DesignFault, usize),
     NoMemory,
 }
 
-/// Why the text of a macro is not read.
+// Why the text of a macro is not read.
 #[derive(Clone, Copy)]
 pub(crate) enum Halt {
     Fault(DesignFault),

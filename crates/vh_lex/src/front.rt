@@ -14,8 +14,8 @@ use crate::token::Kind;
 use std::alloc::Global;
 use vh_base::{Bytes, DesignFault, NoMemory, is_digit, is_name_start, is_space};
 
-/// What the bytes begin with (IEEE 1364-2005, clause 3). It takes time in the number of bytes of
-/// that piece, and of white space behind it.
+// What the bytes begin with (IEEE 1364-2005, clause 3). It takes time in the number of bytes of
+// that piece, and of white space behind it.
 pub(crate) fn front(alloc: Global, made: &mut Output, bytes: &[u8]) -> Result<Piece, NoMemory>
     ensures value { IfOk result (λ piece. piece ≡ Front.front bytes.now) }
     ensures inside { IfOk result (λ piece. IsInside piece (length bytes.now)) }
@@ -134,8 +134,8 @@ fn use_at(alloc: Global, behind: &[u8]) -> Result<Piece, NoMemory>
     }
 }
 
-/// The mark of one byte with which the bytes begin, where at most one byte behind it is to be seen for
-/// that.
+// The mark of one byte with which the bytes begin, where at most one byte behind it is to be seen for
+// that.
 pub(crate) fn lone_mark(bytes: &[u8]) -> Option<Mark>
     ensures { IfSome result (λ mark. IsLone mark bytes.now) }
 {
@@ -170,8 +170,8 @@ fn mark_piece(bytes: &[u8]) -> Piece
     }
 }
 
-/// How many bytes the comment has with which the bytes begin, if they begin with one that has an
-/// end (IEEE 1364-2005, 3.3).
+// How many bytes the comment has with which the bytes begin, if they begin with one that has an
+// end (IEEE 1364-2005, 3.3).
 pub(crate) fn comment_len(bytes: &[u8]) -> Option<usize>
     ensures value { result ≡ Front.comment_len bytes.now }
     ensures inside { IfSome result (λ len. len ≤ length bytes.now) }
@@ -188,7 +188,7 @@ pub(crate) fn comment_len(bytes: &[u8]) -> Option<usize>
 
 // A comment, or an operator.
 fn slash_at(bytes: &[u8]) -> Piece
-    ensures value { result ≡ Front.slash_by (Front.comment_len bytes.now) bytes.now }
+    ensures value { result ≡ Front.slash_piece (Front.comment_len bytes.now) bytes.now }
     ensures inside { IsInside result (length bytes.now) }
 {
     if let Some(len) = comment_len(bytes) {

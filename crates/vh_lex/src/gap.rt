@@ -5,7 +5,7 @@ use crate::bytes::after;
 use crate::front::comment_len;
 use vh_base::is_space;
 
-/// How many bytes of white space and comments stand at the front. It takes time in their number.
+// How many bytes of white space and comments stand at the front. It takes time in their number.
 pub(crate) fn gap_len(bytes: &[u8]) -> usize
     ensures value { result ≡ Directives.gap_len bytes.now }
     ensures inside { result ≤ length bytes.now }

@@ -1,6 +1,6 @@
 ghost use Rattle.std.specs.Prelude.{◌≡◌, map};
 ghost use Rattle.vh_lex.specs.Keywords;
-ghost use Rattle.vh_lex.specs.Seen.{rows_from, row_seen};
+ghost use Rattle.vh_lex.specs.Views.{rows_from, row_seen};
 
 use crate::table::spelled;
 
@@ -296,8 +296,8 @@ fn keywords_from(first: u8) -> &'static [(&'static [u8], Keyword)]
     }
 }
 
-/// The keyword that the bytes spell, if they do. It compares with the reserved words that have the
-/// same first byte alone.
+// The keyword that the bytes spell, if they do. It compares with the reserved words that have the
+// same first byte alone.
 pub(crate) fn keyword_of(name: &[u8]) -> Option<Keyword>
     ensures { result ≡ Keywords.keyword_of name.now }
 {

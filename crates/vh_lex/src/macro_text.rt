@@ -1,7 +1,7 @@
 ghost use Rattle.std.specs.Prelude.{◌≡◌, ◌≤◌, length, IfOk};
 ghost use Rattle.std.specs.Option.{option_map};
 ghost use Rattle.vh_lex.specs.MacroTexts;
-ghost use Rattle.vh_lex.specs.Seen.{turn_seen};
+ghost use Rattle.vh_lex.specs.Views.{turn_seen};
 
 use crate::bytes::{Class, after, begins, begins_with, run_len, upto};
 use crate::front::front;
@@ -27,8 +27,8 @@ pub(crate) struct Next {
     pub(crate) mode: Mode,
 }
 
-/// The parts of the text that stands behind a macro's name, and how many bytes it has with a
-/// comment that ends it (IEEE 1364-2005, 19.3.1). It takes time in the number of those bytes.
+// The parts of the text that stands behind a macro's name, and how many bytes it has with a
+// comment that ends it (IEEE 1364-2005, 19.3.1). It takes time in the number of those bytes.
 pub(crate) fn macro_text(
     alloc: Global,
     made: &mut Output,
@@ -48,7 +48,7 @@ pub(crate) fn macro_text(
 
 // How many bytes the text has without a comment that ends it.
 fn text_len(bytes: &[u8]) -> usize
-    ensures value { result ≡ MacroTexts.text_len bytes.now }
+    ensures value { result ≡ MacroTexts.macro_text_len bytes.now }
     ensures inside { result ≤ length bytes.now }
 {
     let mut passes = false;

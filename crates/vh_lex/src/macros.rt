@@ -1,6 +1,6 @@
 ghost use Rattle.std.specs.Prelude.{◌≡◌, List, [], IfOk, is_some};
 ghost use Rattle.vh_lex.specs.Made.{macro_of, with_macro};
-ghost use Rattle.vh_lex.specs.Texted.{parts_seen};
+ghost use Rattle.vh_lex.specs.MacroViews.{parts_seen};
 
 use crate::piece::Part;
 use indexmap::IndexMap;
@@ -8,24 +8,24 @@ use std::alloc::Global;
 use std::marker::Model;
 use vh_base::{NoMemory, Sequence};
 
-/// The macros by their names, and nothing for one that is undefined again. Contracts see the list
-/// of names with the parts of their texts. A look-up takes constant time in their number.
+// The macros by their names, and nothing for one that is undefined again. Contracts see the list
+// of names with the parts of their texts. A look-up takes constant time in their number.
 #[derive(Drop)]
 pub(crate) struct Macros {
     texts: IndexMap<Vec<u8>, Option<Sequence<Part>>>,
 }
 
 impl Model for Macros {
-    ghost use Rattle.vh_lex.specs.Made.{Macros};
-    ghost use Rattle.vh_lex.specs.Texted.{macros_seen};
+    ghost use Rattle.vh_lex.specs.Made.{MacroRows};
+    ghost use Rattle.vh_lex.specs.MacroViews.{macros_seen};
 
-    ghost Value = { Macros };
+    ghost Value = { MacroRows };
 
     ghost view = { λ m. macros_seen m.texts.entries };
 }
 
 impl Macros {
-    /// No macros.
+    // No macros.
     pub(crate) fn new(alloc: Global) -> Macros
         ensures { result ≡ [] }
     {
@@ -34,7 +34,7 @@ impl Macros {
         }
     }
 
-    /// Gives the name a text, or takes it.
+    // Gives the name a text, or takes it.
     pub(crate) fn set(
         &mut self,
         alloc: Global,
@@ -48,7 +48,7 @@ impl Macros {
         Ok(())
     }
 
-    /// The parts of the macro's text, if it is defined.
+    // The parts of the macro's text, if it is defined.
     pub(crate) fn text(&self, name: &[u8]) -> Option<&[Part]>
         ensures { parts_seen result ≡ macro_of name.now self.now }
     {
@@ -61,7 +61,7 @@ impl Macros {
         Some(text.as_slice())
     }
 
-    /// Whether the macro is defined.
+    // Whether the macro is defined.
     pub(crate) fn has(&self, name: &[u8]) -> bool
         ensures { result ≡ is_some (macro_of name.now self.now) }
     {

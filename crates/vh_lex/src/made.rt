@@ -12,13 +12,13 @@ use std::marker::Model;
 use vh_base::{DesignFault, NoMemory, Place};
 use vh_shared::SharedBytes;
 
-/// The greatest number of tokens.
+// The greatest number of tokens.
 const TOKEN_LIMIT: usize = 4_194_304;
 
-/// The greatest number of uses of macros.
+// The greatest number of uses of macros.
 const USE_LIMIT: u32 = 1_048_576;
 
-/// The tokens so far, and how many macros were used. Contracts see nothing of the names that stood before.
+// The tokens so far, and how many macros were used. Contracts see nothing of the names that stood before.
 #[derive(Drop)]
 pub(crate) struct Output {
     tokens: Vec<Token>,
@@ -35,7 +35,7 @@ impl Model for Output {
 }
 
 impl Output {
-    /// No tokens.
+    // No tokens.
     pub(crate) fn new(alloc: Global) -> Output
         ensures { result ≡ nothing_made }
     {
@@ -46,7 +46,7 @@ impl Output {
         }
     }
 
-    /// A token more.
+    // A token more.
     #[inline(always)]
     pub(crate) fn push(&mut self, kind: Kind, place: Place) -> Result<(), Halt>
         ensures value { Makes (with_token kind place self.old) result self.new }
@@ -59,14 +59,14 @@ impl Output {
         Ok(())
     }
 
-    /// A mark more.
+    // A mark more.
     pub(crate) fn push_mark(&mut self, mark: Mark, place: Place) -> Result<(), Halt>
         ensures { Makes (with_token (Kind.Mark mark) place self.old) result self.new }
     {
         self.push(Kind::Mark(mark), place)
     }
 
-    /// The bytes of a name, shared with one that stood before where it is remembered.
+    // The bytes of a name, shared with one that stood before where it is remembered.
     pub(crate) fn shared(&mut self, alloc: Global, name: &[u8]) -> Result<SharedBytes, NoMemory>
         ensures value { IfOk result (λ s. s ≡ name.now) }
         ensures kept { self.new ≡ self.old }
@@ -74,7 +74,7 @@ impl Output {
         self.names.shared(alloc, name)
     }
 
-    /// A use of a macro more.
+    // A use of a macro more.
     pub(crate) fn count_use(&mut self) -> Result<(), Halt>
         ensures value { Makes (with_use self.old) result self.new }
         ensures counted { IfOk result (λ _. self.new.uses ≡ self.old.uses + 1) }
@@ -87,7 +87,7 @@ impl Output {
         Ok(())
     }
 
-    /// The tokens.
+    // The tokens.
     pub(crate) fn tokens(&self) -> &Vec<Token>
         ensures { result.now.items ≡ self.now.tokens }
     {

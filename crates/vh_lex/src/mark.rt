@@ -1,6 +1,6 @@
 ghost use Rattle.std.specs.Prelude.{◌≡◌, ◌≤◌, length, map, IfSome};
 ghost use Rattle.vh_lex.specs.Marks;
-ghost use Rattle.vh_lex.specs.Seen.{row_seen, rows_from};
+ghost use Rattle.vh_lex.specs.Views.{row_seen, rows_from};
 ghost use Rattle.std.specs.Option.{option_map};
 
 use crate::table::begun;
@@ -165,8 +165,8 @@ fn marks_from(first: u8) -> &'static [(&'static [u8], Mark)]
     }
 }
 
-/// The longest mark with which the bytes begin, and its bytes. It compares with the marks that have
-/// the same first byte alone.
+// The longest mark with which the bytes begin, and its bytes. It compares with the marks that have
+// the same first byte alone.
 pub(crate) fn mark_at(bytes: &[u8]) -> Option<(&'static [u8], Mark)>
     ensures value { option_map row_seen result ≡ Marks.mark_at bytes.now }
     ensures inside { IfSome result (λ row. length row.0.now ≤ length bytes.now) }

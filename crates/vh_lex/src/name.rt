@@ -3,23 +3,23 @@ ghost use Rattle.std.specs.List.{prefix_len};
 ghost use Rattle.vh_lex.specs.Bytes.{is_graphic};
 ghost use Rattle.std.specs.Option.{option_map};
 ghost use Rattle.vh_lex.specs.Front;
-ghost use Rattle.vh_lex.specs.Seen.{named_seen};
+ghost use Rattle.vh_lex.specs.Views.{named_seen};
 
 use crate::bytes::{Class, begins, run_len};
 use vh_base::is_name_start;
 
-/// The greatest number of bytes of a name.
+// The greatest number of bytes of a name.
 pub(crate) const NAME_LIMIT: usize = 1024;
 
-/// A name, and how many bytes its spelling has.
+// A name, and how many bytes its spelling has.
 #[derive(Clone, Copy)]
 pub(crate) struct Named<'a> {
     pub(crate) name: &'a [u8],
     pub(crate) len: usize,
 }
 
-/// The name with which the bytes begin: a simple one, or an escaped one without its backslash
-/// (IEEE 1364-2005, 3.7 and 3.7.1).
+// The name with which the bytes begin: a simple one, or an escaped one without its backslash
+// (IEEE 1364-2005, 3.7 and 3.7.1).
 pub(crate) fn name_of(bytes: &[u8]) -> Option<Named<'_>>
     ensures value { option_map named_seen result ≡ Front.name_of bytes.now }
     ensures inside { IfSome result (λ named. named.len ≤ length bytes.now) }
@@ -36,7 +36,7 @@ pub(crate) fn name_of(bytes: &[u8]) -> Option<Named<'_>>
     None
 }
 
-/// The name without a backslash with which the bytes begin, which alone can be a directive's word.
+// The name without a backslash with which the bytes begin, which alone can be a directive's word.
 pub(crate) fn word_name(bytes: &[u8]) -> Option<Named<'_>>
     ensures value { option_map named_seen result ≡ Front.word_name bytes.now }
     ensures inside { IfSome result (λ named. named.len ≤ length bytes.now) }
@@ -79,7 +79,7 @@ fn escaped_name(bytes: &[u8]) -> Option<Named<'_>>
     })
 }
 
-/// Whether a name is longer than names may be.
+// Whether a name is longer than names may be.
 pub(crate) fn is_long(name: &[u8]) -> bool
     ensures { result ≡ Front.is_long name.now }
 {

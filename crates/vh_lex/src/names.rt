@@ -4,25 +4,25 @@ use std::alloc::Global;
 use vh_base::NoMemory;
 use vh_shared::SharedBytes;
 
-/// How many names are remembered.
+// How many names are remembered.
 const SLOTS: usize = 1024;
 
-/// Names that stood before, so that one that stands again shares their bytes. Each name has a slot, by
-/// its bytes, which the last name with that slot has.
+// Names that stood before, so that one that stands again shares their bytes. Each name has a slot, by
+// its bytes, which the last name with that slot has.
 #[derive(Drop)]
 pub(crate) struct Names {
     slots: Vec<Option<SharedBytes>>,
 }
 
 impl Names {
-    /// None stood.
+    // None stood.
     pub(crate) fn new(alloc: Global) -> Names {
         Names {
             slots: Vec::new(alloc),
         }
     }
 
-    /// The bytes of a name, shared with those that stood before where they are remembered.
+    // The bytes of a name, shared with those that stood before where they are remembered.
     pub(crate) fn shared(&mut self, alloc: Global, name: &[u8]) -> Result<SharedBytes, NoMemory>
         ensures { IfOk result (λ s. s ≡ name.now) }
     {

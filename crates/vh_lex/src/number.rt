@@ -11,8 +11,8 @@ use std::alloc::Global;
 use vh_base::{Boxed, DesignFault, NoMemory};
 use vh_text::read_literal;
 
-/// The number with which the bytes begin, from a digit or an apostrophe on (IEEE 1364-2005, 3.5).
-/// It takes time in the number of its bytes and of the white space behind its first digits.
+// The number with which the bytes begin, from a digit or an apostrophe on (IEEE 1364-2005, 3.5).
+// It takes time in the number of its bytes and of the white space behind its first digits.
 pub(crate) fn number_at(alloc: Global, bytes: &[u8]) -> Result<Piece, NoMemory>
     ensures value { IfOk result (λ piece. piece ≡ Numbers.number_at bytes.now) }
     ensures inside { IfOk result (λ piece. IsInside piece (length bytes.now)) }

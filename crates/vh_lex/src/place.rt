@@ -3,7 +3,7 @@ ghost use Rattle.vh_lex.specs.State.{moved};
 
 use vh_base::Place;
 
-/// The place after the bytes, which begin at a place.
+// The place after the bytes, which begin at a place.
 pub(crate) fn moved(place: Place, bytes: &[u8]) -> Place
     requires lines { place.line + length bytes.now < 2 ^ 32 }
     requires columns { place.column + length bytes.now < 2 ^ 32 }

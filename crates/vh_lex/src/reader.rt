@@ -26,8 +26,8 @@ use crate::token::Kind;
 use std::alloc::Global;
 use vh_base::{DesignFault, Place, is_name_start, is_space};
 
-/// What reading has come to: the macros, the tokens, the conditionals that are open, what the
-/// directives so far set, and the place of the next byte.
+// What reading has come to: the macros, the tokens, the conditionals that are open, what the
+// directives so far set, and the place of the next byte.
 #[derive(Drop)]
 pub(crate) struct Reader {
     pub(crate) macros: Macros,
@@ -38,7 +38,7 @@ pub(crate) struct Reader {
 }
 
 impl Reader {
-    /// Nothing is read.
+    // Nothing is read.
     pub(crate) fn new(alloc: Global) -> Reader
         ensures { result ≡ Lexed.first_state }
     {
@@ -55,8 +55,8 @@ impl Reader {
         }
     }
 
-    /// Reads the bytes, which begin at the reader's place. It takes time in their number and in
-    /// the number of tokens and uses of macros that they give.
+    // Reads the bytes, which begin at the reader's place. It takes time in their number and in
+    // the number of tokens and uses of macros that they give.
     pub(crate) fn read(&mut self, alloc: Global, bytes: &[u8]) -> Result<(), LexFault>
         requires lines { self.old.place.line + length bytes.now < 2 ^ 32 }
         requires columns { self.old.place.column + length bytes.now < 2 ^ 32 }

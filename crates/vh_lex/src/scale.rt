@@ -1,20 +1,20 @@
 ghost use Rattle.std.specs.Prelude.{◌≡◌, ◌≤◌, ◌+◌, length, IfSome};
 ghost use Rattle.std.specs.Option.{option_map};
 ghost use Rattle.vh_lex.specs.Directives;
-ghost use Rattle.vh_lex.specs.Seen.{found_seen};
+ghost use Rattle.vh_lex.specs.Views.{found_seen};
 
 use crate::bytes::{Class, after, begins, run_len, upto};
 use crate::gap::gap_len;
 
-/// A value that stands in a directive, and how many bytes it has with the white space and comments
-/// before it.
+// A value that stands in a directive, and how many bytes it has with the white space and comments
+// before it.
 #[derive(Clone, Copy)]
 pub(crate) struct Found {
     pub(crate) value: u8,
     pub(crate) len: usize,
 }
 
-/// An amount and a unit, as a power of ten of 1 fs (IEEE 1364-2005, 19.8).
+// An amount and a unit, as a power of ten of 1 fs (IEEE 1364-2005, 19.8).
 pub(crate) fn time_behind(bytes: &[u8]) -> Option<Found>
     ensures value { option_map found_seen result ≡ Directives.time_behind bytes.now }
     ensures inside { IfSome result (λ found. found.len ≤ length bytes.now) }
@@ -32,7 +32,7 @@ pub(crate) fn time_behind(bytes: &[u8]) -> Option<Found>
     })
 }
 
-/// The slash between two times, and the time behind it.
+// The slash between two times, and the time behind it.
 pub(crate) fn slash_behind(bytes: &[u8]) -> Option<Found>
     ensures value { option_map found_seen result ≡ Directives.slash_behind bytes.now }
     ensures inside { IfSome result (λ found. found.len ≤ length bytes.now) }

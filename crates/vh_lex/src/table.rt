@@ -1,9 +1,9 @@
 ghost use Rattle.std.specs.Prelude.{◌≡◌, ◌≤◌, length, map, bytes_eq, nat_eq, IfSome};
 ghost use Rattle.std.specs.List.{find, starts_with};
 ghost use Rattle.std.specs.Option.{option_map};
-ghost use Rattle.vh_lex.specs.Seen.{row_seen};
+ghost use Rattle.vh_lex.specs.Views.{row_seen};
 
-/// What the first row with the spelling holds. It takes time in the number of rows.
+// What the first row with the spelling holds. It takes time in the number of rows.
 pub(crate) fn spelled<T: Copy>(rows: &[(&[u8], T)], word: &[u8]) -> Option<T>
     ensures { result ≡ option_map (λ row. row.1)
         (find (λ row. bytes_eq row.0 word.now) (map row_seen rows.now)) }
@@ -16,7 +16,7 @@ pub(crate) fn spelled<T: Copy>(rows: &[(&[u8], T)], word: &[u8]) -> Option<T>
     None
 }
 
-/// The first row whose spelling the bytes begin with. It takes time in the number of rows.
+// The first row whose spelling the bytes begin with. It takes time in the number of rows.
 pub(crate) fn begun<'a, T: Copy>(rows: &[(&'a [u8], T)], bytes: &[u8]) -> Option<(&'a [u8], T)>
     ensures value { option_map row_seen result ≡ find (λ row. starts_with nat_eq bytes.now row.0)
         (map row_seen rows.now) }

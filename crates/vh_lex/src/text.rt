@@ -9,18 +9,18 @@ use std::alloc::Global;
 use vh_base::{Bytes, DesignFault, NoMemory};
 use vh_shared::SharedBytes;
 
-/// The greatest number of bytes of a string, after its escapes.
+// The greatest number of bytes of a string, after its escapes.
 const TEXT_LIMIT: usize = 4096;
 
-/// What an escape stands for, and how many bytes it has behind its backslash.
+// What an escape stands for, and how many bytes it has behind its backslash.
 #[derive(Clone, Copy)]
 pub(crate) struct Escape {
     pub(crate) byte: u8,
     pub(crate) len: usize,
 }
 
-/// The string whose bytes after its first quote these are (IEEE 1364-2005, 3.6). It takes time in
-/// the number of its bytes.
+// The string whose bytes after its first quote these are (IEEE 1364-2005, 3.6). It takes time in
+// the number of its bytes.
 pub(crate) fn text_at(alloc: Global, bytes: &[u8]) -> Result<Piece, NoMemory>
     ensures value { IfOk result (λ piece. piece ≡ Texts.text_at bytes.now) }
     ensures inside { IfOk result (λ piece. IsInside piece (length bytes.now + 1)) }

@@ -1,7 +1,7 @@
 use Rattle.std.proofs.Common.{[], ◌∷◌, length, length-append, ap, ◌∙◌, arith}
 use Rattle.vh_lex.specs.Spelling.{expanded, most_levels}
 use Rattle.vh_lex.specs.Uses.{around_seen, finish, frames_seen}
-use Rattle.vh_lex.proofs.Using.{frames-length, deep-stops, count-stops, use-begins, text-stops}
+use Rattle.vh_lex.proofs.UsesLemmas.{frames-length, deep-stops, count-stops, use-begins, text-stops}
 use Rattle.vh_lex.proofs.expand.expand.Goals as goal
 
 pub returns-then-len-ge-LEVEL_LIMIT : goal.returns-then-len-ge-LEVEL_LIMIT

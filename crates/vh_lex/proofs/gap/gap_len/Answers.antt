@@ -1,6 +1,6 @@
 use Rattle.std.proofs.Common.{length, sym, arith, length-drop}
 use Rattle.vh_lex.specs.Directives.{gap_len}
-use Rattle.vh_lex.proofs.Gaps.{gap-more}
+use Rattle.vh_lex.proofs.DirectivesLemmas.{gap-more}
 use Rattle.vh_lex.proofs.gap.gap_len.Goals as goal
 
 pub loop-behind-preserved : goal.loop-behind-preserved

@@ -1,6 +1,6 @@
 use Rattle.std.proofs.Common.{map}
-use Rattle.vh_lex.specs.Seen.{row_seen}
-use Rattle.vh_lex.proofs.GroupLemmas.{keyword-from, no-keyword}
+use Rattle.vh_lex.specs.Views.{row_seen}
+use Rattle.vh_lex.proofs.ViewsLemmas.{keyword-from, no-keyword}
 use Rattle.vh_lex.proofs.keyword.keyword_of.Goals as goal
 
 pub returns-in_default : goal.returns-in_default

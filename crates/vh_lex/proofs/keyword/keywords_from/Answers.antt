@@ -1,9 +1,9 @@
 use Rattle.std.proofs.Common.{ℕ, List, [], ◌∷◌, refl, sym, arith}
 use Rattle.vh_lex.specs.Keywords.{keyword_rows}
-use Rattle.vh_lex.proofs.GroupLemmas.{no-row}
+use Rattle.vh_lex.proofs.ViewsLemmas.{no-row}
 use Rattle.vh_lex.proofs.keyword.keywords_from.Goals as goal
 
--- the first bytes of the reserved words
+-- The first bytes of the reserved words
 firsts : List ℕ
 firsts = 97 ∷ 98 ∷ 99 ∷ 100 ∷ 101 ∷ 102 ∷ 103 ∷ 104 ∷ 105 ∷ 106 ∷ 108 ∷ 109 ∷ 110 ∷ 111 ∷ 112 ∷ 114 ∷ 115 ∷ 116 ∷ 117 ∷ 118 ∷ 119 ∷ 120 ∷ []
 

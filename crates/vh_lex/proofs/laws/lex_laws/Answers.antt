@@ -1,4 +1,4 @@
-use Rattle.vh_lex.proofs.LawLemmas.{one_list, spelled_or_refused, never_both, fault_stays}
+use Rattle.vh_lex.proofs.LawsLemmas.{one_list, spelled_or_refused, never_both, fault_stays}
 use Rattle.vh_lex.proofs.laws.lex_laws.Goals as goal
 
 pub returns-clause-one_list : goal.returns-clause-one_list

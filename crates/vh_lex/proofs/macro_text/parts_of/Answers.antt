@@ -1,8 +1,8 @@
 use Rattle.std.proofs.Common.{sym, ap, ◌∙◌}
 use Rattle.vh_lex.specs.declared.piece.Piece.TheVariants.{Blank}
 use Rattle.vh_lex.specs.MacroTexts.{parts_of}
-use Rattle.vh_lex.proofs.Parting.{blank-more, part-more}
-use Rattle.vh_lex.proofs.Stepping.{front-blank}
+use Rattle.vh_lex.proofs.MacroTextsLemmas.{blank-more, part-more}
+use Rattle.vh_lex.proofs.SpellingLemmas.{front-blank}
 use Rattle.vh_lex.proofs.macro_text.parts_of.Goals as goal
 
 pub loop-first-preserved-in-Blank : goal.loop-first-preserved-in-Blank

@@ -1,7 +1,7 @@
 use Rattle.std.proofs.Common.{map}
 use Rattle.std.specs.Option.{option_map}
-use Rattle.vh_lex.specs.Seen.{row_seen}
-use Rattle.vh_lex.proofs.GroupLemmas.{mark-from, no-mark}
+use Rattle.vh_lex.specs.Views.{row_seen}
+use Rattle.vh_lex.proofs.ViewsLemmas.{mark-from, no-mark}
 use Rattle.vh_lex.proofs.mark.mark_at.Goals as goal
 
 pub returns : goal.returns

@@ -1,9 +1,9 @@
 use Rattle.std.proofs.Common.{ℕ, List, [], ◌∷◌, refl, sym, arith}
 use Rattle.vh_lex.specs.Marks.{mark_rows}
-use Rattle.vh_lex.proofs.GroupLemmas.{no-row}
+use Rattle.vh_lex.proofs.ViewsLemmas.{no-row}
 use Rattle.vh_lex.proofs.mark.marks_from.Goals as goal
 
--- the first bytes of the marks
+-- The first bytes of the marks
 firsts : List ℕ
 firsts = 33 ∷ 35 ∷ 37 ∷ 38 ∷ 40 ∷ 41 ∷ 42 ∷ 43 ∷ 44 ∷ 45 ∷ 46 ∷ 47 ∷ 58 ∷ 59 ∷ 60 ∷ 61 ∷ 62 ∷ 63 ∷ 64 ∷ 91 ∷ 93 ∷ 94 ∷ 123 ∷ 124 ∷ 125 ∷ 126 ∷ []
 

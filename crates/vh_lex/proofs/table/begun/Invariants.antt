@@ -1,6 +1,6 @@
 use Rattle.std.proofs.Common.{◌≡◌, map, drop, nat_eq}
 use Rattle.std.specs.List.{find, starts_with}
-use Rattle.vh_lex.specs.Seen.{row_seen}
+use Rattle.vh_lex.specs.Views.{row_seen}
 use Rattle.vh_lex.proofs.table.begun.Given as goal
 
 abbrev pub invariant-loop-spelling : goal.invariant-loop-spelling

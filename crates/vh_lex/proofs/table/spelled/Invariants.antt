@@ -1,7 +1,7 @@
 use Rattle.std.proofs.Common.{◌≡◌, map, drop}
 use Rattle.std.specs.Prelude.{bytes_eq}
 use Rattle.std.specs.List.{find}
-use Rattle.vh_lex.specs.Seen.{row_seen}
+use Rattle.vh_lex.specs.Views.{row_seen}
 use Rattle.vh_lex.proofs.table.spelled.Given as goal
 
 abbrev pub invariant-loop-spelling : goal.invariant-loop-spelling

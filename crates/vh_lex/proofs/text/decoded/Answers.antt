@@ -1,6 +1,6 @@
 use Rattle.std.proofs.Common.{◌-◌, length, arith, rules}
 use Rattle.vh_lex.specs.Texts.{decoded}
-use Rattle.vh_lex.proofs.Decoding.{plain-byte}
+use Rattle.vh_lex.proofs.TextsLemmas.{plain-byte}
 use Rattle.vh_lex.proofs.text.decoded.Goals as goal
 
 pub loop-first-preserved : goal.loop-first-preserved

@@ -1,6 +1,6 @@
 use Rattle.std.proofs.Common.{◌≡◌, ◌-◌, ◌≤◌, length}
 use Rattle.vh_lex.specs.Texts.{decoded}
-use Rattle.vh_lex.proofs.Decoding.{onto}
+use Rattle.vh_lex.proofs.TextsLemmas.{onto}
 use Rattle.vh_lex.proofs.text.decoded.Given as goal
 
 abbrev pub invariant-loop-first : goal.invariant-loop-first

@@ -1,4 +1,4 @@
-use Rattle.vh_lex.proofs.EndLemmas.{answers-end}
+use Rattle.vh_lex.proofs.EndsLemmas.{answers-end}
 use Rattle.vh_lex.proofs.lexer.Lexer.end.Goals as goal
 
 pub returns-clause-text : goal.returns-clause-text

@@ -1,4 +1,4 @@
-use Rattle.vh_lex.proofs.EndLemmas.{answers-file}
+use Rattle.vh_lex.proofs.EndsLemmas.{answers-file}
 use Rattle.vh_lex.proofs.lexer.Lexer.file.Goals as goal
 
 pub returns-clause-text : goal.returns-clause-text

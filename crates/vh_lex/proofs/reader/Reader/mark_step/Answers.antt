@@ -2,7 +2,7 @@ use Rattle.vh_lex.specs.Outcomes.{stop_of}
 use Rattle.vh_lex.specs.declared.piece.Part.TheVariants.{Token}
 use Rattle.vh_lex.specs.declared.piece.Piece.TheVariants.{Kept}
 use Rattle.vh_lex.specs.declared.token.Kind.TheVariants.{Mark}
-use Rattle.vh_lex.proofs.Stepping.{made-went, step-piece}
+use Rattle.vh_lex.proofs.SpellingLemmas.{made-went, step-piece}
 use Rattle.vh_lex.proofs.reader.Reader.mark_step.Goals as goal
 
 pub returns-clause-went : goal.returns-clause-went

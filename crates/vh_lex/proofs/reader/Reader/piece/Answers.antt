@@ -3,7 +3,7 @@ use Rattle.vh_lex.specs.Made.{Made}
 use Rattle.vh_lex.specs.Outcomes.{Went}
 use Rattle.vh_lex.specs.Spelling.{part_read}
 use Rattle.vh_lex.specs.declared.piece.Piece.TheVariants.{Kept}
-use Rattle.vh_lex.proofs.Stepping.{front-read}
+use Rattle.vh_lex.proofs.SpellingLemmas.{front-read}
 use Rattle.vh_lex.proofs.reader.Reader.piece.Goals as goal
 
 pub returns-in-Kept : goal.returns-in-Kept

@@ -1,7 +1,7 @@
 use Rattle.std.proofs.Common.{◌≡◌, ◌-◌, length, take, ◌∙◌, ap, length-take, length-drop, arith}
 use Rattle.vh_lex.specs.Spelling.{read}
 use Rattle.vh_lex.specs.State.{moved}
-use Rattle.vh_lex.proofs.Stepping.{read-more}
+use Rattle.vh_lex.proofs.SpellingLemmas.{read-more}
 use Rattle.vh_lex.proofs.reader.Reader.read.Goals as goal
 
 pub loop-behind-preserved : goal.loop-behind-preserved

@@ -1,7 +1,7 @@
 use Rattle.std.proofs.Common.{refl, sym, ap, ◌∙◌, Ok}
 use Rattle.vh_lex.specs.declared.piece.Piece.TheVariants.{Blank}
 use Rattle.vh_lex.specs.Front.{word_at}
-use Rattle.vh_lex.proofs.Stepping.{front-blank, front-word, step-skips, step-read, step-piece}
+use Rattle.vh_lex.proofs.SpellingLemmas.{front-blank, front-word, step-skips, step-read, step-piece}
 use Rattle.vh_lex.proofs.reader.Reader.step.Goals as goal
 
 pub returns-then-skips : goal.returns-then-skips

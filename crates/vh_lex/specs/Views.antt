@@ -10,22 +10,22 @@ use Rattle.vh_lex.specs.Directives.{Found}
 use Rattle.vh_lex.specs.Front.{Named}
 use Rattle.vh_lex.specs.MacroTexts.{Turn}
 
--- a row of a table
+-- A row of a table
 abbrev pub row_seen : {A : Type 0} → Bor (List ℕ) × A → List ℕ × A
 row_seen row = (row.0.now, row.1)
 
--- the rows of a table whose spelling has this first byte
+-- The rows of a table whose spelling has this first byte
 abbrev pub rows_from : {A : Type 0} → ℕ → List (List ℕ × A) → List (List ℕ × A)
 rows_from first rows = filter (λ row. begins (λ b. b == first) row.0) rows
 
--- a name of the code
+-- A name of the code
 abbrev pub named_seen : HeldNamed → Named
 named_seen n = record { name = n.name.now; len = n.len }
 
--- a turn of the code
+-- A turn of the code
 abbrev pub turn_seen : HeldNext → Turn
 turn_seen t = record { passes = t.passes; mode = t.mode }
 
--- a value in a directive
+-- A value in a directive
 abbrev pub found_seen : HeldFound → Found
 found_seen f = record { value = f.value; len = f.len }

@@ -12,7 +12,7 @@ use Rattle.vh_lex.specs.declared.piece.Part.TheVariants as part
 use Rattle.vh_lex.specs.declared.piece.Piece.{Piece}
 use Rattle.vh_lex.specs.declared.piece.Piece.TheVariants.{Blank, Kept, Fault}
 use Rattle.vh_lex.specs.Front.{front}
-use Rattle.vh_lex.specs.Made.{Macros as Rows, Made}
+use Rattle.vh_lex.specs.Made.{MacroRows as Rows, Made}
 use Rattle.vh_lex.specs.MacroTexts.{piece_then, parts_after, parts_of}
 use Rattle.vh_lex.specs.Directives.{directive_of}
 use Rattle.vh_lex.specs.Spelling.{Around, Making, and_then, with_token, used_by, used_within, part_made, parts_made, with_use, expanded}
@@ -20,7 +20,7 @@ use Rattle.vh_lex.specs.MacroTokens.{Macros, token_of, Gives, nothing, blank, to
 use Rattle.vh_lex.proofs.MacroLemmas.{Knows}
 use Rattle.vh_lex.proofs.FrontLemmas.{IsFine, fine-front}
 
--- skipping bytes is cutting what follows them
+-- Skipping bytes is cutting what follows them
 skipped : (skip : ℕ) (bytes : List ℕ) → parts_after skip bytes ≡ parts_of (drop skip bytes)
 skipped zero [] = refl
 skipped (suc skip) [] = refl

@@ -4,10 +4,10 @@ use Rattle.std.specs.Prelude.{bytes_eq}
 use Rattle.std.specs.Map.{lookup}
 use Rattle.indexmap.specs.IndexMap.{insert_entry}
 use Rattle.vh_lex.specs.declared.piece.Part.{Part}
-use Rattle.vh_lex.specs.Made.{Macros, macro_of, with_macro}
-use Rattle.vh_lex.specs.Texted.{entry_seen, macros_seen}
+use Rattle.vh_lex.specs.Made.{MacroRows, macro_of, with_macro}
+use Rattle.vh_lex.specs.MacroViews.{entry_seen, macros_seen}
 
--- a name that is given a text, or loses it
+-- A name that is given a text, or loses it
 pub seen-insert : {A : Type 0} (eq : Vec ℕ A → Vec ℕ A → Bool) → ((x y : Vec ℕ A) → eq x y ≡ bytes_eq x.items y.items)
     → (es : List (Vec ℕ A × Option (List Part))) (k : Vec ℕ A) (v : Option (List Part)) → macros_seen (insert_entry eq es k v) ≡ with_macro k.items v (macros_seen es)
 seen-insert eq same [] k v = refl
@@ -21,7 +21,7 @@ seen-insert {A} eq same (e ∷ es) k v = at-first (eq k e.0) (bytes_eq k.items e
     at-first true false e es k v more same h = cc
     at-first false true e es k v more same h = cc
 
--- nothing, or what is there
+-- Nothing, or what is there
 abbrev pub flat : Option (Option (List Part)) → Option (List Part)
 flat None = None
 flat (Some o) = o
@@ -35,7 +35,7 @@ seen-get {A} name (e ∷ es) = at-first (bytes_eq name e.0.items) e (lookup (λ 
     at-first true e more rest h = refl
     at-first false e more rest h = h
 
--- what a look-up in the table gives
-pub found-text : {A : Type 0} (name : List ℕ) (es : List (Vec ℕ A × Option (List Part))) (seen : Macros) (o : Option (Option (List Part))) → macros_seen es ≡ seen
+-- What a look-up in the table gives
+pub found-text : {A : Type 0} (name : List ℕ) (es : List (Vec ℕ A × Option (List Part))) (seen : MacroRows) (o : Option (Option (List Part))) → macros_seen es ≡ seen
     → o ≡ lookup (λ k. bytes_eq name k.items) es → flat o ≡ macro_of name seen
 found-text name es seen o view e = ap flat e ∙ sym (seen-get name es) ∙ ap (macro_of name) view

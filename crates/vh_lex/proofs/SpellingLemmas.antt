@@ -18,14 +18,14 @@ use Rattle.vh_lex.specs.Outcomes.{Makes, Went, stop_of}
 use Rattle.vh_lex.specs.State.{State, moved}
 use Rattle.vh_lex.specs.Spelling.{Stop, made_in, with_token, skipped, part_read, piece_read, step, step_then, read_after, read}
 
--- in skipped text
+-- In skipped text
 pub step-skips : (bytes : List ℕ) (s t : State) (result : Result ℕ StopOf) → skips s.conditionals ≡ true → Went (skipped bytes s) result t → Went (step bytes s) result t
 step-skips bytes s t result e h = subst (λ (o : Step). Went o result t) (sym (is-skipped e)) h
   where
     is-skipped : skips s.conditionals ≡ true → step bytes s ≡ skipped bytes s
     is-skipped e = rw e refl
 
--- what bytes begin with, by their first one
+-- What bytes begin with, by their first one
 pub front-blank : (byte : ℕ) (behind bytes : List ℕ) → bytes ≡ byte ∷ behind → is_space byte ≡ true → front bytes ≡ piece.Blank (prefix_len is_space bytes)
 front-blank byte behind bytes same f = rw same (first f)
   where
@@ -38,7 +38,7 @@ front-word byte behind bytes same f g = rw same (first f g)
     first : is_space byte ≡ false → is_name_start byte ≡ true → front (byte ∷ behind) ≡ word_at (byte ∷ behind)
     first f g = rw (f, g) refl
 
--- in text that is read
+-- In text that is read
 pub step-read : (bytes : List ℕ) (s t : State) (result : Result ℕ StopOf) → skips s.conditionals ≡ false → Went (piece_read (front bytes) bytes s) result t
     → Went (step bytes s) result t
 step-read bytes s t result e h = subst (λ (o : Step). Went o result t) (sym (is-read e)) h
@@ -46,7 +46,7 @@ step-read bytes s t result e h = subst (λ (o : Step). Went o result t) (sym (is
     is-read : skips s.conditionals ≡ false → step bytes s ≡ piece_read (front bytes) bytes s
     is-read e = rw e refl
 
--- where this piece stands there
+-- Where this piece stands there
 pub front-read : (bytes : List ℕ) (s t : State) (p : Piece) (result : Result ℕ StopOf) → front bytes ≡ p → Went (piece_read p bytes s) result t
     → Went (piece_read (front bytes) bytes s) result t
 front-read bytes s t p result f h = subst (λ (q : Piece). Went (piece_read q bytes s) result t) (sym f) h
@@ -55,14 +55,14 @@ pub step-piece : (bytes : List ℕ) (s t : State) (p : Piece) (result : Result �
     → Went (piece_read p bytes s) result t → Went (step bytes s) result t
 step-piece bytes s t p result e f h = step-read bytes s t result e (front-read bytes s t p result f h)
 
--- passing over bytes is reading what follows them
+-- Passing over bytes is reading what follows them
 pub passed : (skip : ℕ) (bytes : List ℕ) (s : State) → read_after skip bytes s ≡ read (drop skip bytes) s
 passed zero [] s = refl
 passed zero (byte ∷ bytes) s = refl
 passed (suc skip) [] s = refl
 passed (suc skip) (byte ∷ bytes) s = passed skip bytes s
 
--- a piece more is read
+-- A piece more is read
 pub read-more : (all : Result State Stop) (byte : ℕ) (bytes rest : List ℕ) (s t : State) (len : ℕ) (place : Place) → rest ≡ byte ∷ bytes → step rest s ≡ Ok (t, len) → place ≡ moved (take len rest) s.place
     → all ≡ read rest s → all ≡ read (drop (len - 1) bytes) (record t { place = place })
 read-more all byte bytes rest s t len place same e f h =
@@ -71,7 +71,7 @@ read-more all byte bytes rest s t len place same e f h =
     ∙ passed (len - 1) bytes (record t { place = moved (take len (byte ∷ bytes)) s.place })
     ∙ ap (λ (p : Place). read (drop (len - 1) bytes) (record t { place = p })) (ap (λ (r : List ℕ). moved (take len r) s.place) (sym same) ∙ sym f)
 
--- what was made is the step of a token
+-- What was made is the step of a token
 pub made-went : (kind : Kind) (bytes : List ℕ) (s : State) (m : Made) (outcome : Result (Unit {0}) Halt) → Makes (with_token kind s.place s.made) outcome m
     → Went (part_read (part.Token kind) 1 bytes s) (stop_of 1 outcome) (record s { made = m })
 made-went kind bytes s m (Ok done) h = ap (made_in s 1) h

@@ -13,7 +13,7 @@ drop-front zero xs ys h = refl
 drop-front (suc n) [] ys h = absurd (omega arith)
 drop-front (suc n) (x ∷ xs) ys h = drop-front n xs ys (omega arith)
 
--- a run that ends there
+-- A run that ends there
 pub run-same : (p : ℕ → Bool) (xs ys : List ℕ) → prefix_len p (xs ++ ys) ≤ length xs → prefix_len p xs ≡ prefix_len p (xs ++ ys)
 run-same p [] ys h = omega arith
 run-same p (x ∷ xs) ys h = by (p x) refl (λ k. run-same p xs ys k) h
@@ -23,7 +23,7 @@ run-same p (x ∷ xs) ys h = by (p x) refl (λ k. run-same p xs ys k) h
     by true e g k = ap (λ n. 1 + n) (g (omega arith))
     by false e g k = refl
 
--- a run that goes on behind them
+-- A run that goes on behind them
 pub run-whole : (p : ℕ → Bool) (xs ys : List ℕ) → (prefix_len p xs ≡ prefix_len p (xs ++ ys)) ⊎ (prefix_len p xs ≡ length xs)
 run-whole p [] ys = inr refl
 run-whole p (x ∷ xs) ys = by (p x) (run-whole p xs ys)
@@ -46,7 +46,7 @@ pub drop-all : (xs : List ℕ) → drop (length xs) xs ≡ []
 drop-all [] = refl
 drop-all (x ∷ xs) = drop-all xs
 
--- what stands at the front
+-- What stands at the front
 pub begins-front : (p : ℕ → Bool) (xs ys : List ℕ) → begins p xs ≡ true → begins p (xs ++ ys) ≡ true
 begins-front p [] ys e = cc
 begins-front p (x ∷ xs) ys e = e

@@ -8,7 +8,7 @@ use Rattle.vh_lex.specs.Lexed.{File, Lexed, reading, refused, exhausted, answer_
 use Rattle.vh_lex.specs.Ends.{tokens_of, IsNoText, AnswersEnd, AnswersFile}
 use Rattle.vh_lex.proofs.ChainLemmas.{spelled_has_text, fault_stops}
 use Rattle.vh_lex.proofs.CoverLemmas.{never_both}
-use Rattle.vh_lex.proofs.TextLemmas.{one_text}
+use Rattle.vh_lex.proofs.ReachedLemmas.{one_text}
 
 no-text : (files : List File) (fault : DesignFault) (place : Place) → Refuses files fault place → IsNoText files fault place
 no-text files fault place h =
@@ -28,7 +28,7 @@ answers-end l (Ok done) h files e =
 answers-end l (Err (Refused fault place)) h files e = no-text files fault place (ap end_of e ∙ sym h)
 answers-end l (Err NoMemory) h files e = tt
 
--- where the files so far are refused, they are so at their end
+-- Where the files so far are refused, they are so at their end
 refused-end : (l : Lexed) (fault : DesignFault) (place : Place) → Err (Refused fault place) ≡ answer_of l → end_of l ≡ Err (Refused fault place)
 refused-end (reading first s) fault place h = cc
 refused-end (refused f p) fault place h = sym h

@@ -6,14 +6,14 @@ use Rattle.vh_lex.specs.declared.piece.Piece.TheVariants.{Blank, Kept}
 use Rattle.vh_lex.specs.Front.{front}
 use Rattle.vh_lex.specs.MacroTexts.{piece_then, parts_after, parts_of}
 
--- skipping bytes is cutting what follows them
+-- Skipping bytes is cutting what follows them
 pub skipped : (skip : ℕ) (bytes : List ℕ) → parts_after skip bytes ≡ parts_of (drop skip bytes)
 skipped zero [] = refl
 skipped (suc skip) [] = refl
 skipped zero (byte ∷ bytes) = refl
 skipped (suc skip) (byte ∷ bytes) = skipped skip bytes
 
--- by what the bytes begin with
+-- By what the bytes begin with
 first-piece : (byte : ℕ) (bytes : List ℕ) (piece : Piece) → piece ≡ front (byte ∷ bytes) → parts_of (byte ∷ bytes) ≡ piece_then piece (λ skip. parts_after skip bytes)
 first-piece byte bytes piece e = ap (λ (p : Piece). piece_then p (λ skip. parts_after skip bytes)) (sym e)
 

@@ -23,21 +23,21 @@ pub and_then-ok : (o : Making) → and_then o (λ m. Ok m) ≡ o
 and_then-ok (Ok m) = refl
 and_then-ok (Err fault) = refl
 
--- a text at the end is the innermost
+-- A text at the end is the innermost
 pub frames-push : (fs : List (Bor (List Part))) (f : Bor (List Part)) → frames_seen (fs ++ f ∷ []) ≡ f.now ∷ frames_seen fs
 frames-push fs f = ap reverse (map-append (λ frame. frame.now) fs (f ∷ [])) ∙ reverse-append (map (λ frame. frame.now) fs) (f.now ∷ [])
 
--- a part that gives something is read
+-- A part that gives something is read
 pub part-goes : (around : Around) (p : Part) (ps : List Part) (below : List (List Part)) (m n : Made) → part_made (used_in around (length (ps ∷ below))) around p m ≡ Ok n
     → finish around ((p ∷ ps) ∷ below) m ≡ finish around (ps ∷ below) n
 part-goes around p ps below m n e = ap (λ (o : Making). and_then (and_then o (parts_made (used_in around (length (ps ∷ below))) around ps)) (finish around below)) e
 
--- a part that is refused
+-- A part that is refused
 pub part-stops : (around : Around) (p : Part) (ps : List Part) (below : List (List Part)) (m : Made) (fault : DesignFault) → part_made (used_in around (length (ps ∷ below))) around p m ≡ Err fault
     → finish around ((p ∷ ps) ∷ below) m ≡ Err fault
 part-stops around p ps below m fault e = ap (λ (o : Making). and_then (and_then o (parts_made (used_in around (length (ps ∷ below))) around ps)) (finish around below)) e
 
--- the use of a macro
+-- The use of a macro
 pub use-pauses : (around : Around) (name : List ℕ) (text ps : List Part) (below : List (List Part)) (m : Made) → is_some (directive_of name) ≡ false → macro_of name around.macros ≡ Some text
     → finish around ((part.Use name ∷ ps) ∷ below) m ≡ and_then (used_in around (length (ps ∷ below)) text m) (finish around (ps ∷ below))
 use-pauses around name text ps below m e h =
@@ -58,7 +58,7 @@ use-stops around name ps below m h =
     missing true text inner around name m e h = refl
     missing false text inner around name m e h = rw (e ∙ h) refl
 
--- a macro is used at a level that is left
+-- A macro is used at a level that is left
 pub used-deep : (around : Around) (depth : ℕ) (text : List Part) (m : Made) → 64 ≤ depth → used_in around depth text m ≡ Err L3
 unfolding expanded
 used-deep around depth text m h = let e : most_levels - depth ≡ 0 = omega arith in rw e refl
@@ -71,18 +71,18 @@ used-level around depth text m h = let e : most_levels - depth ≡ suc (most_lev
 pub frames-length : (fs : List (Bor (List Part))) → length (frames_seen fs) ≡ length fs
 frames-length fs = length-reverse (map (λ frame. frame.now) fs) ∙ length-map fs (λ frame. frame.now)
 
--- a use above the last level
+-- A use above the last level
 pub deep-stops : (o : Making) (around : Around) (depth : ℕ) (text : List Part) (m : Made) (rest : Made → Making) → 64 ≤ depth → o ≡ and_then (used_in around depth text m) rest → o ≡ Err L3
 deep-stops o around depth text m rest h e = e ∙ ap (λ (u : Making). and_then u rest) (used-deep around depth text m h)
 
--- a use that is one too many
+-- A use that is one too many
 pub count-stops : (o : Making) (around : Around) (depth : ℕ) (text : List Part) (m n k : Made) (rest : Made → Making) (e : Halt) → depth < 64 → o ≡ and_then (used_in around depth text m) rest
     → Makes (with_use m) (Err e) n → Makes o (Err e) k
 count-stops o around depth text m n k rest (halt.Fault fault) low e h =
     e ∙ ap (λ (u : Making). and_then u rest) (used-level around depth text m low ∙ ap (λ (u : Making). and_then u (parts_made (used_in around (suc depth)) around text)) h)
 count-stops o around depth text m n k rest halt.NoMemory low e h = tt
 
--- a use whose text is read now
+-- A use whose text is read now
 pub use-begins : (o : Making) (around : Around) (fs new : List (Bor (List Part))) (f : Bor (List Part)) (m n : Made) → length fs < 64
     → o ≡ and_then (used_in around (length fs) f.now m) (finish around (frames_seen fs)) → with_use m ≡ Ok n → new ≡ fs ++ f ∷ [] → o ≡ finish around (frames_seen new) n
 use-begins o around fs new f m n low e h same =
@@ -90,7 +90,7 @@ use-begins o around fs new f m n low e h same =
     ∙ ap (λ (d : ℕ). and_then (parts_made (used_in around (suc d)) around f.now n) (finish around (frames_seen fs))) (sym (frames-length fs))
     ∙ ap (λ (frames : List (List Part)). finish around frames n) (sym (ap frames_seen same ∙ frames-push fs f))
 
--- a text that is not read to its end
+-- A text that is not read to its end
 pub text-stops : (o : Making) (around : Around) (old new : List (List Part)) (m n k : Made) (e : Halt) → o ≡ finish around old m → Pauses around old m (Err e) new n → Makes o (Err e) k
 text-stops o around old new m n k (halt.Fault fault) e h = e ∙ h
 text-stops o around old new m n k halt.NoMemory e h = tt

@@ -12,13 +12,13 @@ use Rattle.vh_lex.specs.declared.piece.Piece.{Piece}
 use Rattle.vh_lex.specs.declared.piece.Piece.TheVariants.{Kept, Fault}
 use Rattle.vh_lex.specs.Bytes.{begins, is_decimal, is_based_letter, is_question, is_based, is_base_ten, is_base, is_sign_mark, is_exponent, is_plus_or_minus}
 use Rattle.vh_lex.specs.Numbers.{begins_fraction, begins_exponent, begins_real, base_len_behind, base_len, digits_len, spaced_digits_len, based_len_by, based_len, valued, number_of, number_by, behind_digits, number_at}
-use Rattle.vh_lex.proofs.RunLemmas.{take-front, drop-front, run-same, run-whole, run-inside, drop-all, begins-front, begins-same, or-more, not-front}
+use Rattle.vh_lex.proofs.BytesLemmas.{take-front, drop-front, run-same, run-whole, run-inside, drop-all, begins-front, begins-same, or-more, not-front}
 use Rattle.vh_lex.proofs.LongLemmas.{Len, len-is}
 
 drop-more : (n m : ℕ) (xs : List ℕ) → drop m (drop n xs) ≡ drop (n + m) xs
 drop-more n m xs = drop-drop m n xs
 
--- a fraction or an exponent
+-- A fraction or an exponent
 second-front : (p : ℕ → Bool) (xs ys : List ℕ) → begins p (drop 1 xs) ≡ true → begins p (drop 1 (xs ++ ys)) ≡ true
 second-front p [] ys e = cc
 second-front p (x ∷ xs) ys e = begins-front p xs ys e
@@ -47,7 +47,7 @@ real-front xs ys e =
     (second-front is_plus_or_minus xs ys) (third-front is_digit xs ys))))
     e
 
--- a base
+-- A base
 abbrev three : Bool → ℕ
 three t = if t then 3 else 0
 
@@ -85,7 +85,7 @@ base-same (x ∷ xs) ys h = by (nat_eq x 39) h
     by true h = behind-same xs ys (omega arith)
     by false h = refl
 
--- the digits behind a base
+-- The digits behind a base
 digits-same : (t : Bool) (xs ys : List ℕ) → digits_len t (xs ++ ys) ≤ length xs → digits_len t xs ≡ digits_len t (xs ++ ys)
 digits-same false xs ys h = run-same is_based xs ys h
 digits-same true [] ys h = omega arith
@@ -143,7 +143,7 @@ none-based xs ys h = by (nat_eq (base_len (xs ++ ys)) 0) refl h
         ap (λ m. based_len_by m xs) (base-same xs ys (omega arith) ∙ nothing)
     by false e h = let some = more-than (base_len (xs ++ ys)) e in absurd (omega arith)
 
--- no base behind the white space, wherever it ends
+-- No base behind the white space, wherever it ends
 no-base : (xs ys : List ℕ) → based_len (drop (prefix_len is_space (xs ++ ys)) (xs ++ ys)) ≡ 0 → based_len (drop (prefix_len is_space xs) xs) ≡ 0
 no-base xs ys h = by (run-whole is_space xs ys)
   where
@@ -163,7 +163,7 @@ not-less n e = grind (arith, nat_tests)
 less : (n : ℕ) → nat_lt 0 n ≡ true → 1 ≤ n
 less n e = grind (arith, nat_tests)
 
--- by what stands behind the digits
+-- By what stands behind the digits
 number-case : (xs ys : List ℕ) (p : Part) (len digits spaces based : ℕ) → prefix_len is_decimal (xs ++ ys) ≡ digits → prefix_len is_space (drop digits (xs ++ ys)) ≡ spaces
     → based_len (drop (digits + spaces) (xs ++ ys)) ≡ based → len ≤ length xs → (t : Bool) → begins_real (drop digits (xs ++ ys)) ≡ t → (u : Bool) → nat_lt 0 based ≡ u → (v : Bool) → nat_lt 0 digits ≡ v
     → (if t then Fault L4 0 else (if u then number_of (xs ++ ys) (nat_lt 0 digits) (digits + spaces + based) else (if v then number_of (xs ++ ys) false digits else Fault L1 0))) ≡ Kept p len

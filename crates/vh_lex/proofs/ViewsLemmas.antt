@@ -9,7 +9,7 @@ use Rattle.vh_lex.specs.declared.keyword.Keyword.{Keyword}
 use Rattle.vh_lex.specs.Bytes.{begins}
 use Rattle.vh_lex.specs.Marks.{mark_rows, mark_at}
 use Rattle.vh_lex.specs.Keywords.{keyword_rows, keyword_of}
-use Rattle.vh_lex.specs.Seen.{rows_from}
+use Rattle.vh_lex.specs.Views.{rows_from}
 
 both : (a b : Bool) → (a && b) ≡ true → (a ≡ true) × (b ≡ true)
 both true b e = (refl, e)
@@ -18,7 +18,7 @@ both false b e = cc
 apart : (x b c : ℕ) → b ≢ c → nat_eq x c ≡ true → nat_eq x b ≡ false
 apart x b c h e = grind (arith, nat_tests)
 
--- a byte that is none of these is not what one of them is
+-- A byte that is none of these is not what one of them is
 none-of : (x b : ℕ) (cs : List ℕ) → AllByRecursion (λ c. b ≢ c) cs → list_any (λ c. nat_eq x c) cs ≡ true → nat_eq x b ≡ false
 none-of x b [] h e = cc
 none-of x b (c ∷ cs) h e = first (nat_eq x c) refl (λ f. none-of x b cs h.1 f) e
@@ -31,7 +31,7 @@ not-first : (x : List ℕ) (b : ℕ) (cs : List ℕ) → AllByRecursion (λ c. b
 not-first [] b cs h e = refl
 not-first (x ∷ xs) b cs h e = none-of x b cs h e
 
--- no row has a first byte that is none of those of the rows
+-- No row has a first byte that is none of those of the rows
 pub no-row : {A : Type 0} (b : ℕ) (cs : List ℕ) (rows : List (List ℕ × A)) → AllByRecursion (λ c. b ≢ c) cs
     → list_all (λ row. list_any (λ c. begins (λ d. nat_eq d c) row.0) cs) rows ≡ true → rows_from b rows ≡ []
 no-row b cs [] h all = refl
@@ -40,7 +40,7 @@ no-row {A} b cs (row ∷ rows) h all =
     ap (λ t. cond t (row ∷ rows_from b rows) (rows_from b rows)) (not-first row.0 b cs h parts.0)
     ∙ no-row b cs rows h parts.1
 
--- what is found among all rows is found among those that have the first byte, since each has one
+-- What is found among all rows is found among those that have the first byte, since each has one
 pub find-from : {A : Type 0} (p : List ℕ × A → Bool) (b : ℕ) (rows : List (List ℕ × A))
     → ((row : List ℕ × A) → nat_lt 0 (length row.0) ≡ true → p row ≡ true → begins (λ d. nat_eq d b) row.0 ≡ true)
     → list_all (λ row. nat_lt 0 (length row.0)) rows ≡ true → find p (rows_from b rows) ≡ find p rows
@@ -56,17 +56,17 @@ find-from {A} p b (row ∷ rows) h all =
     first false e true f g rest = let k = sym e ∙ g f in cc
     first false e false f g rest = rest
 
--- a word that is a row's
+-- A word that is a row's
 pub spelled-first : (b : ℕ) (bs spelling : List ℕ) → bytes_eq spelling (b ∷ bs) ≡ true → begins (λ d. nat_eq d b) spelling ≡ true
 spelled-first b bs [] e = cc
 spelled-first b bs (x ∷ xs) e = (both (nat_eq x b) (bytes_eq xs bs) e).0
 
--- bytes that begin with a row's
+-- Bytes that begin with a row's
 pub begun-first : (b : ℕ) (bs spelling : List ℕ) → nat_lt 0 (length spelling) ≡ true → starts_with nat_eq (b ∷ bs) spelling ≡ true → begins (λ d. nat_eq d b) spelling ≡ true
 begun-first b bs [] n e = cc
 begun-first b bs (x ∷ xs) n e = (both (nat_eq x b) (starts_with nat_eq bs xs) e).0
 
--- so it is with the marks
+-- So it is with the marks
 pub mark-from : (bytes : List ℕ) (b : ℕ) (bs : List ℕ) (rows : List (List ℕ × Mark)) (found : Option (List ℕ × Mark)) → bytes ≡ b ∷ bs → rows ≡ rows_from b mark_rows
     → found ≡ find (λ row. starts_with nat_eq bytes row.0) rows → found ≡ mark_at bytes
 unfolding mark_rows
@@ -80,7 +80,7 @@ unfolding mark_rows
 no-mark [] e = refl
 no-mark (b ∷ bs) e = cc
 
--- and with the reserved words
+-- And with the reserved words
 pub keyword-from : (bytes : List ℕ) (b : ℕ) (bs : List ℕ) (rows : List (List ℕ × Keyword)) (found : Option Keyword) → bytes ≡ b ∷ bs → rows ≡ rows_from b keyword_rows
     → found ≡ option_map (λ row. row.1) (find (λ row. bytes_eq row.0 bytes) rows) → found ≡ keyword_of bytes
 unfolding keyword_rows

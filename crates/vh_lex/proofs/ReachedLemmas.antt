@@ -5,7 +5,7 @@ use Rattle.vh_lex.specs.declared.token.Token.{Token}
 use Rattle.vh_lex.specs.declared.conditional.Conditional.{Conditional}
 use Rattle.vh_lex.specs.declared.conditional.Branch.{Branch}
 use Rattle.vh_lex.specs.declared.conditional.Branch.TheVariants as branch
-use Rattle.vh_lex.specs.Made.{Macros as Rows}
+use Rattle.vh_lex.specs.Made.{MacroRows as Rows}
 use Rattle.vh_lex.specs.Conditionals.{is_skipped, skips}
 use Rattle.vh_lex.specs.Directives.{next_branch}
 use Rattle.vh_lex.specs.Spelling.{read}
@@ -14,13 +14,13 @@ use Rattle.vh_lex.specs.SourceText.{HasText, At, Reads, read_end, read_piece, re
 use Rattle.vh_lex.specs.Reached.{ReadsTo, read_here, in_chosen, in_sought, in_others, in_seeks, SkipsTo, skip_here, skip_in, skip_others, OthersTo, other_in, other_past, other_in_else, SeeksTo, seek_in, seek_others, seek_skipped, seek_past, seek_in_else}
 use Rattle.vh_lex.specs.Laws.{OneList}
 use Rattle.vh_lex.specs.TextLaws.{TextIsSpelled}
-use Rattle.vh_lex.proofs.StackLemmas.{skips-last}
+use Rattle.vh_lex.proofs.ConditionalsLemmas.{skips-last}
 use Rattle.vh_lex.proofs.MacroLemmas.{Knows, knows-none}
 use Rattle.vh_lex.proofs.StepLemmas.{state_of, lexed_in, outcome, Leads, leads-then, here}
 use Rattle.vh_lex.proofs.GoesLemmas.{goes-leads}
 use Rattle.vh_lex.proofs.CondLemmas.{passes-leads, begun, turned, elsed, if-leads, elsif-leads, else-leads, endif-leads}
 
--- the branch of the innermost one
+-- The branch of the innermost one
 skips-as : (cs : List Conditional) (c : Conditional) (b : Branch) → c.branch ≡ b → skips (cs ++ c ∷ []) ≡ is_skipped b
 skips-as cs c b e = skips-last cs c ∙ ap is_skipped e
 
@@ -178,7 +178,7 @@ mutual
       let l = (else-leads i o rows cs c h k).leads in
       to-then l (reads-to x l.first l.macros (cs ++ d ∷ []) l.knows (skips-as cs d branch.Read (ap (λ b. next_branch b true) f)))
 
--- at the end of the last file nothing is left
+-- At the end of the last file nothing is left
 at-end : (o : Option Place) (a : At) (rows : Rows) (cs : List Conditional) → a.bytes ≡ [] → a.files ≡ [] → outcome o a rows cs ≡ reading o (state_of a rows cs)
 at-end o a rows cs e f = ap (λ bytes. files_after (lexed_in o (read bytes (state_of a rows cs))) a.files) e ∙ ap (λ files. files_after (reading o (state_of a rows cs)) files) f
 

@@ -2,7 +2,7 @@
 use Rattle.std.proofs.Common.{◌≡◌, ℕ, zero, suc, ◌+◌, List, [], ◌∷◌, Option, Some, None, length, drop, refl, ap, sym, ◌∙◌, arith}
 use Rattle.vh_lex.specs.Directives.{blank_at, gap_then, gap_after, gap_len}
 
--- passing over bytes is going on behind them
+-- Passing over bytes is going on behind them
 pub gap-passed : (skip : ℕ) (bytes : List ℕ) → gap_after skip bytes + length (drop skip bytes) ≡ length bytes + gap_len (drop skip bytes)
 gap-passed zero [] = refl
 gap-passed zero (byte ∷ bytes) = omega arith

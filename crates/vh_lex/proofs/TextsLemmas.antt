@@ -5,11 +5,11 @@ use Rattle.vh_lex.specs.declared.text.Escape.{Escape}
 use Rattle.vh_lex.specs.Bytes.{one_more}
 use Rattle.vh_lex.specs.Texts.{Decoded, preceded, escaped_then, decoded, decoded_after, escape_at}
 
--- decoded bytes before those that follow, spelled by so many bytes
+-- Decoded bytes before those that follow, spelled by so many bytes
 abbrev pub onto : ℕ → List ℕ → Decoded → Decoded
 onto n front d = record { bytes = front ++ d.bytes; wrong = option_map (λ k. n + k) d.wrong }
 
--- passing over bytes is decoding what follows them
+-- Passing over bytes is decoding what follows them
 pub passed : (skip : ℕ) (bytes : List ℕ) → skip ≤ length bytes → decoded_after skip bytes ≡ onto skip [] (decoded (drop skip bytes))
 passed zero bytes h = ap (λ (o : Option ℕ). record { bytes = (decoded bytes).bytes; wrong = o }) (same (decoded bytes).wrong)
   where
@@ -42,12 +42,12 @@ onto-onto n m front d = same-decoded _ _ _ _ refl (more d.wrong)
     more None = refl
     more (Some k) = ap Some (omega arith)
 
--- a byte that is no backslash
+-- A byte that is no backslash
 pub plain-byte : (n m : ℕ) (front : List ℕ) (byte : ℕ) (bytes : List ℕ) (all : Decoded) → nat_eq byte 92 ≡ false → m ≡ n + 1
     → all ≡ onto n front (decoded (byte ∷ bytes)) → all ≡ onto m (front ++ byte ∷ []) (decoded bytes)
 plain-byte n m front byte bytes all e same h = rw same (rw e at h ∙ onto-preceded n front byte (decoded bytes))
 
--- an escape
+-- An escape
 pub escape-byte : (n m : ℕ) (front : List ℕ) (bytes : List ℕ) (escape : Escape) (all : Decoded) → escape_at bytes ≡ Some escape → escape.len ≤ length bytes → m ≡ n + 1 + escape.len
     → all ≡ onto n front (decoded (92 ∷ bytes)) → all ≡ onto m (front ++ escape.byte ∷ []) (decoded (drop escape.len bytes))
 escape-byte n m front bytes escape all e long same h =

@@ -22,7 +22,7 @@ one_list files tokens others h k = one-list (files_read files) tokens others h.0
 pub never_both : NeverBoth Spells
 never_both files tokens fault place h k = let e = sym h.0 ∙ k in cc
 
--- want of memory is no reading of files
+-- Want of memory is no reading of files
 abbrev pub IsKnown : Lexed → Type 0
 IsKnown (reading first s) = Unit {0}
 IsKnown (refused fault place) = Unit {0}
