@@ -51,7 +51,7 @@ fn opens_escape(escaped: bool, byte: u8) -> bool
     !escaped && byte == b'\\'
 }
 
-/// What stands for a value.
+// What stands for a value.
 pub(crate) fn atom(alloc: Global, atom: tree::Atom<'_>) -> Result<Atom, NoMemory>
     ensures { IfOk result (λ a. a ≡ atom_laid (atom_seen atom.entry)) }
 {
@@ -70,7 +70,7 @@ pub(crate) fn atom(alloc: Global, atom: tree::Atom<'_>) -> Result<Atom, NoMemory
     }
 }
 
-/// One that may be missing.
+// One that may be missing.
 pub(crate) fn atom_if(
     alloc: Global,
     value: Option<tree::Atom<'_>>,
@@ -102,7 +102,7 @@ fn name_if(alloc: Global, bytes: Option<&[u8]>) -> Result<Option<Short>, NoMemor
     }
 }
 
-/// A test.
+// A test.
 pub(crate) fn test(alloc: Global, test: tree::Test<'_>) -> Result<Test, NoMemory>
     ensures { IfOk result (λ t. t ≡ test_laid (test_seen test.entry)) }
 {
@@ -113,7 +113,7 @@ pub(crate) fn test(alloc: Global, test: tree::Test<'_>) -> Result<Test, NoMemory
     })
 }
 
-/// An order.
+// An order.
 pub(crate) fn form(alloc: Global, order: &tree::Order<'_>) -> Result<Form, NoMemory>
     ensures { IfOk result (λ f. f ≡ form_laid (order_seen order.now)) }
 {

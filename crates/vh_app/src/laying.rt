@@ -14,7 +14,7 @@ use vh_base::NoMemory;
 use vh_script as tree;
 use vh_script::{App, Command};
 
-/// The steps so far, and the procedures with their starts.
+// The steps so far, and the procedures with their starts.
 #[derive(Drop)]
 pub(crate) struct Laying {
     pub procedures: Vec<Procedure>,
@@ -181,8 +181,8 @@ fn add_procedures(
     Ok(())
 }
 
-/// The script of a tree. It goes over the tree once, and once more for each block around a
-/// command.
+// The script of a tree. It goes over the tree once, and once more for each block around a
+// command.
 pub(crate) fn script_of(alloc: Global, app: &App<'_>) -> Result<Script, NoMemory>
     ensures { IfOk result (λ s. s ≡ script_laid (app_seen app.now)) }
 {

@@ -6,7 +6,7 @@ use indexmap::IndexMap;
 use std::alloc::Global;
 use vh_base::NoMemory;
 
-/// The numbers of procedures by their names: for each name that of the first.
+// The numbers of procedures by their names: for each name that of the first.
 pub(crate) fn numbers_of(
     alloc: Global,
     procedures: &[Procedure],

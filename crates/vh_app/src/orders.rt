@@ -38,8 +38,8 @@ impl Script {
         }
     }
 
-    /// The order of a form, which shares its texts. It takes memory where a text is made of a number, a
-    /// handle or an error.
+    // The order of a form, which shares its texts. It takes memory where a text is made of a number, a
+    // handle or an error.
     pub(crate) fn order(
         &self,
         alloc: Global,

@@ -40,7 +40,7 @@ impl Model for Script {
 }
 
 impl Script {
-    /// A script of these parts. It takes memory for each name of a procedure.
+    // A script of these parts. It takes memory for each name of a procedure.
     pub(crate) fn new(
         alloc: Global,
         name: Short,
@@ -72,7 +72,7 @@ impl Script {
         &self.name
     }
 
-    /// How many variables it has.
+    // How many variables it has.
     pub(crate) fn variable_count(&self) -> usize
         ensures { result ≡ self.now.variables }
     {

@@ -6,7 +6,7 @@ ghost use Rattle.vh_script.specs.Views.{command_tree};
 use vh_base::NoMemory;
 use vh_script::Command;
 
-/// So many steps and so many more, where they can be numbered.
+// So many steps and so many more, where they can be numbered.
 pub(crate) fn plus(steps: usize, more: usize) -> Result<usize, NoMemory>
     ensures { IfOk result (λ n. n ≡ steps + more) }
 {
@@ -36,7 +36,7 @@ fn size_of(command: &Command<'_>) -> Result<usize, NoMemory>
     }
 }
 
-/// How many the commands in a row have.
+// How many the commands in a row have.
 #[cycle(size)]
 pub(crate) fn sizes_of(all: &[Command<'_>]) -> Result<usize, NoMemory>
     ensures { IfOk result (λ n. n ≡ sizes_of (commands (map command_tree all.now))) }

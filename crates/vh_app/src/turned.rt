@@ -7,7 +7,7 @@ use itoa::Buffer;
 use std::alloc::Global;
 use vh_base::{Answer, Code, HandleNo, NoMemory, Short};
 
-/// The handle that an answer is where a handle is needed.
+// The handle that an answer is where a handle is needed.
 pub(crate) fn handle_in(answer: &Answer) -> Option<HandleNo>
     ensures { result ≡ spec.handle_in answer.now }
 {
@@ -18,7 +18,7 @@ pub(crate) fn handle_in(answer: &Answer) -> Option<HandleNo>
     }
 }
 
-/// The number that it is where a number is needed.
+// The number that it is where a number is needed.
 pub(crate) fn number_in(answer: &Answer) -> u64
     ensures { result ≡ spec.number_in answer.now }
 {
@@ -28,7 +28,7 @@ pub(crate) fn number_in(answer: &Answer) -> u64
     }
 }
 
-/// The text that it is where a text is needed.
+// The text that it is where a text is needed.
 pub(crate) fn text_in(alloc: Global, answer: &Answer) -> Result<Short, NoMemory>
     ensures { IfOk result (λ text. text ≡ spec.text_in answer.now) }
 {
@@ -41,14 +41,14 @@ pub(crate) fn text_in(alloc: Global, answer: &Answer) -> Result<Short, NoMemory>
     }
 }
 
-/// The empty text.
+// The empty text.
 pub(crate) fn empty(alloc: Global) -> Result<Short, NoMemory>
     ensures { IfOk result (λ text. text ≡ []) }
 {
     short(alloc, b"")
 }
 
-/// The digits of a number.
+// The digits of a number.
 pub(crate) fn number_text(alloc: Global, number: u64) -> Result<Short, NoMemory>
     ensures { IfOk result (λ text. text ≡ decimal number) }
 {
@@ -56,7 +56,7 @@ pub(crate) fn number_text(alloc: Global, number: u64) -> Result<Short, NoMemory>
     short(alloc, buffer.format(number).as_bytes())
 }
 
-/// `hN`.
+// `hN`.
 pub(crate) fn handle_text(alloc: Global, handle: HandleNo) -> Result<Short, NoMemory>
     ensures { IfOk result (λ text. text ≡ 104 ∷ decimal handle) }
 {

@@ -56,7 +56,7 @@ fn value_of(vars: &Vars, seen: &Seen, atom: &Atom) -> Result<Answer, NoMemory>
     })
 }
 
-/// The handle that it is where a handle is needed.
+// The handle that it is where a handle is needed.
 pub(crate) fn handle_at(vars: &Vars, seen: &Seen, atom: &Atom) -> Option<HandleNo>
     ensures { result ≡ handle_at vars.now seen.now atom.now }
 {
@@ -75,7 +75,7 @@ pub(crate) fn handle_at(vars: &Vars, seen: &Seen, atom: &Atom) -> Option<HandleN
     }
 }
 
-/// The number that it is where a number is needed.
+// The number that it is where a number is needed.
 pub(crate) fn number_at(vars: &Vars, seen: &Seen, atom: &Atom) -> u64
     ensures { result ≡ number_at vars.now seen.now atom.now }
 {
@@ -90,7 +90,7 @@ pub(crate) fn number_at(vars: &Vars, seen: &Seen, atom: &Atom) -> u64
     }
 }
 
-/// The text that it is where a text is needed.
+// The text that it is where a text is needed.
 pub(crate) fn text_at(
     alloc: Global,
     vars: &Vars,
@@ -168,7 +168,7 @@ fn is_same(a: &Answer, b: &Answer) -> bool
     }
 }
 
-/// Whether a test holds.
+// Whether a test holds.
 pub(crate) fn holds(vars: &Vars, seen: &Seen, test: &Test) -> Result<bool, NoMemory>
     ensures { IfOk result (λ so. so ≡ spec.holds vars.now seen.now test.now) }
 {
@@ -181,7 +181,7 @@ pub(crate) fn holds(vars: &Vars, seen: &Seen, test: &Test) -> Result<bool, NoMem
     })
 }
 
-/// What a variable is set to.
+// What a variable is set to.
 pub(crate) fn set_to(
     vars: &Vars,
     seen: &Seen,

@@ -35,7 +35,7 @@ impl Vars {
         Ok(Vars { values })
     }
 
-    /// The variable that waits, if one does, gets the answer.
+    // The variable that waits, if one does, gets the answer.
     pub(crate) fn store(&mut self, waiting: Option<usize>, last: &Answer) -> Result<(), NoMemory>
         ensures { OnOk result (self.new ≡ Next.stored waiting last.now self.old) }
     {
@@ -45,7 +45,7 @@ impl Vars {
         Ok(())
     }
 
-    /// A variable gets a value, if it is there.
+    // A variable gets a value, if it is there.
     pub(crate) fn set(&mut self, number: usize, value: Answer)
         ensures { self.new ≡ set self.old number value }
     {
@@ -54,7 +54,7 @@ impl Vars {
         }
     }
 
-    /// What a variable holds; one that isn't there is null.
+    // What a variable holds; one that isn't there is null.
     pub(crate) fn value(&self, number: usize) -> Result<Answer, NoMemory>
         ensures { IfOk result (λ answer. answer ≡ held (slice_get self.now number)) }
     {
@@ -64,7 +64,7 @@ impl Vars {
         }
     }
 
-    /// The handle that it is where a handle is needed.
+    // The handle that it is where a handle is needed.
     pub(crate) fn handle(&self, number: usize) -> Option<HandleNo>
         ensures { result ≡ spec.handle_in (held (slice_get self.now number)) }
     {
@@ -74,7 +74,7 @@ impl Vars {
         }
     }
 
-    /// The number that it is where a number is needed.
+    // The number that it is where a number is needed.
     pub(crate) fn number(&self, number: usize) -> u64
         ensures { result ≡ spec.number_in (held (slice_get self.now number)) }
     {
@@ -84,7 +84,7 @@ impl Vars {
         }
     }
 
-    /// The text that it is where a text is needed.
+    // The text that it is where a text is needed.
     pub(crate) fn text(&self, alloc: Global, number: usize) -> Result<Short, NoMemory>
         ensures { IfOk result (λ text. text ≡ spec.text_in (held (slice_get self.now number))) }
     {

@@ -25,23 +25,23 @@ use Rattle.vh_ast.specs.Expressions.{expr, named, call, chain, name, no_index, i
 use Rattle.vh_ast.specs.Statements.{stmt, case_stmt, citems}
 use Rattle.vh_ast.specs.Views.{expr_tree, link_tree, name_tree, sel_tree, stmt_tree, citem_tree}
 
--- two parts at once
+-- Two parts at once
 both : {A B C : Type 0} (f : A → B → C) {a a' : A} {b b' : B} → a ≡ a' → b ≡ b' → f a b ≡ f a' b'
 both f p q = λ i. f (p i) (q i)
 
--- a value that is made of two parts, part by part
+-- A value that is made of two parts, part by part
 by_parts : {X Y A B C : Type 0} (f : A → B → C) {l : X → Y → C} {g h : X → A} {g' h' : Y → B} →
     ((x : X) (y : Y) → l x y ≡ f (g x) (g' y)) → ((x : X) → g x ≡ h x) → ((y : Y) → g' y ≡ h' y) →
     (x : X) (y : Y) → l x y ≡ f (h x) (h' y)
 by_parts f made p q x y = made x y ∙ both f (p x) (q y)
 
--- what is made of each of a list twice is made of it at once
+-- What is made of each of a list twice is made of it at once
 map-both : {A B C : Type 0} (f : A → B) (g : B → C) (h : A → C) → ((a : A) → g (f a) ≡ h a) →
     (all : List A) → map g (map f all) ≡ map h all
 map-both f g h same [] = refl
 map-both f g h same (a ∷ all) = both (λ b more. b ∷ more) (same a) (map-both f g h same all)
 
--- two functions that agree on each form of a value agree on it
+-- Two functions that agree on each form of a value agree on it
 by_option : {A B : Type 0} (g h : Option A → B) → g None ≡ h None →
     ((a : A) → g (Some a) ≡ h (Some a)) → (o : Option A) → g o ≡ h o
 by_option g h absent there None = absent
@@ -100,15 +100,15 @@ by_sel g h absent one two last (Some (sel.Index place e)) = one place e
 by_sel g h absent one two last (Some (sel.Both place e p)) = two place e p.place p.part
 by_sel g h absent one two last (Some (sel.Part p)) = last p.place p.part
 
--- an expression of the code that stands there and is that
+-- An expression of the code that stands there and is that
 abbrev at_place : Place → ExprForm Expr → Expr
 at_place place form = roll-Expr (record { place = place; form = form })
 
--- where an expression of the code stands
+-- Where an expression of the code stands
 pub place_of-expr_tree : (e : Expr) → place_of (expr_tree e) ≡ (out-Expr e).place
 place_of-expr_tree e = rw fold_out-Expr refl
 
--- a name with a select behind it
+-- A name with a select behind it
 pub expr_tree-Name : (place : Place) (n : Name Expr) (s : Option (Sel Expr)) →
     expr_tree (at_place place (form.Primary (prim.Name n s))) ≡ expr place (named (name_tree n) (sel_tree s))
 expr_tree-Name place =
@@ -122,7 +122,7 @@ expr_tree-Name place =
     (λ at e last. by_part _ _ (λ a. refl) (λ a b. refl) (λ a b. refl) (λ a b. refl))
     (λ last. by_part _ _ (λ a. refl) (λ a b. refl) (λ a b. refl) (λ a b. refl)))
 
--- a call
+-- A call
 pub expr_tree-Call : (place : Place) (n : Name Expr) (arguments : List Expr) →
     expr_tree (at_place place (form.Primary (prim.Call n arguments)))
     ≡ expr place (call (name_tree n) (exprs (map expr_tree arguments)))
@@ -135,13 +135,13 @@ expr_tree-Call place =
     (map-both _ _ _ (by_step _ _ (λ i. refl) (λ i e. refl)) more)))
     (λ all. refl)
 
--- a chain of the code
+-- A chain of the code
 pub expr_tree-Chain : (place : Place) (first : Expr) (more : List (Link Expr)) →
     expr_tree (at_place place (form.Chain first more))
     ≡ expr place (chain (expr_tree first) (links (map link_tree more)))
 expr_tree-Chain place first more = rw fold-roll-Expr (rw map-map refl)
 
--- one of at least one operator, with its first operand in a box
+-- One of at least one operator, with its first operand in a box
 pub chained-some : (first boxed : Expr) (more : List (Link Expr)) → boxed ≡ first →
     (IsTrue false ↔ (more ≡ [])) →
     expr_tree (at_place (out-Expr first).place (form.Chain boxed more))
@@ -153,7 +153,7 @@ chained-some first boxed [] same empty = absurd (none (empty.1 refl))
 chained-some first boxed (l ∷ more) same empty =
     rw (expr_tree-Chain (out-Expr first).place boxed (l ∷ more), same, ← place_of-expr_tree first) refl
 
--- a statement by cases
+-- A statement by cases
 pub stmt_tree-Case : (place : Place) (word : CaseWord) (value : Expr) (all : List (Citem Stmt)) →
     stmt_tree (roll-Stmt (record { place = place; form = s.Case word value all }))
     ≡ stmt place (case_stmt word (expr_tree value) (citems (map citem_tree all)))

@@ -1,3 +1,6 @@
+-- What is made of each element
 pub mod Each
-pub mod Names
+-- Names that differ
+pub mod ListsLemmas
+-- What holds of a row of checks
 pub mod ChecksLemmas

@@ -163,11 +163,11 @@ literal m s place v = needing v (λ n. pushed m s place (kind.Literal n))
 abbrev pub concat_pushed : Mode → Scope → Place → Option (List ℕ) → Step (Option ℕ)
 concat_pushed m s place ids = needing ids (joined m s place)
 
--- so many times one, (5.1.14)
+-- So many times one, (5.1.14)
 abbrev pub times_pushed : Mode → Scope → Place → Option ℕ → Option ℕ → Step (Option ℕ)
 times_pushed m s place count part = needing count (λ n. needing part (repeated m s place n))
 
--- a unary operator, (5.1)
+-- A unary operator, (5.1)
 abbrev pub unary_pushed : Mode → Scope → Place → Unary → Option ℕ → Step (Option ℕ)
 unary_pushed m s place op a = needing a (λ part. pushed m s place (kind.Unary (unary_of op) part))
 
@@ -176,21 +176,21 @@ abbrev pub prefixed : Mode → Scope → Place → Prefix → Option ℕ → Ste
 prefixed m s place (prefix.Mark signed) = marked_pushed m s place signed
 prefixed m s place (prefix.Sign op) = unary_pushed m s place op
 
--- a chain of operators, (5.1.2)
+-- A chain of operators, (5.1.2)
 abbrev pub chain_pushed : Mode → Scope → Place → List Operator → Option ℕ → Option (List ℕ) → Step (Option ℕ)
 chain_pushed m s place ops a bs = needing a (λ e. needing bs (chained m s place ops e))
 
--- one of two expressions by a test, (5.1.13)
+-- One of two expressions by a test, (5.1.13)
 abbrev pub choice_pushed : Mode → Scope → Place → Option ℕ → Option ℕ → Option ℕ → Step (Option ℕ)
 choice_pushed m s place x y z =
     needing x (λ test. needing y (λ yes. needing z (λ no. pushed m s place (kind.Choice test yes no))))
 
--- digits of an object or of a word, (5.2)
+-- Digits of an object or of a word, (5.2)
 abbrev pub selected_pushed : Scope → Place → Option Chosen → Option Select → Step (Option ℕ)
 selected_pushed s place c x =
     needing c (λ y. needing x (λ z. pushed mode.Value s place (kind.Selected (record { of = y; select = z }))))
 
--- and the call of a function: the begin of one with outputs has what is given to it, and its end has what is assigned
+-- And the call of a function: the begin of one with outputs has what is given to it, and its end has what is assigned
 -- as well; of one without, both are the same. (10.4.3)
 abbrev pub call_pushed : Scope → Place → Function → Option (List ℕ) → Step (Option ℕ)
 call_pushed s place f ids = needing ids (λ es. pushed mode.Value s place (kind.Call f.id f.result es))
@@ -213,7 +213,7 @@ call_row s place f false given taken = given >>= call_pushed s place f
 call_row s place f true given taken =
     beside given taken >>= begun s place f >>= (λ ids. taken >>= (λ js. call_pushed s place f (with_numbers ids js)))
 
--- which has as many arguments as it declares. (10.4.3)
+-- Which has as many arguments as it declares. (10.4.3)
 abbrev pub count_of : Exprs → ℕ
 count_of no_expr = 0
 count_of (one_expr e es) = suc (count_of es)

@@ -9,7 +9,7 @@ use vh_logic::Vec4;
 use vh_nodes::{Detail, ExprKind, ExprNode, Kind, ObjectInfo, Range};
 use vh_scope::{Meaning, found};
 
-/// What a name stands for where a constant is needed.
+// What a name stands for where a constant is needed.
 #[derive(Clone, Copy)]
 pub(crate) enum Named {
     /// A value, with the bounds of its digits.
@@ -20,7 +20,7 @@ pub(crate) enum Named {
     Wrong(DesignFault),
 }
 
-/// The value of a genvar, where it has one.
+// The value of a genvar, where it has one.
 pub(crate) fn genvar_value(genvars: &[Genvar], scope: ObjId, name: &[u8]) -> Option<Vec4>
     ensures { result ≡ genvar_value genvars.now scope name.now }
 {
@@ -51,7 +51,7 @@ fn literal_at(exprs: &[ExprNode], e: ExprId) -> Option<Vec4>
     }
 }
 
-/// The value of a parameter.
+// The value of a parameter.
 pub(crate) fn constant_in(exprs: &[ExprNode], detail: &Detail) -> Option<Vec4>
     ensures { result ≡ constant_in exprs.now detail.now }
 {

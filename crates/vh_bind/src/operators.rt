@@ -63,7 +63,7 @@ pub(crate) fn operator_of(binary: Binary) -> Operator
     }
 }
 
-/// An operator of one kind of chain.
+// An operator of one kind of chain.
 pub(crate) trait Linked: Copy {
     ghost use Rattle.std.specs.Prelude.{Option};
     ghost use Rattle.vh_bind.specs.declared.operators.Operator.{Operator};
@@ -127,7 +127,7 @@ impl Linked for Logic {
     }
 }
 
-/// The operators of a chain with the operands behind them.
+// The operators of a chain with the operands behind them.
 pub(crate) fn links_of<Op: Linked>(
     alloc: Global,
     operators: &[Operator],

@@ -35,7 +35,7 @@ pub fn number_in(
     }
 }
 
-/// One digit of a value, by an index.
+// One digit of a value, by an index.
 pub(crate) fn bit_of(value: Option<Bounded>, index: Option<Vec4>) -> Option<Vec4>
     ensures { bit_of value index ≡ Ok result }
 {
@@ -43,7 +43,7 @@ pub(crate) fn bit_of(value: Option<Bounded>, index: Option<Vec4>) -> Option<Vec4
     Some(selected(&value, range, true, &index?, 1))
 }
 
-/// So many digits from an index on, upwards or downwards by index.
+// So many digits from an index on, upwards or downwards by index.
 pub(crate) fn indexed_of(
     place: Place,
     up: bool,
@@ -90,7 +90,7 @@ fn slice_of(place: Place, value: &Bounded, left: u32, right: u32) -> Result<Opti
     Ok(Some(sliced(&value.1, value.0, right, width)))
 }
 
-/// The digits between two bounds, which go the way of the declared ones.
+// The digits between two bounds, which go the way of the declared ones.
 pub(crate) fn part_of(
     place: Place,
     value: Option<Bounded>,

@@ -33,7 +33,7 @@ fn bare(alloc: Global, nodes: Vec<ExprNode>) -> Design
     }
 }
 
-/// The value of an expression of some nodes, in its own width or a greater one.
+// The value of an expression of some nodes, in its own width or a greater one.
 pub(crate) fn value_at(
     alloc: Global,
     nodes: Vec<ExprNode>,

@@ -36,7 +36,7 @@ range_at s ns bracket r left right =
     with_ok (constant_at s ns left) (λ a.
     with_ok (constant_at s ns right) (part_select bracket r a))
 
--- and how many, from a base on. (5.2.1)
+-- And how many, from a base on. (5.2.1)
 abbrev pub width_at : Scope → Nodes → Place → ExprTree → Outcome (Option ℕ)
 width_at s ns bracket e = with_ok (constant_at s ns e) (number_in bracket 1 MAX_WIDTH)
 
@@ -64,7 +64,7 @@ abbrev pub argument_bound : Scope → Side → ExprTree → Step (Option ℕ)
 argument_bound s side.Given e = bound mode.Value s e
 argument_bound s side.Taken e = output_bound s e
 
--- and those of one side, in their order, from the one of this number on.
+-- And those of one side, in their order, from the one of this number on.
 abbrev pub side_bound : Scope → Side → List TaskDirection → ℕ → Option (List ℕ) → Exprs → Step (Option (List ℕ))
 side_bound s side.Given ds k ids es = given_bound s ds k ids es
 side_bound s side.Taken ds k ids es = taken_bound s ds k ids es

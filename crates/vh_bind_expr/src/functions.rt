@@ -32,7 +32,7 @@ fn routine_of<'a>(scope: &Scope<'a, '_>, id: ObjId) -> Option<&'a Routine>
     scope.routines.get(body as usize)
 }
 
-/// Where the arguments of a task or function go, in order.
+// Where the arguments of a task or function go, in order.
 pub(crate) fn directions_of<'a>(scope: &Scope<'a, '_>, id: ObjId) -> &'a [TaskDirection]
     ensures { result.now ≡ directions_of (scope_seen scope.now) id }
 {
@@ -62,7 +62,7 @@ pub fn is_taken(direction: TaskDirection) -> bool
     }
 }
 
-/// The arguments of a call that are given a value at its begin, or those that are assigned at its end.
+// The arguments of a call that are given a value at its begin, or those that are assigned at its end.
 #[derive(Clone, Copy)]
 pub(crate) enum Side {
     Given,
@@ -79,7 +79,7 @@ fn is_on(side: Side, direction: TaskDirection) -> bool
     }
 }
 
-/// Whether the argument of this number stands there.
+// Whether the argument of this number stands there.
 pub(crate) fn is_at(side: Side, directions: &[TaskDirection], number: usize) -> bool
     ensures { result ≡ goes_so (is_on side) directions.now number }
 {
@@ -89,7 +89,7 @@ pub(crate) fn is_at(side: Side, directions: &[TaskDirection], number: usize) -> 
     }
 }
 
-/// Whether some argument is assigned.
+// Whether some argument is assigned.
 pub(crate) fn any_taken(directions: &[TaskDirection]) -> bool
     ensures { result ≡ list_any is_taken directions.now }
 {
@@ -116,7 +116,7 @@ fn function_at(scope: &Scope, id: ObjId) -> Option<Function>
     with_result(scope, id, routine.result)
 }
 
-/// The function that is meant, with its result (IEEE 1364-2005, 10.4).
+// The function that is meant, with its result (IEEE 1364-2005, 10.4).
 pub(crate) fn function_meant(scope: &Scope, meaning: Meaning) -> Option<Function>
     ensures { result ≡ function_meant (scope_seen scope.now) meaning }
 {

@@ -97,7 +97,7 @@ fn genvar_bounded(value: Vec4) -> Option<Bounded>
     Some((Range { left: 31, right: 0 }, value))
 }
 
-/// What a constant select names of a genvar.
+// What a constant select names of a genvar.
 pub(crate) fn genvar_value(
     alloc: Global,
     scope: &Scope,
@@ -132,7 +132,7 @@ fn called(
     Ok(Some(function))
 }
 
-/// The function that a call names, which has as many arguments as are written.
+// The function that a call names, which has as many arguments as are written.
 pub(crate) fn function_called(
     alloc: Global,
     scope: &Scope,

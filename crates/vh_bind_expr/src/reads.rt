@@ -98,7 +98,7 @@ pub fn push_selected(
     )
 }
 
-/// The call of a function, where no argument is passed over.
+// The call of a function, where no argument is passed over.
 pub(crate) fn push_call(
     alloc: Global,
     scope: &Scope,
@@ -129,7 +129,7 @@ pub(crate) fn push_call(
     push(scope, Mode::Value, nodes, place, kind)
 }
 
-/// A system call that isn't `$signed` or `$unsigned`: `$time` alone is known, and has no argument.
+// A system call that isn't `$signed` or `$unsigned`: `$time` alone is known, and has no argument.
 pub(crate) fn push_system(
     scope: &Scope,
     nodes: &mut Vec<ExprNode>,
@@ -167,7 +167,7 @@ fn copied(alloc: Global, numbers: &Option<ExprIds>) -> Result<Option<ExprIds>, N
     }
 }
 
-/// The begin of a call, which has what is given to it; answers that.
+// The begin of a call, which has what is given to it; answers that.
 pub(crate) fn push_begin(
     alloc: Global,
     scope: &Scope,
@@ -192,7 +192,7 @@ pub(crate) fn push_begin(
     Ok(given)
 }
 
-/// Numbers behind others, where none is passed over.
+// Numbers behind others, where none is passed over.
 pub(crate) fn with_numbers(
     given: Option<ExprIds>,
     taken: Option<ExprIds>,
@@ -211,7 +211,7 @@ pub(crate) fn with_numbers(
     Ok(Some(Sequence::new(numbers)))
 }
 
-/// One number more.
+// One number more.
 pub(crate) fn add_number(numbers: &mut Vec<ExprId>, number: ExprId) -> Result<(), NoMemory>
     ensures { OnOk result (numbers.new.items ≡ numbers.old.items ++ number ∷ []) }
 {

@@ -22,7 +22,7 @@ use vh_bind::{
 use vh_logic::{MAX_WIDTH, Vec4};
 use vh_nodes::{ExprIds, ExprNode, Range, Select};
 
-/// How many times something is repeated: a constant.
+// How many times something is repeated: a constant.
 pub(crate) fn count_at(
     alloc: Global,
     scope: &Scope,
@@ -36,7 +36,7 @@ pub(crate) fn count_at(
     number_in(place, 1, u64::MAX, count)
 }
 
-/// So many times what some entries are joined to, where nothing is passed over.
+// So many times what some entries are joined to, where nothing is passed over.
 pub(crate) fn push_repeated(
     alloc: Global,
     scope: &Scope,
@@ -58,7 +58,7 @@ pub(crate) fn push_repeated(
     push_times(scope, Mode::Value, nodes, place, count, joined)
 }
 
-/// The chain of some links, where no operand is passed over.
+// The chain of some links, where no operand is passed over.
 pub(crate) fn push_chained(
     alloc: Global,
     scope: &Scope,
@@ -128,7 +128,7 @@ pub fn width_at(
     number_in(bracket, 1, u64::from(MAX_WIDTH), width)
 }
 
-/// What is written of a genvar, or of the digits that a constant select names.
+// What is written of a genvar, or of the digits that a constant select names.
 pub(crate) fn push_genvar(
     alloc: Global,
     scope: &Scope,

@@ -50,7 +50,7 @@ inputs_of [] es = []
 inputs_of (a ∷ more) [] = []
 inputs_of (a ∷ more) (e ∷ es) = record { variable = a.variable; value = e } ∷ inputs_of more es
 
--- and what the end assigns: the variables that are joined in an expression. (10.2.2)
+-- And what the end assigns: the variables that are joined in an expression. (10.2.2)
 abbrev pub selected_in : ExprKind → Option Selected
 selected_in (kind.Selected s) = Some s
 selected_in _ = None

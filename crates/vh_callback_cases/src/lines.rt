@@ -7,7 +7,7 @@ use vh_base::{
 };
 use vh_lines::{push_answer, push_order};
 
-/// How a row writes an order without texts; a handle is its number.
+// How a row writes an order without texts; a handle is its number.
 #[derive(Clone, Copy)]
 enum Plain {
     ByIndex(Option<u64>, u64),
@@ -30,18 +30,18 @@ enum Plain {
     Return,
 }
 
-/// How a row writes a procedure: its script and its name.
+// How a row writes a procedure: its script and its name.
 #[derive(Clone, Copy)]
 struct Procedure(&'static str, &'static str);
 
-/// How a row writes what a callback calls.
+// How a row writes what a callback calls.
 #[derive(Clone, Copy)]
 enum Called {
     Proc(Procedure),
     Native(&'static str),
 }
 
-/// How a row writes an order with texts.
+// How a row writes an order with texts.
 #[derive(Clone, Copy)]
 enum Texts {
     ByName(&'static str, Option<u64>),
@@ -166,7 +166,7 @@ fn printed(alloc: Global, order: &Order) -> Result<String, Fail> {
     Ok(line)
 }
 
-/// An order without texts, and the line up to its answer.
+// An order without texts, and the line up to its answer.
 static PLAIN: [(Plain, &'static str); 26] = [
     (Plain::ByIndex(Some(2), 3), "0 do c1 by_index h2 3"),
     (
@@ -232,7 +232,7 @@ fn orders_without_texts(rt: HostRuntime) -> Result<(), Fail> {
     Ok(())
 }
 
-/// An order with texts, and the line up to its answer.
+// An order with texts, and the line up to its answer.
 static TEXTS: [(Texts, &'static str); 20] = [
     (
         Texts::ByName("top.r", None),
@@ -376,7 +376,7 @@ fn orders_with_texts(rt: HostRuntime) -> Result<(), Fail> {
     Ok(())
 }
 
-/// How a row writes an answer.
+// How a row writes an answer.
 #[derive(Clone, Copy)]
 enum Given {
     Done,
@@ -398,7 +398,7 @@ fn answer(rt: &impl Abort, alloc: Global, written: Given) -> Answer {
     }
 }
 
-/// An answer, and its text.
+// An answer, and its text.
 static ANSWERS: [(Given, &'static str); 12] = [
     (Given::Done, "ok"),
     (Given::Null, "null"),

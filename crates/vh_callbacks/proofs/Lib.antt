@@ -1,12 +1,12 @@
--- rising lists under numbers, and the numbers that match
+-- Rising lists under numbers, and the numbers that match
 pub mod CallbacksLemmas
--- the index beside the callbacks
+-- The index beside the callbacks
 pub mod WatchingLemmas
--- sets of numbers, by depth
+-- Sets of numbers, by depth
 pub mod MarksLemmas
--- what is kept
+-- What is kept
 pub mod KeepingLemmas
--- how contracts see it
+-- How contracts see it
 pub mod Views
--- the laws
+-- The laws
 pub mod LawsLemmas

@@ -143,7 +143,7 @@ kept_by true false d c x xs rest is at apart kept among = kept among
 kept_by false true d c x xs rest is at apart kept among = or_left (nat_eq d x) (is_among d rest) at
 kept_by false false d c x xs rest is at apart kept among = or_right (nat_eq d x) (is_among d rest) (kept among)
 
--- and what isn't that one stays.
+-- And what isn't that one stays.
 pub among_kept : (d c : ℕ) (xs : List ℕ) → nat_eq d c ≡ false → is_among d xs ≡ true → is_among d (without_number c xs) ≡ true
 among_kept d c [] apart among = absurd (cc)
 among_kept d c (x ∷ xs) apart among =

@@ -38,7 +38,7 @@ abbrev pub TellsRegistered : Type 0 → Type 0
 TellsRegistered B = (s : Callbacks B) (r : Registration) (b : B) → IsSound s
     → (info_of s.next (registered r b s) ≡ Some r) × (body_of s.next (registered r b s) ≡ Some b)
 
--- and each other number has what it had.
+-- And each other number has what it had.
 abbrev pub KeepsOthersRegistered : Type 0 → Type 0
 KeepsOthersRegistered B = (s : Callbacks B) (r : Registration) (b : B) (c : ℕ) → (c == s.next) ≡ false
     → (info_of c (registered r b s) ≡ info_of c s) × (body_of c (registered r b s) ≡ body_of c s)
@@ -47,7 +47,7 @@ KeepsOthersRegistered B = (s : Callbacks B) (r : Registration) (b : B) (c : ℕ)
 abbrev pub TellsNoneRemoved : Type 0 → Type 0
 TellsNoneRemoved B = (s : Callbacks B) (c : ℕ) → IsSound s → (info_of c (removed c s) ≡ None) × (body_of c (removed c s) ≡ None)
 
--- and each other number has what it had.
+-- And each other number has what it had.
 abbrev pub KeepsOthersRemoved : Type 0 → Type 0
 KeepsOthersRemoved B = (s : Callbacks B) (c d : ℕ) → (c == d) ≡ false
     → (info_of d (removed c s) ≡ info_of d s) × (body_of d (removed c s) ≡ body_of d s)
@@ -65,7 +65,7 @@ CountsStarted B = (s : Callbacks B) (c : ℕ) → is_some (known_at c s) ≡ tru
 abbrev pub CountsEnded : Type 0 → Type 0
 CountsEnded B = (s : Callbacks B) (c : ℕ) → IsSound s → activations_of c (ended c s) ≡ activations_of c s - 1
 
--- and no other callback is changed by a removal, a start or an end.
+-- And no other callback is changed by a removal, a start or an end.
 abbrev pub KeepsOthersKnown : Type 0 → Type 0
 KeepsOthersKnown B = (s : Callbacks B) (c d : ℕ) → (c == d) ≡ false
     → (known_at d (removed c s) ≡ known_at d s) × (known_at d (started c s) ≡ known_at d s) × (known_at d (ended c s) ≡ known_at d s)
@@ -75,7 +75,7 @@ abbrev pub GivesLastBack : Type 0 → Type 0
 GivesLastBack B = (s : Callbacks B) (c : ℕ) → IsSound s
     → is_some (body_after (live_at c s.held)) ≡ (is_some (held_of c s) && activations_of c s == 1)
 
--- and then the callback is known no more.
+-- And then the callback is known no more.
 abbrev pub ForgetsLast : Type 0 → Type 0
 ForgetsLast B = (s : Callbacks B) (c : ℕ) → IsSound s → is_some (body_after (live_at c s.held)) ≡ true
     → known_at c (ended c s) ≡ None

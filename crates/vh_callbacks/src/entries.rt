@@ -10,10 +10,10 @@ use std::alloc::Global;
 use std::collections::BTreeMap;
 use vh_base::{CbNumber, MOST_CALLBACKS, MOST_FRAMES, NoMemory};
 
-/// The live and held callbacks by number.
+// The live and held callbacks by number.
 pub(crate) type Entries<B> = BTreeMap<u64, Kept<B>, Global>;
 
-/// Puts a live callback into the map and the index, or hands it back.
+// Puts a live callback into the map and the index, or hands it back.
 pub(crate) fn put<B: Drop>(
     alloc: Global,
     entries: &mut Entries<B>,
@@ -65,7 +65,7 @@ fn put_last<B: Drop>(entries: &mut Entries<B>, number: u64, live: Live<B>) -> Re
     }
 }
 
-/// The live callback of this number.
+// The live callback of this number.
 pub(crate) fn live_one<B>(entries: &Entries<B>, number: u64) -> Option<&Live<B>>
     ensures { option_copied result ≡ only is_live_one (live_at number entries.now.entries) }
 {
@@ -75,7 +75,7 @@ pub(crate) fn live_one<B>(entries: &Entries<B>, number: u64) -> Option<&Live<B>>
     }
 }
 
-/// What the live callback of this number watches.
+// What the live callback of this number watches.
 pub(crate) fn watched<B>(entries: &Entries<B>, number: u64) -> Option<Watch>
     ensures { result ≡ watched_by (only is_live_one (live_at number entries.now.entries)) }
 {
@@ -83,7 +83,7 @@ pub(crate) fn watched<B>(entries: &Entries<B>, number: u64) -> Option<Watch>
     Some(watch_of(live.registration.reason, &live.registration.object))
 }
 
-/// Takes the mark from the callback of this number, where an activation of it runs. Does one?
+// Takes the mark from the callback of this number, where an activation of it runs. Does one?
 pub(crate) fn hold<B>(entries: &mut Entries<B>, number: u64) -> bool
     ensures running { result ≡ is_running_one (live_at number entries.old.entries) }
     ensures entries { entries.new.entries
@@ -99,7 +99,7 @@ pub(crate) fn hold<B>(entries: &mut Entries<B>, number: u64) -> bool
     true
 }
 
-/// Takes the callback of this number out, which is there.
+// Takes the callback of this number out, which is there.
 pub(crate) fn take_body<B: Drop>(entries: &mut Entries<B>, number: u64) -> B
     requires { is_some (live_at number entries.old.entries) ≡ true }
     ensures body { option_map (λ k. k.callback.body) (live_at number entries.old.entries)
@@ -112,7 +112,7 @@ pub(crate) fn take_body<B: Drop>(entries: &mut Entries<B>, number: u64) -> B
     kept.callback.body
 }
 
-/// One more activation of the callback of this number runs.
+// One more activation of the callback of this number runs.
 pub(crate) fn start<B>(entries: &mut Entries<B>, number: u64)
     requires { activations_in (live_at number entries.old.entries) < MOST_FRAMES }
     ensures { entries.new.entries ≡ changed (inside one_more) number entries.old.entries }
@@ -123,7 +123,7 @@ pub(crate) fn start<B>(entries: &mut Entries<B>, number: u64)
     kept.callback.activations += 1;
 }
 
-/// One less runs, but where it is the last of a held one. Is it?
+// One less runs, but where it is the last of a held one. Is it?
 pub(crate) fn end<B>(entries: &mut Entries<B>, number: u64) -> bool
     requires { 0 < activations_in (live_at number entries.old.entries) }
     ensures last { result ≡ is_last_one (live_at number entries.old.entries) }
@@ -141,7 +141,7 @@ pub(crate) fn end<B>(entries: &mut Entries<B>, number: u64) -> bool
     false
 }
 
-/// The callback of this number has other data of the user.
+// The callback of this number has other data of the user.
 pub(crate) fn put_data<B>(entries: &mut Entries<B>, number: u64, to: u64)
     ensures { entries.new.entries ≡ changed (inside (with_data to)) number entries.old.entries }
 {

@@ -9,8 +9,8 @@ use std::alloc::Global;
 use std::collections::BTreeMap;
 use vh_base::{CbNumber, NoMemory, Object, Reason};
 
-/// What a callback watches, by numbers that have an order: its reason, its object and the
-/// word of that.
+// What a callback watches, by numbers that have an order: its reason, its object and the
+// word of that.
 #[derive(Clone, Copy, PartialEq, Eq, PartialOrd, Ord)]
 pub(crate) struct Watch {
     pub(crate) reason: u8,
@@ -18,10 +18,10 @@ pub(crate) struct Watch {
     pub(crate) word: Option<u32>,
 }
 
-/// The live callbacks by what they watch, and nothing without a callback.
+// The live callbacks by what they watch, and nothing without a callback.
 pub(crate) type Index = BTreeMap<Watch, Numbers, Global>;
 
-/// What a callback with this reason and this object watches.
+// What a callback with this reason and this object watches.
 pub(crate) fn watch_of(reason: Reason, object: &Option<Object>) -> Watch
     ensures { result ≡ watch reason object.now }
 {
@@ -40,7 +40,7 @@ pub(crate) fn watch_of(reason: Reason, object: &Option<Object>) -> Watch
     }
 }
 
-/// Puts a number that is above all others at the end of those that watch this.
+// Puts a number that is above all others at the end of those that watch this.
 pub(crate) fn add(
     alloc: Global,
     index: &mut Index,
@@ -80,7 +80,7 @@ fn push_at(index: &mut Index, w: Watch, number: CbNumber) -> Result<(), NoMemory
     Ok(())
 }
 
-/// Takes a number out of those that watch this, and their list where none are left.
+// Takes a number out of those that watch this, and their list where none are left.
 pub(crate) fn take(index: &mut Index, w: Watch, number: CbNumber)
     ensures { (q : Watch) → list_under q index.new.entries
         ≡ (if is_at (watch_cmp w) q
@@ -109,14 +109,14 @@ fn drop_at(index: &mut Index, w: Watch, number: CbNumber) -> bool
     numbers.is_empty()
 }
 
-/// The numbers of those that watch this; none where nobody does.
+// The numbers of those that watch this; none where nobody does.
 pub(crate) fn numbers_for<'a>(index: &'a Index, w: Watch) -> Option<&'a Numbers>
     ensures { option_copied result ≡ list_under w index.now.entries }
 {
     index.get(&w)
 }
 
-/// Is there one that watches this?
+// Is there one that watches this?
 pub(crate) fn is_watched(index: &Index, w: Watch) -> bool
     ensures { result ≡ not (length (numbers_under w index.now.entries) == 0) }
 {

@@ -9,8 +9,8 @@ pub struct Live<B> {
     pub activations: u32,
 }
 
-/// A callback with the mark whether it is live. One that isn't is held: it was removed while an
-/// activation of it ran.
+// A callback with the mark whether it is live. One that isn't is held: it was removed while an
+// activation of it ran.
 #[derive(Drop)]
 pub(crate) struct Kept<B> {
     pub(crate) callback: Live<B>,

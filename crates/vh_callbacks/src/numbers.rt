@@ -6,7 +6,7 @@ use std::collections::VecDeque;
 use std::marker::Model;
 use vh_base::{CbNumber, NoMemory};
 
-/// A set of callback numbers, which contracts see as their rising list.
+// A set of callback numbers, which contracts see as their rising list.
 #[derive(Drop)]
 pub(crate) struct Numbers {
     items: VecDeque<CbNumber>,
@@ -21,7 +21,7 @@ impl Model for Numbers {
 }
 
 impl Numbers {
-    /// The empty set.
+    // The empty set.
     pub(crate) fn new(alloc: Global) -> Numbers
         ensures { result ≡ [] }
     {
@@ -30,7 +30,7 @@ impl Numbers {
         }
     }
 
-    /// How many there are.
+    // How many there are.
     pub(crate) fn len(&self) -> usize
         ensures len { result ≡ length self.now }
         ensures set { IsSet self.now }
@@ -38,14 +38,14 @@ impl Numbers {
         self.items.len()
     }
 
-    /// Is there none?
+    // Is there none?
     pub(crate) fn is_empty(&self) -> bool
         ensures { result ≡ (length self.now == 0) }
     {
         self.items.is_empty()
     }
 
-    /// Puts a number that is above all others at the end.
+    // Puts a number that is above all others at the end.
     pub(crate) fn push(&mut self, c: CbNumber) -> Result<(), NoMemory>
         requires { IsSet (self.old ++ c ∷ []) }
         ensures ok { OnOk result (self.new ≡ self.old ++ c ∷ []) }
@@ -55,7 +55,7 @@ impl Numbers {
         Ok(())
     }
 
-    /// Puts the numbers of another set into the empty set. It keeps what room the set has.
+    // Puts the numbers of another set into the empty set. It keeps what room the set has.
     pub(crate) fn fill(&mut self, numbers: &Numbers) -> Result<(), NoMemory>
         requires { self.old ≡ [] }
         ensures ok { OnOk result (self.new ≡ numbers.now) }
@@ -65,7 +65,7 @@ impl Numbers {
         Ok(())
     }
 
-    /// Takes the k-th out, from 0; none where there are not so many.
+    // Takes the k-th out, from 0; none where there are not so many.
     pub(crate) fn take(&mut self, k: usize) -> Option<CbNumber>
         ensures taken { result ≡ slice_get self.old k }
         ensures left { IfSome result (λ c. self.new ≡ without_number c self.old) }
@@ -79,7 +79,7 @@ impl Numbers {
         Some(c)
     }
 
-    /// Takes this number out, where it is among them.
+    // Takes this number out, where it is among them.
     pub(crate) fn drop_number(&mut self, c: CbNumber)
         ensures { self.new ≡ without_number c self.old }
     {
@@ -88,7 +88,7 @@ impl Numbers {
         }
     }
 
-    /// Takes all out. The set keeps its room.
+    // Takes all out. The set keeps its room.
     pub(crate) fn clear(&mut self)
         ensures { self.new ≡ [] }
     {

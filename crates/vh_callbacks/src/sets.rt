@@ -5,10 +5,10 @@ use crate::numbers::Numbers;
 use std::alloc::Global;
 use vh_base::{CbNumber, MOST_FRAMES, NoMemory};
 
-/// The set of each depth, from 0. One that isn't there is empty.
+// The set of each depth, from 0. One that isn't there is empty.
 pub(crate) type Sets = Vec<Numbers, Global>;
 
-/// How many are in the set of this depth.
+// How many are in the set of this depth.
 pub(crate) fn count_at(sets: &Sets, depth: usize) -> usize
     ensures count { result ≡ length (set_at depth sets.now.items) }
     ensures set { IsSet (set_at depth sets.now.items) }
@@ -19,7 +19,7 @@ pub(crate) fn count_at(sets: &Sets, depth: usize) -> usize
     }
 }
 
-/// Puts these numbers into the empty set of this depth.
+// Puts these numbers into the empty set of this depth.
 pub(crate) fn fill_at(
     alloc: Global,
     sets: &mut Sets,
@@ -61,7 +61,7 @@ fn fill_one(sets: &mut Sets, depth: usize, numbers: &Numbers) -> Result<(), NoMe
     Ok(())
 }
 
-/// Puts one number into the empty set of this depth.
+// Puts one number into the empty set of this depth.
 pub(crate) fn put_one(
     alloc: Global,
     sets: &mut Sets,
@@ -91,7 +91,7 @@ fn push_at(sets: &mut Sets, depth: usize, c: CbNumber) -> Result<(), NoMemory>
     Ok(())
 }
 
-/// Takes the k-th out of the set of this depth; none where there are not so many.
+// Takes the k-th out of the set of this depth; none where there are not so many.
 pub(crate) fn take_at(sets: &mut Sets, depth: usize, k: usize) -> Option<CbNumber>
     ensures taken { result ≡ slice_get (set_at depth sets.old.items) k }
     ensures left { IfSome result (λ c. (d : ℕ) → set_at d sets.new.items
@@ -106,7 +106,7 @@ pub(crate) fn take_at(sets: &mut Sets, depth: usize, k: usize) -> Option<CbNumbe
     set.take(k)
 }
 
-/// Empties the set of this depth.
+// Empties the set of this depth.
 pub(crate) fn clear_at(sets: &mut Sets, depth: usize)
     ensures { (d : ℕ) → set_at d sets.new.items
         ≡ (if d == depth then [] else set_at d sets.old.items) }
@@ -118,7 +118,7 @@ pub(crate) fn clear_at(sets: &mut Sets, depth: usize)
     set.clear();
 }
 
-/// Takes this number out of each set.
+// Takes this number out of each set.
 pub(crate) fn drop_everywhere(sets: &mut Sets, c: CbNumber)
     ensures { (d : ℕ) → set_at d sets.new.items ≡ without_number c (set_at d sets.old.items) }
 {

@@ -17,7 +17,7 @@ use vh_nodes::{
     is_width, same_sign, signed_of, width_of,
 };
 
-/// Whether a code with so many places may go on there.
+// Whether a code with so many places may go on there.
 pub(crate) fn fits_goes(places: usize, goes: Goes) -> bool
     ensures { result ≡ fits_goes places goes }
 {
@@ -208,7 +208,7 @@ fn fits_drive(drivers: &[DriverInfo], exprs: usize, limits: Limits, drive: &Driv
         && has_wait(limits.waits, drive.wait)
 }
 
-/// Whether an operation may stand in a code with so many places.
+// Whether an operation may stand in a code with so many places.
 pub(crate) fn fits_operation(
     objects: &[ObjectInfo],
     exprs: &[ExprNode],

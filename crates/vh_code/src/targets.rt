@@ -45,7 +45,7 @@ fn all_targets_fit(objects: &[ObjectInfo], exprs: usize, targets: &[Selected]) -
         .all(|target| fits_target(objects, exprs, target))
 }
 
-/// Whether these may be the left side of an assignment.
+// Whether these may be the left side of an assignment.
 pub(crate) fn fits_targets(objects: &[ObjectInfo], exprs: usize, targets: &[Selected]) -> bool
     ensures { result ≡ fits_targets objects.now exprs targets.now }
 {
@@ -59,14 +59,14 @@ fn all_drivers_there(drivers: &[DriverInfo], chosen: &[DriverId]) -> bool
     chosen.iter().all(|x| (x.number() as usize) < drivers.len())
 }
 
-/// Whether these drivers may be the left side of a continuous assignment.
+// Whether these drivers may be the left side of a continuous assignment.
 pub(crate) fn fits_drivers(drivers: &[DriverInfo], chosen: &[DriverId]) -> bool
     ensures { result ≡ fits_drivers drivers.now chosen.now }
 {
     all_drivers_there(drivers, chosen) && is_width(drivers_width(drivers, chosen))
 }
 
-/// Whether a delay may stand in a design of this precision.
+// Whether a delay may stand in a design of this precision.
 pub(crate) fn fits_delay(exprs: usize, precision: u8, delay: Delay) -> bool
     ensures { result ≡ fits_delay exprs precision delay }
 {
@@ -80,7 +80,7 @@ fn fits_input(objects: &[ObjectInfo], exprs: usize, input: Input) -> bool
     is_variable_at(objects, input.variable) && is_before(exprs, input.value)
 }
 
-/// Whether a call may write all these at its begin.
+// Whether a call may write all these at its begin.
 pub(crate) fn all_inputs_fit(objects: &[ObjectInfo], exprs: usize, inputs: &[Input]) -> bool
     ensures { result ≡ list_all (fits_input objects.now exprs) inputs.now }
 {
@@ -97,7 +97,7 @@ fn fits_output(objects: &[ObjectInfo], exprs: usize, output: &Output) -> bool
         && fits_targets(objects, exprs, output.targets.as_slice())
 }
 
-/// Whether a call may write all these at its end.
+// Whether a call may write all these at its end.
 pub(crate) fn all_outputs_fit(objects: &[ObjectInfo], exprs: usize, outputs: &[Output]) -> bool
     ensures { result ≡ list_all (fits_output objects.now exprs) outputs.now }
 {

@@ -39,8 +39,8 @@ abbrev pub lacks_value : List ObjectInfo → ℕ → Bool
 lacks_value os n =
     unwrap_or (option_map (λ o. is_parameter o.kind && not (has_value o.detail)) (slice_get os n)) false
 
-abbrev pub object_of : Option Declaration → Option ℕ
-object_of d = option_and_then (λ x. object_meant x.meaning) d
+abbrev pub declared_object : Option Declaration → Option ℕ
+declared_object d = option_and_then (λ x. object_meant x.meaning) d
 
 abbrev pub edge_to : Known → ℕ → Option ℕ → List Edge
 edge_to k n None = []
@@ -49,7 +49,7 @@ edge_to k n (Some m) = if lacks_value k.objects m then (n, m) ∷ [] else []
 abbrev pub edges_to : Known → List ℕ → ℕ → List Id → List Edge
 edges_to k around n [] = []
 edges_to k around n (id ∷ ids) =
-    edge_to k n (object_of (found k.names around id.name)) ++ edges_to k around n ids
+    edge_to k n (declared_object (found k.names around id.name)) ++ edges_to k around n ids
 
 abbrev pub constant_edges : Home → Known → SiteTree → ParameterWord → Option TypeTree → ExprTree → List Edge
 constant_edges h k s w t e =

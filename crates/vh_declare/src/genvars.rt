@@ -89,7 +89,7 @@ fn keep_block(
     }
 }
 
-/// The genvars of blocks that are sites.
+// The genvars of blocks that are sites.
 pub(crate) fn keep_genvars(
     alloc: Global,
     sites: &[Site],

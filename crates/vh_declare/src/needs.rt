@@ -89,8 +89,8 @@ fn object_meant(meaning: Meaning) -> Option<ObjId>
     }
 }
 
-fn object_of(declaration: Option<Declaration>) -> Option<ObjId>
-    ensures { result ≡ Needs.object_of declaration }
+fn declared_object(declaration: Option<Declaration>) -> Option<ObjId>
+    ensures { result ≡ Needs.declared_object declaration }
 {
     object_meant(declaration?.meaning)
 }
@@ -130,7 +130,7 @@ fn add_edges(
 {
     for id in ids {
         let declaration = found(&known.names, around, id.name.as_slice());
-        add_edge(known, from, object_of(declaration), edges)?;
+        add_edge(known, from, declared_object(declaration), edges)?;
     }
     Ok(())
 }
@@ -212,7 +212,7 @@ fn fault_at(sites: &[Site], number: u32) -> Option<Fault>
     None
 }
 
-/// The first parameter that needs itself, directly or through others, if there is one.
+// The first parameter that needs itself, directly or through others, if there is one.
 pub(crate) fn needs_fault(
     alloc: Global,
     home: Home,

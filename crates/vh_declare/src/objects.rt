@@ -192,7 +192,7 @@ fn generated(alloc: Global, declared: Declared) -> Result<Option<Vec<u8>>, NoMem
     }
 }
 
-/// The name of a site.
+// The name of a site.
 pub(crate) fn name_of(alloc: Global, site: &Site) -> Result<Vec<u8>, NoMemory>
     ensures { IfOk result (λ v. v.items ≡ (site_seen site.now).name) }
 {
@@ -269,7 +269,7 @@ fn make_site(
     Ok(())
 }
 
-/// The objects of sites, before any constant is known.
+// The objects of sites, before any constant is known.
 pub(crate) fn make_sites(
     alloc: Global,
     sites: &[Site],
@@ -353,7 +353,7 @@ fn is_object(number: u32, meaning: Option<Meaning>) -> bool
     }
 }
 
-/// A site's name stands for these bounds, unless it stands for an earlier declaration.
+// A site's name stands for these bounds, unless it stands for an earlier declaration.
 pub(crate) fn set_bounds(
     alloc: Global,
     site: &Site,
@@ -371,10 +371,10 @@ pub(crate) fn set_bounds(
     Ok(())
 }
 
-/// One digit.
+// One digit.
 pub(crate) const LONE_DIGIT: Range = Range { left: 0, right: 0 };
 
-/// The names so far, and the least fault of them.
+// The names so far, and the least fault of them.
 #[derive(Drop)]
 pub(crate) struct Naming {
     pub(crate) names: Names,
@@ -403,7 +403,7 @@ fn name_site(
     Ok(least(so_far, Some((DesignFault::N2, site.place))))
 }
 
-/// The names of sites, and the least fault of them.
+// The names of sites, and the least fault of them.
 pub(crate) fn name_sites(
     alloc: Global,
     sites: &[Site],

@@ -20,7 +20,7 @@ use vh_logic::{MAX_WIDTH, Vec4, resize};
 use vh_nodes::{Detail, ExprKind, ExprNode, ObjectInfo, Range};
 use vh_sites::{Declared, Site};
 
-/// The value of a parameter, with the bounds of its digits.
+// The value of a parameter, with the bounds of its digits.
 pub(crate) type Bounded = (Range, Vec4);
 
 // A value in its own width.
@@ -142,7 +142,7 @@ fn given_value(
     }
 }
 
-/// What a parameter is given, if it may be.
+// What a parameter is given, if it may be.
 pub(crate) fn given_to(
     alloc: Global,
     home: Home,
@@ -164,7 +164,7 @@ pub(crate) fn given_to(
     }
 }
 
-/// Its own value, or the one that it is given.
+// Its own value, or the one that it is given.
 pub(crate) fn own_or_given(
     alloc: Global,
     scope: &Scope,
@@ -298,8 +298,8 @@ fn settle_round(
     Ok(changed)
 }
 
-/// The parameters take their values, each as soon as all that it needs have theirs. Where they go
-/// in the order of what they need the first round is the last that changes something.
+// The parameters take their values, each as soon as all that it needs have theirs. Where they go
+// in the order of what they need the first round is the last that changes something.
 pub(crate) fn settle_in(
     alloc: Global,
     home: Home,

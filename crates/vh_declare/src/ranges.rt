@@ -21,10 +21,10 @@ use vh_nodes::Range;
 // The greatest bound.
 const MOST_BOUND: u64 = 0x7fff_ffff;
 
-/// How many words a memory may have.
+// How many words a memory may have.
 pub(crate) const MOST_WORDS: u32 = 65_536;
 
-/// How many elements a range has.
+// How many elements a range has.
 pub(crate) fn span(range: Range) -> u64
     ensures { result ≡ Constants.span range }
 {
@@ -97,7 +97,7 @@ fn within(place: Place, most: u32, left: u64, right: u64) -> Result<Option<Range
     Ok(Some(range))
 }
 
-/// A range; none where it needs a parameter that has no value (IEEE 1364-2005, 4.3.1).
+// A range; none where it needs a parameter that has no value (IEEE 1364-2005, 4.3.1).
 pub(crate) fn range_of(
     alloc: Global,
     scope: &Scope,
@@ -118,7 +118,7 @@ pub(crate) fn range_of(
     within(range.place, most, left, right)
 }
 
-/// The range of a type: one digit where none is written.
+// The range of a type: one digit where none is written.
 pub(crate) fn type_range(
     alloc: Global,
     scope: &Scope,
@@ -134,9 +134,9 @@ pub(crate) fn type_range(
     }
 }
 
-/// What is known of an object once its ranges are: the bounds of its digits, its width and its
-/// sign,
-/// and how many words a memory has, from which address on.
+// What is known of an object once its ranges are: the bounds of its digits, its width and its
+// sign,
+// and how many words a memory has, from which address on.
 #[derive(Clone, Copy)]
 pub(crate) struct Measure {
     pub(crate) range: Range,
@@ -243,7 +243,7 @@ pub(crate) fn joined_measure(
     }
 }
 
-/// That of a memory.
+// That of a memory.
 #[tactic(auto, unfolding(crate::specs::Constants::memory_measure))]
 pub(crate) fn memory_measure(
     alloc: Global,

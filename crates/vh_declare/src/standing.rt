@@ -51,7 +51,7 @@ pub fn in_scope<R, F: FnOnce(&Scope) -> R>(
     work(&inside)
 }
 
-/// What is known of a variable that is declared in a scope.
+// What is known of a variable that is declared in a scope.
 #[tactic(auto, unfolding(crate::specs::Constants::var_measure))]
 pub(crate) fn var_at(
     alloc: Global,
@@ -79,7 +79,7 @@ pub(crate) fn var_at(
     }
 }
 
-/// The same of a memory.
+// The same of a memory.
 pub(crate) fn memory_at(
     alloc: Global,
     home: Home,
@@ -99,7 +99,7 @@ pub(crate) fn memory_at(
     })
 }
 
-/// The value of a parameter, which it may be given.
+// The value of a parameter, which it may be given.
 pub(crate) fn value_at(
     alloc: Global,
     home: Home,

@@ -153,8 +153,8 @@ fn names_fit(parts: &Parts) -> bool
         && stmts_fit(&parts.objects, &parts.stmts)
 }
 
-/// Whether the parts make a design. It goes once over the elements, and a few times over the parts
-/// of each.
+// Whether the parts make a design. It goes once over the elements, and a few times over the parts
+// of each.
 pub(crate) fn is_valid(parts: &Parts) -> bool
     ensures { IsTrue result ↔ IsValid (shape_of parts.now) }
 {

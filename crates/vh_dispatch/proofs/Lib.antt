@@ -1,2 +1,2 @@
--- the frames' sets through the registry's calls
+-- The frames' sets through the registry's calls
 pub mod FramesLemmas

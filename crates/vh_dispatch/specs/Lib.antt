@@ -1,4 +1,4 @@
--- the frames' sets over a registry
+-- The frames' sets over a registry
 pub mod Frames
--- what a removal and a registration leave of them
+-- What a removal and a registration leave of them
 pub mod Laws

@@ -23,7 +23,7 @@ fn push_spaces(out: &mut Vec<u8>, count: usize) -> Result<(), NoMemory>
     Ok(())
 }
 
-/// A text at the right of so many places.
+// A text at the right of so many places.
 pub(crate) fn push_at_right(out: &mut Vec<u8>, places: u32, text: &[u8]) -> Result<(), NoMemory>
     ensures { OnOk result (out.new.items ≡ out.old.items ++ at_right places text.now) }
 {
@@ -136,7 +136,7 @@ fn is_trimmed(form: Form) -> bool
     )
 }
 
-/// A value as a conversion shows it.
+// A value as a conversion shows it.
 pub(crate) fn push_value(
     alloc: Global,
     out: &mut Vec<u8>,

@@ -1,1 +1,2 @@
+-- What was written after two writes
 pub mod Appended

@@ -167,8 +167,8 @@ abbrev pub values_from : List Vector → Nodes → Option (List Vector)
 values_from vs [] = Some vs
 values_from vs (n ∷ ns) = option_and_then (λ v. values_from (vs ++ v ∷ []) ns) (value_in n.kind)
 
-abbrev pub ready_of : List ℕ → Walk → List Vector → Ready
-ready_of top wk vs = record {
+abbrev pub all_ready : List ℕ → Walk → List Vector → Ready
+all_ready top wk vs = record {
   top_name = top;
   precision = least_precision 17 wk.placed;
   names = wk.known.names;
@@ -183,7 +183,7 @@ ready_made ms wk r = finished_or_later r.objects r.precision (made_over ms r wk.
 
 abbrev pub values_made : SourceTree → List ℕ → Walk → Option (List Vector) → Elaborated
 values_made ms top wk None = later
-values_made ms top wk (Some vs) = ready_made ms wk (ready_of top wk vs)
+values_made ms top wk (Some vs) = ready_made ms wk (all_ready top wk vs)
 
 abbrev pub second_pass : SourceTree → List ℕ → Walk → Elaborated
 second_pass ms top wk = values_made ms top wk (values_from [] wk.known.exprs)

@@ -26,21 +26,21 @@ use vh_nodes::{DriverInfo, ExprKind, ExprNode, ObjectInfo};
 use vh_scope::Names;
 use vh_sites::Driven;
 
-/// The instances, of which all constants are known.
+// The instances, of which all constants are known.
 #[derive(Clone, Copy)]
 pub(crate) struct Ready<'a> {
     pub(crate) top_name: &'a [u8],
-    /// That of the simulation.
+    // That of the simulation.
     pub(crate) precision: u8,
     pub(crate) names: &'a Names,
     pub(crate) objects: &'a [ObjectInfo],
-    /// The values of parameters, at their numbers as expressions.
+    // The values of parameters, at their numbers as expressions.
     pub(crate) values: &'a [Vec4],
     pub(crate) routines: &'a Routines,
     pub(crate) genvars: &'a Genvars,
 }
 
-/// What is made so far, and the least fault so far.
+// What is made so far, and the least fault so far.
 #[derive(Drop)]
 pub(crate) struct Coding {
     pub(crate) added: Added,
@@ -49,11 +49,11 @@ pub(crate) struct Coding {
     pub(crate) bodies: Vec<Code>,
     pub(crate) fault: Option<Fault>,
     pub(crate) passed: bool,
-    /// How many statements and operators there are.
+    // How many statements and operators there are.
     pub(crate) count: u64,
 }
 
-/// Where code is made: the instances, what its statements stand in, and what is made so far.
+// Where code is made: the instances, what its statements stand in, and what is made so far.
 #[derive(Drop)]
 pub(crate) struct Coder<'m, 'r, 's, 'a, 'b> {
     pub(crate) alloc: Global,
@@ -62,7 +62,7 @@ pub(crate) struct Coder<'m, 'r, 's, 'a, 'b> {
     pub(crate) coding: &'m mut Coding,
 }
 
-/// The values of parameters alone.
+// The values of parameters alone.
 pub(crate) fn only_values(alloc: Global, ready: Ready) -> Result<Added, NoMemory>
     ensures { IfOk result (λ a. added_seen a ≡ Coded.only_values (ready_seen ready.entry)) }
 {
@@ -82,7 +82,7 @@ pub(crate) fn only_values(alloc: Global, ready: Ready) -> Result<Added, NoMemory
     })
 }
 
-/// One fault more.
+// One fault more.
 pub(crate) fn take_fault(fault: DesignFault, place: Place, coding: &mut Coding)
     ensures { coding_seen coding.new
         ≡ Coded.with_fault (fault, place) (coding_seen coding.old) }
@@ -90,7 +90,7 @@ pub(crate) fn take_fault(fault: DesignFault, place: Place, coding: &mut Coding)
     coding.fault = least(coding.fault, Some((fault, place)));
 }
 
-/// What was tried: behind a fault the values of parameters alone are left.
+// What was tried: behind a fault the values of parameters alone are left.
 pub(crate) fn tried<T>(
     alloc: Global,
     ready: Ready,
@@ -161,7 +161,7 @@ fn add_body(code: Option<Code>, coding: &mut Coding) -> Result<(), NoMemory>
     Ok(())
 }
 
-/// A process that was tried.
+// A process that was tried.
 pub(crate) fn put_code(
     alloc: Global,
     ready: Ready,
@@ -189,7 +189,7 @@ fn put_body(
     add_body(code, coding)
 }
 
-/// The process of a first value.
+// The process of a first value.
 pub(crate) fn code_value(coder: &mut Coder, number: u32, e: &Expr) -> Result<(), NoMemory>
     requires stands { Stands coder.old }
     ensures { Codes (λ r w c. Becomes (Coded.value_coded r w number (expr_tree e.now) c))
@@ -208,7 +208,7 @@ pub(crate) fn code_value(coder: &mut Coder, number: u32, e: &Expr) -> Result<(),
     put_code(coder.alloc, coder.ready, outcome, coder.coding)
 }
 
-/// An `initial` or `always` construct.
+// An `initial` or `always` construct.
 pub(crate) fn code_construct(coder: &mut Coder, kind: CodeKind, stmt: &Stmt) -> Result<(), NoMemory>
     requires stands { Stands coder.old }
     ensures { Codes (λ r w c. Becomes (Coded.construct_coded r w kind (stmt_tree stmt.now) c))
@@ -226,7 +226,7 @@ pub(crate) fn code_construct(coder: &mut Coder, kind: CodeKind, stmt: &Stmt) -> 
     put_code(coder.alloc, coder.ready, outcome, coder.coding)
 }
 
-/// The body of a task or function.
+// The body of a task or function.
 pub(crate) fn code_body(coder: &mut Coder, stmt: &Stmt) -> Result<(), NoMemory>
     requires stands { Stands coder.old }
     ensures { Codes (λ r w c. Becomes (Coded.body_coded r w (stmt_tree stmt.now) c))
@@ -293,7 +293,7 @@ fn add_drivers(
     }
 }
 
-/// Drivers that were looked at; answers their numbers.
+// Drivers that were looked at; answers their numbers.
 pub(crate) fn put_drivers(
     alloc: Global,
     outcome: Driving,
@@ -362,7 +362,7 @@ fn code_drive(
     put_code(coder.alloc, coder.ready, outcome, coder.coding)
 }
 
-/// A continuous assignment.
+// A continuous assignment.
 pub(crate) fn code_assignment(
     coder: &mut Coder,
     delay: &Option<Boxed<Delay>>,
@@ -386,7 +386,7 @@ pub(crate) fn code_assignment(
     code_drive(coder, numbers, delay, e)
 }
 
-/// A net or variable that an input drives: its driver, and the value that it takes.
+// A net or variable that an input drives: its driver, and the value that it takes.
 pub(crate) fn code_input_value(coder: &mut Coder, inner: ObjId, e: &Expr) -> Result<(), NoMemory>
     requires stands { Stands coder.old }
     ensures { Codes

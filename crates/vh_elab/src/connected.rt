@@ -24,7 +24,7 @@ use vh_lower::Maker;
 use vh_nodes::is_vector_at;
 use vh_ports::Ports;
 
-/// What is connected to a port, and where its entry begins.
+// What is connected to a port, and where its entry begins.
 #[derive(Clone, Copy)]
 pub(crate) struct Outer<'a> {
     pub(crate) place: Place,
@@ -352,7 +352,7 @@ fn code_row(
     Ok(())
 }
 
-/// The connected ports of an instance with this number, in the order of the header.
+// The connected ports of an instance with this number, in the order of the header.
 pub(crate) fn code_ports(
     coder: &mut Coder,
     ports: &Ports,

@@ -7,7 +7,7 @@ use vh_base::{DesignFault, NoMemory, Place};
 use vh_least::{fault_if, least};
 use vh_nodes::{ExprKind, ExprNode};
 
-/// How many statements and operators a design may have.
+// How many statements and operators a design may have.
 pub(crate) const MOST_COUNTED: u64 = 4_194_304;
 
 // How many operators an expression has.
@@ -53,7 +53,7 @@ fn behind(nodes: &[ExprNode], count: usize) -> &[ExprNode]
     &nodes[count..]
 }
 
-/// The statements and operators of a site, behind so many statements and expressions.
+// The statements and operators of a site, behind so many statements and expressions.
 pub(crate) fn count(
     place: Place,
     stmts: usize,

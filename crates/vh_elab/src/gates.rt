@@ -272,7 +272,7 @@ fn code_terminals(
     code_driven(coder, place, word, numbers, delay, calls, all)
 }
 
-/// A gate.
+// A gate.
 pub(crate) fn code_gate(
     coder: &mut Coder,
     word: GateType,

@@ -13,7 +13,7 @@ use vh_declare::is_routine;
 use vh_sites::{CodeWord, Declared, Site, Thing};
 use vh_walk::Placed;
 
-/// What is known of all tasks and functions, by the numbers of their bodies.
+// What is known of all tasks and functions, by the numbers of their bodies.
 #[derive(Drop)]
 pub(crate) struct Routines {
     pub(crate) routines: Vec<Routine>,
@@ -153,7 +153,7 @@ fn add_routines(alloc: Global, sites: &[Site], all: &mut Routines) -> Result<(),
     Ok(())
 }
 
-/// The tasks and functions of all instances.
+// The tasks and functions of all instances.
 pub(crate) fn routines_of(alloc: Global, all: &[Placed]) -> Result<Routines, NoMemory>
     ensures { IfOk result (λ r. routines_seen r ≡ spec.routines_of (map placed_seen all.now)) }
 {

@@ -29,8 +29,8 @@ use vh_scope::Top;
 use vh_sites::{CodeWord, Declared, Site, Thing};
 use vh_walk::Modules;
 
-/// What the second pass reads: the modules, the instances, and the values of parameters as
-/// expressions.
+// What the second pass reads: the modules, the instances, and the values of parameters as
+// expressions.
 #[derive(Clone, Copy)]
 pub(crate) struct Pass<'a, 'b, 'r, 'p> {
     pub(crate) alloc: Global,
@@ -275,7 +275,7 @@ fn code_site(pass: &Pass, unit: u8, site: &Site, coding: &mut Coding) -> Result<
     count(site.place, stmts, exprs, coding)
 }
 
-/// The sites of an instance.
+// The sites of an instance.
 pub(crate) fn code_sites(
     pass: &Pass,
     unit: u8,

@@ -7,7 +7,7 @@ use Rattle.vh_flow.specs.declared.flow.Flow.{Flow, roll-Flow, out-Flow, fold-rol
 use Rattle.vh_flow.specs.Trees.{flow, case_of, case_items}
 use Rattle.vh_flow.specs.Views.{flow_tree, form_tree}
 
--- what is made of each of a list twice is made of it at once
+-- What is made of each of a list twice is made of it at once
 map-both : {A B C : Type 0} (f : A → B) (g : B → C) (h : A → C) → ((a : A) → g (f a) ≡ h a) →
     (all : List A) → map g (map f all) ≡ map h all
 map-both f g h same [] = refl

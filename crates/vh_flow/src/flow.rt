@@ -96,7 +96,7 @@ pub enum FlowForm<F> {
 /// A bound statement. It is as deep as the statement.
 #[derive(Drop)]
 pub struct Flow {
-    /// How many labels its code has.
+    // How many labels its code has.
     pub(crate) size: u32,
     pub(crate) form: FlowForm<Flow>,
 }

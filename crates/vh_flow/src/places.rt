@@ -7,14 +7,14 @@ use std::alloc::Global;
 use vh_base::{NoMemory, ObjId};
 use vh_code::{Block, Goes, Instruction, Loop, Operation};
 
-/// The labels and the named blocks of a code so far.
+// The labels and the named blocks of a code so far.
 #[derive(Drop)]
 pub(crate) struct Laid {
     pub instructions: Vec<Instruction>,
     pub blocks: Vec<Block>,
 }
 
-/// None.
+// None.
 pub(crate) fn empty(alloc: Global) -> Laid
     ensures { laid_seen result ≡ empty }
 {
@@ -24,7 +24,7 @@ pub(crate) fn empty(alloc: Global) -> Laid
     }
 }
 
-/// The place of the next label, where it can be numbered.
+// The place of the next label, where it can be numbered.
 pub(crate) fn place_in(so: &Laid) -> Result<u32, NoMemory>
     ensures { IfOk result (λ n. n ≡ place_in (laid_seen so.now)) }
 {
@@ -34,7 +34,7 @@ pub(crate) fn place_in(so: &Laid) -> Result<u32, NoMemory>
     }
 }
 
-/// The number of the next block.
+// The number of the next block.
 pub(crate) fn next_block(so: &Laid) -> Result<u32, NoMemory>
     ensures { IfOk result (λ n. n ≡ length (laid_seen so.now).blocks) }
 {
@@ -44,7 +44,7 @@ pub(crate) fn next_block(so: &Laid) -> Result<u32, NoMemory>
     }
 }
 
-/// One label more.
+// One label more.
 pub(crate) fn add_label(
     so: &mut Laid,
     operation: Operation,
@@ -66,7 +66,7 @@ pub(crate) fn add_label(
     Ok(())
 }
 
-/// One block more.
+// One block more.
 pub(crate) fn add_block(
     so: &mut Laid,
     object: ObjId,
@@ -83,14 +83,14 @@ pub(crate) fn add_block(
     Ok(())
 }
 
-/// Where a statement of so many labels begins.
+// Where a statement of so many labels begins.
 pub(crate) fn start_at(place: u32, size: u32, after: Goes) -> Goes
     ensures { result ≡ start_at place size after }
 {
     if size == 0 { after } else { Goes::To(place) }
 }
 
-/// A label that goes on there, or else behind it.
+// A label that goes on there, or else behind it.
 pub(crate) fn gate_of(gate: Gate, otherwise: Goes) -> Operation
     ensures { result ≡ gate_of gate otherwise }
 {
@@ -108,13 +108,13 @@ pub(crate) fn gate_of(gate: Gate, otherwise: Goes) -> Operation
     }
 }
 
-/// The mark of a label that belongs to no statement.
+// The mark of a label that belongs to no statement.
 pub(crate) const NO_MARK: Mark = Mark {
     stmt: None,
     first: false,
 };
 
-/// The end of an `initial` or of a branch.
+// The end of an `initial` or of a branch.
 pub(crate) fn add_end(so: &mut Laid) -> Result<(), NoMemory>
     ensures { OnOk result (laid_seen so.new ≡ with_instruction end_of (laid_seen so.old)) }
 {

@@ -8,7 +8,7 @@ ghost use Rattle.std.specs.Prelude.{map};
 use crate::flow::{CaseItem, Flow, FlowForm};
 use vh_base::NoMemory;
 
-/// So many labels and so many more, where they can be numbered.
+// So many labels and so many more, where they can be numbered.
 pub(crate) fn plus(labels: u32, more: u32) -> Result<u32, NoMemory>
     ensures { IfOk result (λ n. n ≡ labels + more) }
 {
@@ -18,7 +18,7 @@ pub(crate) fn plus(labels: u32, more: u32) -> Result<u32, NoMemory>
     }
 }
 
-/// How many labels a statement has.
+// How many labels a statement has.
 pub(crate) fn size_of(flow: &Flow) -> u32
     ensures { result ≡ size_of (flow_tree flow.now) }
 {
@@ -36,7 +36,7 @@ fn row_size(flows: &[Flow]) -> Result<u32, NoMemory>
     Ok(sum)
 }
 
-/// How many the statements of a `case` have.
+// How many the statements of a `case` have.
 pub(crate) fn items_size(items: &[CaseItem<Flow>]) -> Result<u32, NoMemory>
     ensures { IfOk result (λ n. n ≡ items_size (case_items (map item_tree items.now))) }
 {
@@ -59,7 +59,7 @@ fn branches_size(flows: &[Flow]) -> Result<u32, NoMemory>
     Ok(sum)
 }
 
-/// How many a form has.
+// How many a form has.
 pub(crate) fn labels_in(form: &FlowForm<Flow>) -> Result<u32, NoMemory>
     ensures { IfOk result (λ n. n ≡ labels_in (form_tree form.now)) }
 {

@@ -68,7 +68,7 @@ next-none : {T : Type 0} (f g : T → Bool) (ts : List T) → next_is f ts ≡ f
 next-none f g [] e d = refl
 next-none f g (t ∷ ts) e d = rw (e, d) refl
 
--- after a part that took no token, or one
+-- After a part that took no token, or one
 abbrev pub Takes : {T A : Type 0} → Option A → (T → Bool) → A → List T → List T → Type 0
 Takes w f a ts rest = ((rest ≡ ts) × (w ≡ Some a) × (next_is f ts ≡ false)) ⊎ ((length rest < length ts) × (next_is f ts ≡ true))
 
@@ -84,7 +84,7 @@ takes-then {T} {A} w f a u g b v c ts mid rest k (inl h) (inl d) = inl (d.0 ∙ 
 takes-then {T} {A} w f a u g b v c ts mid rest k (inl h) (inr d) = let e : length mid ≡ length ts = same-length mid ts h.0 in let l : length rest < length mid = d.0 in inr (omega arith, next-right f (λ t. behind w (λ a. g a t)) ts (rw h.1 (rw h.0 at d.1)))
 takes-then w f a u g b v c ts mid rest k (inr h) d = let l : length mid < length ts = h.0 in let m : length rest ≤ length mid = takes-le (u a) (g a) b mid rest d in inr (omega arith, next-left f (λ t. behind w (λ a. g a t)) ts h.1)
 
--- more first tokens of productions make more of parts
+-- More first tokens of productions make more of parts
 behind-more : {A : Type 0} (o : Option A) (f g : A → Bool) → ((a : A) → f a ≡ true → g a ≡ true) → behind o f ≡ true → behind o g ≡ true
 behind-more None f g h e = e
 behind-more (Some a) f g h e = h a e

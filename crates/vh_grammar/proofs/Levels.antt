@@ -6,7 +6,7 @@ use Rattle.vh_grammar.specs.Conditions.{eats}
 use Rattle.vh_grammar.proofs.Size.{Sized, size-reader}
 use Rattle.vh_grammar.proofs.Starts.{Ended}
 
--- the second reading has more levels than the first
+-- The second reading has more levels than the first
 abbrev pub Below : {T A : Type 0} → Out T A → Out T A → Type 0
 Below (got a rest) o = o ≡ got a rest
 Below (stop lost left) o = o ≡ stop lost left

@@ -17,11 +17,11 @@ pub mod ShownLemmas
 -- The laws from what is known of a reading
 pub mod Subjects
 -- The laws of productions and of a whole source
-pub mod Laws
+pub mod LawsLemmas
 -- First sets are the tokens with which parts begin
 pub mod FirstsLemmas
 -- Classes are first sets, and add nothing
-pub mod Choices
+pub mod ChoicesLemmas
 -- Loops of a parser of the pure grammar
 pub mod Turns
 -- Loops of a parser with marks

@@ -10,7 +10,7 @@ use Rattle.vh_grammar.proofs.Size.{size-run, size-reader}
 use Rattle.vh_grammar.proofs.Outcomes.{reader-sound, reader-tree}
 use Rattle.vh_grammar.proofs.MarkingLemmas.{attached, Judged, run-judged, reader-judged}
 
--- each turn takes a token
+-- Each turn takes a token
 abbrev Shorter : {T A : Type 0} → (List T → ℕ → Out T (A × ℕ)) → Type 0
 Shorter {T} {A} item = (ts : List T) (m : ℕ) (a : A × ℕ) (mid : List T) → item ts m ≡ got a mid → suc (length mid) ≤ length ts
 

@@ -14,12 +14,12 @@ use Rattle.vh_grammar.proofs.Outcomes.{Says_of, one, shorter_mid, run-sound, run
 max-is : (a b : ℕ) → (max a b ≡ a) ⊎ (max a b ≡ b)
 max-is a b = elim (leb_tells a b) [ inl e ↦ inr (max-eq_right e.1) | inr e ↦ inl (max-eq_left (omega arith)) ]
 
--- an outcome of the pure grammar, with a mark
+-- An outcome of the pure grammar, with a mark
 abbrev pub attached : {T A : Type 0} → ℕ → Out T A → Out T (A × ℕ)
 attached k (got a rest) = got (a, k) rest
 attached k (stop fault left) = refusal fault left k
 
--- from the mark `m` on, `k` is the first place of what is shown
+-- From the mark `m` on, `k` is the first place of what is shown
 pub record Peak (S : ℕ → ℕ → Type 0) (m k : ℕ) : Type 0 where
   pub least : m ≤ k
   pub most : (place shown : ℕ) → S place shown → place ≤ k
@@ -46,7 +46,7 @@ peak-then S S' U m k k' f g h p q = record {
     back e (inl d) = inl (e ∙ d)
     back e (inr s) = inr (s.0, rw e (f k s.0 s.1))
 
--- a token of a class that is next
+-- A token of a class that is next
 pub peak-at : {T : Type 0} (ts : List T) (n : ℕ) (c d : Bool) (m : ℕ) → c ≡ d → Peak (λ place shown. (c ≡ true) × (place ≡ length ts) × (shown ≡ n)) m (mark_at ts d m)
 peak-at ts n c true m e = record {
   least = le-max_left m (length ts);
@@ -55,7 +55,7 @@ peak-at ts n c true m e = record {
 }
 peak-at ts n c false m e = peak-none (λ place shown. (c ≡ true) × (place ≡ length ts) × (shown ≡ n)) m (λ place shown s. let q : c ≡ true = s.0 in cc)
 
--- how a marked outcome stands to that of the pure grammar
+-- How a marked outcome stands to that of the pure grammar
 abbrev pub Judged : {T A : Type 0} → (ℕ → ℕ → Type 0) → ℕ → Out T A → Out T (A × ℕ) → Type 0
 Judged S m o o' = (k : ℕ) × (o' ≡ attached k o) × Peak S m k
 
@@ -95,7 +95,7 @@ judged-act {T} {A} {B} S m f o o' j = (j.0, ap (λ (z : Out T (A × ℕ)). then_
 judged-map : {T A : Type 0} (S U : ℕ → ℕ → Type 0) (m : ℕ) (o : Out T A) (o' : Out T (A × ℕ)) → ((place shown : ℕ) → S place shown → U place shown) → ((place shown : ℕ) → U place shown → S place shown) → Judged S m o o' → Judged U m o o'
 judged-map S U m o o' f g j = (j.0, j.1, peak-map S U m j.0 f g j.2)
 
--- a repetition
+-- A repetition
 abbrev pub Shows_item : {T A : Type 0} → (A → List T → List T → Type 0) → (List T → ℕ → ℕ → Type 0) → (T → Bool) → List T → ℕ → ℕ → Type 0
 Shows_item {T} {A} I S class ts place shown =
     (n : ℕ) × AfterTurns (λ _ _ m r. (next_is class m ≡ true) × ((a : A) × I a m r)) (λ _ m. (next_is class m ≡ true) × S m place shown) n (tt {0}) ts
@@ -127,7 +127,7 @@ module _ {T A : Type 0} (item : List T → Out T A) (item' : List T → ℕ → 
           (judged ts m)
           (λ a mid k q. judged-act (Shows_item I S class mid) k (λ more. a ∷ more) (many item class n mid) (marked_many item' class n mid k) (ih mid k (shorter_mid ts mid a (item ts) n q (short ts) b)))
 
--- an iteration
+-- An iteration
 abbrev pub Shows_turns : {T S : Type 0} → (S → S → List T → List T → Type 0) → (S → List T → ℕ → ℕ → Type 0) → (S → T → Bool) → S → List T → ℕ → ℕ → Type 0
 Shows_turns I W class s ts place shown = (n : ℕ) × AfterTurns (λ u v m r. (next_is (class u) m ≡ true) × I u v m r) (λ u m. (next_is (class u) m ≡ true) × W u m place shown) n s ts
 
@@ -236,7 +236,7 @@ module _ {T P : Type 0} {V : P → Type 0} (word : T → Bool) (grammar : (p : P
   reader-judged (suc n) p ts m =
       run-judged word (reader grammar n) (marked_at word grammar n) (ReadsAt grammar n) (MeetsAt grammar n) (ShowsAt grammar word n) (size-reader grammar eating n) (reader-sound grammar eating advancing n) (reader-tree grammar eating advancing n) (reader-judged n) (grammar p) (advancing p) ts m
 
--- on more levels nothing changes but what was too deep
+-- On more levels nothing changes but what was too deep
 abbrev pub Same : {T A X : Type 0} → Out T A → Out T X → Out T X → Type 0
 Same (got a rest) x y = y ≡ x
 Same (stop lost left) x y = y ≡ x

@@ -6,7 +6,7 @@ use Rattle.vh_grammar.specs.Sentences.{Repeats, AfterTurns, Reads, Meets, MeetsP
 use Rattle.vh_grammar.specs.Conditions.{eats, Advances}
 use Rattle.vh_grammar.proofs.Size.{Sized, size-run, size-reader}
 
--- what an outcome says, by a relation for trees and one for faults
+-- What an outcome says, by a relation for trees and one for faults
 abbrev pub Says_of : {T A : Type 0} → (A → List T → List T → Type 0) → (Fault → List T → ℕ → Type 0) → List T → Out T A → Type 0
 Says_of I E ts (got a rest) = I a ts rest
 Says_of I E ts (stop fault left) = E fault ts left
@@ -31,7 +31,7 @@ pub next-none : {T : Type 0} (class : T → Bool) (ts : List T) → next_is clas
 next-none class [] e b = cc
 next-none class (t ∷ ts) e b = omega arith
 
--- a repetition
+-- A repetition
 module _ {T A : Type 0} (item : List T → Out T A) (I : A → List T → List T → Type 0) (E : Fault → List T → ℕ → Type 0) (class : T → Bool) (short : (ts : List T) → Sized 1 ts (item ts)) where
   many-sound : ((ts : List T) → Says_of I E ts (item ts)) → (n : ℕ) (ts : List T) → length ts ≤ n → Says_of (Repeats (λ a m r. (next_is class m ≡ true) × I a m r) (λ m. next_is class m ≡ false)) (Meets_item I E class) ts (many item class n ts)
   many-sound h zero [] b = (refl, refl)
@@ -63,7 +63,7 @@ module _ {T A : Type 0} (item : List T → Out T A) (I : A → List T → List T
       let e : item ts ≡ got r.2.1.0 r.1 = h r.2.1.0 ts r.1 r.2.1.1 in
       rw (r.2.0, e, many-fault h f fault left k n r.1 (shorter_mid ts r.1 r.2.1.0 (item ts) n e (short ts) b) r.3)
 
--- an iteration
+-- An iteration
 module _ {T S : Type 0} (turn : S → List T → Out T S) (I : S → S → List T → List T → Type 0) (E : S → Fault → List T → ℕ → Type 0) (class : S → T → Bool) (short : (s : S) (ts : List T) → Sized 1 ts (turn s ts)) where
   turns-sound : ((s : S) (ts : List T) → Says_of (I s) (E s) ts (turn s ts)) → (n : ℕ) (s : S) (ts : List T) → length ts ≤ n → Says_of (Reads_turns I class s) (Meets_turns I E class s) ts (turns turn class n s ts)
   turns-sound h zero s [] b = (0, (refl, refl, refl))

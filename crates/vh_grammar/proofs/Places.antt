@@ -6,14 +6,14 @@ use Rattle.vh_grammar.specs.Reading.{lost, deep, left_out, Out, got, stop, then_
 use Rattle.vh_grammar.specs.Conditions.{eats, Advances}
 use Rattle.vh_grammar.proofs.Size.{weight, Sized, size-then, size-less, size-many, size-turns, size-run, size-past, size-reader}
 
--- a reading that goes on to the tokens `zs`, or stops there
+-- A reading that goes on to the tokens `zs`, or stops there
 abbrev pub Late : {T A : Type 0} → List T → Out T A → Type 0
 Late zs (got a rest) = length rest ≤ length zs
 Late zs (stop lost left) = left ≤ length zs
 Late zs (stop deep left) = left ≤ length zs
 Late zs (stop left_out left) = Unit {0}
 
--- what a reading of some tokens says of the reading with `zs` behind them
+-- What a reading of some tokens says of the reading with `zs` behind them
 abbrev pub Cut : {T A : Type 0} → List T → Out T A → Out T A → Type 0
 Cut zs (got a []) o = Late zs o
 Cut zs (got a (t ∷ ts)) o = o ≡ got a (t ∷ (ts ++ zs))
@@ -40,7 +40,7 @@ late-of w zs mid (stop lost left) b h = omega arith
 late-of w zs mid (stop deep left) b h = omega arith
 late-of w zs mid (stop left_out left) b h = tt
 
--- a reading of no tokens ends where they end
+-- A reading of no tokens ends where they end
 pub cut-end : {T A : Type 0} (w : ℕ) (zs : List T) (o' o : Out T A) → Sized {T = T} w [] o' → Late zs o → Cut zs o' o
 cut-end w zs (got a []) o s h = h
 cut-end w zs (got a (t ∷ ts)) o s h = absurd (omega arith)

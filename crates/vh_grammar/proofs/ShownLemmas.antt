@@ -11,7 +11,7 @@ use Rattle.vh_grammar.proofs.Places.{Late, Cut, cut-run, cut-reader}
 use Rattle.vh_grammar.proofs.Starts.{Ended, ended-size, ended-then, ended-back}
 use Rattle.vh_grammar.proofs.MarkingLemmas.{then-got}
 
--- a reading that goes on at least to where so many tokens are left
+-- A reading that goes on at least to where so many tokens are left
 abbrev pub Behind : {T A : Type 0} → ℕ → Out T A → Type 0
 Behind n (got a rest) = length rest ≤ n
 Behind n (stop fault left) = left ≤ n
@@ -33,7 +33,7 @@ behind-then n (stop fault left) next b f = b
 behind-here : {T A : Type 0} (class : T → Bool) (ts : List T) (place shown w : ℕ) (o : Out T A) → ShowsHere class ts place shown → Sized w ts o → Behind shown o
 behind-here class ts place shown w o h s = rw h.2 (behind-size w ts o s)
 
--- where it stands
+-- Where it stands
 abbrev pub Inside : {T : Type 0} → List T → ℕ → ℕ → Type 0
 Inside ts place shown = (0 < shown) × (shown ≤ place) × (place ≤ length ts)
 
@@ -50,7 +50,7 @@ inside-mid ts mid place shown l i = let a : place ≤ length mid = i.2 in (i.0, 
 mid-length : {T A : Type 0} (w : ℕ) (ts mid : List T) (a : A) (o : Out T A) → o ≡ got a mid → Sized w ts o → length mid ≤ length ts
 mid-length w ts mid a o e s = let k : Sized w ts (got a mid) = rw e at s in omega arith
 
--- what stands before the tokens `zs`, the first of which shows it, comes to their end
+-- What stands before the tokens `zs`, the first of which shows it, comes to their end
 ended-seq : {T A B : Type 0} (zs mid : List T) (a : A) (o' : Out T A) (next : A → List T → Out T B) → Cut zs o' (got a mid) → length zs ≤ length mid → ((m : List T) → mid ≡ m ++ zs → Ended (next a m)) → ((b : A) → Ended (next b [])) → Ended (then_ o' next)
 ended-seq zs mid a (got b []) next c l f g = g b
 ended-seq {T} {A} {B} zs mid a (got b (t ∷ m)) next c l f g = let e : (b ≡ a) × (mid ≡ (t ∷ m) ++ zs) = same c in rw e.0 (f (t ∷ m) e.1)
@@ -62,12 +62,12 @@ ended-seq zs mid a (stop lost (suc left)) next c l f g = cc
 ended-seq zs mid a (stop deep left) next c l f g = cc
 ended-seq zs mid a (stop left_out left) next c l f g = cc
 
--- nothing but those tokens is there
+-- Nothing but those tokens is there
 no-front : {T : Type 0} (us zs : List T) → length zs ≡ length (us ++ zs) → us ≡ []
 no-front [] zs e = refl
 no-front (u ∷ us) zs e = absurd (omega (arith, length-append us zs))
 
--- of two readings that go on alike behind some tokens
+-- Of two readings that go on alike behind some tokens
 pub got-cut : {T A : Type 0} (zs mid : List T) (a : A) (o' o : Out T A) → Cut zs o' o → o ≡ got a mid → length zs < length mid → (t : T) × (m : List T) × (o' ≡ got a (t ∷ m)) × (mid ≡ (t ∷ m) ++ zs)
 got-cut zs mid a (got b []) o c e l = let k : Late zs (got a mid) = rw e at c in absurd (omega arith)
 got-cut {T} {A} zs mid a (got b (t ∷ m)) o c e l = let q : (b ≡ a) × (mid ≡ (t ∷ m) ++ zs) = same (sym e ∙ c) in (t, m, ap (λ (z : A). got z (t ∷ m)) q.0, q.1)

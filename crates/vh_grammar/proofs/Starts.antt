@@ -7,7 +7,7 @@ use Rattle.vh_grammar.specs.Conditions.{eats, Advances}
 use Rattle.vh_grammar.proofs.Size.{weight, Sized, size-less, size-many, size-turns, size-run, size-reader}
 use Rattle.vh_grammar.proofs.Outcomes.{Says_of, one, shorter_mid, next-none, run-sound, run-tree, reader-sound, reader-tree}
 
--- a reading that comes to the end of the tokens
+-- A reading that comes to the end of the tokens
 abbrev pub Ended : {T A : Type 0} → Out T A → Type 0
 Ended (got a rest) = rest ≡ []
 Ended (stop lost left) = left ≡ 0
@@ -42,7 +42,7 @@ ended-then (stop left_out left) k h f = h
 cons-nil : {T : Type 0} (t : T) (ts : List T) → (t ∷ ts) ≡ [] → ⊥
 cons-nil t ts e = cc
 
--- a repetition
+-- A repetition
 module _ {T A : Type 0} (item : List T → Out T A) (I : A → List T → List T → Type 0) (E : Fault → List T → ℕ → Type 0) (B : List T → Type 0) (class : T → Bool) (short : (ts : List T) → Sized 1 ts (item ts)) where
   abbrev Begun : ℕ → List T → Type 0
   Begun n ts = AfterTurns (λ _ _ m r. (next_is class m ≡ true) × ((a : A) × I a m r)) (λ _ m. (m ≡ []) ⊎ ((next_is class m ≡ true) × B m)) n (tt {0}) ts
@@ -71,7 +71,7 @@ module _ {T A : Type 0} (item : List T → Out T A) (I : A → List T → List T
       let e : item ts ≡ got r.2.1.0 r.1 = h r.2.1.0 ts r.1 r.2.1.1 in
       rw (r.2.0, e) (ended-back (λ z. r.2.1.0 ∷ z) (many item class n r.1) (many-ended h f k n r.1 (shorter_mid ts r.1 r.2.1.0 (item ts) n e (short ts) b) r.3))
 
--- an iteration
+-- An iteration
 module _ {T S : Type 0} (turn : S → List T → Out T S) (I : S → S → List T → List T → Type 0) (E : S → Fault → List T → ℕ → Type 0) (B : S → List T → Type 0) (class : S → T → Bool) (short : (s : S) (ts : List T) → Sized 1 ts (turn s ts)) where
   abbrev Begun_turns : ℕ → S → List T → Type 0
   Begun_turns n s ts = AfterTurns (λ u v m r. (next_is (class u) m ≡ true) × I u v m r) (λ u m. (m ≡ []) ⊎ ((next_is (class u) m ≡ true) × B u m)) n s ts

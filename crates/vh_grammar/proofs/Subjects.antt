@@ -11,7 +11,7 @@ use Rattle.vh_grammar.proofs.Levels.{Below, ended-below}
 use Rattle.vh_grammar.proofs.MarkingLemmas.{attached, Peak}
 use Rattle.vh_grammar.proofs.ShownLemmas.{Behind, Inside}
 
--- an outcome of the pure grammar, in which nothing is left out
+-- An outcome of the pure grammar, in which nothing is left out
 abbrev pub Pure : {T A : Type 0} → Out T A → Type 0
 Pure (got a rest) = Unit {0}
 Pure (stop lost left) = Unit {0}
@@ -71,7 +71,7 @@ left-answered (suc k) (stop fault left) l = refl
 got-parts : {T A : Type 0} (a b : A) (r s : List T) → got a r ≡ got b s → (a ≡ b) × (r ≡ s)
 got-parts a b r s e = (cc, cc)
 
--- before a fault
+-- Before a fault
 stop-front : {T A : Type 0} (w : ℕ) (front rest : List T) (fault : Fault) (o' o : Out T A) → o ≡ stop fault (length rest) → Sized w front o' → Cut rest o' o → Ended o'
 stop-front w front rest fault (got a []) o e s c = refl
 stop-front w front rest fault (got a (t ∷ ts)) o e s c = cc
@@ -80,7 +80,7 @@ stop-front w front rest fault (stop lost (suc j)) o e s c = let q : suc j + leng
 stop-front w front rest fault (stop deep j) o e s c = let q : j + length rest ≡ length rest = cc in absurd (omega arith)
 stop-front w front rest fault (stop left_out j) o e s c = let q : j + length rest ≡ length rest = cc in absurd (omega arith)
 
--- with the next token, on any number of levels
+-- With the next token, on any number of levels
 lost-any : {T A : Type 0} (more : List T) (o' o x : Out T A) → o ≡ stop lost (suc (length more)) → Cut more o' o → Below o' x → Ended x → ⊥
 lost-any more (got a []) o x e c b d = let k : suc (length more) ≤ length more = rw e at c in omega arith
 lost-any more (got a (t ∷ ts)) o x e c b d = cc
@@ -89,7 +89,7 @@ lost-any more (stop lost (suc j)) o x e c b d = let q : suc j ≡ 0 = rw b at d 
 lost-any more (stop deep j) o x e c b d = cc
 lost-any more (stop left_out j) o x e c b d = rw b at d
 
--- the first token with which they don't begin it
+-- The first token with which they don't begin it
 abbrev Here : {T A : Type 0} → List T → Out T A → Type 0
 Here {T} {A} more o = ((fault : Fault) × (o ≡ stop fault (suc (length more)))) ⊎ ((a : A) × (t : T) × (o ≡ got a (t ∷ more)))
 
@@ -116,7 +116,7 @@ refused-here more ts next (stop lost (suc j)) o p l n s c = let q : suc j + leng
 refused-here more ts next (stop deep j) o p l n s c = let z : 0 < j = s.0 in let q : j + length more ≡ suc (length more) = omega arith in inl (deep, rw (c, q))
 refused-here more ts next (stop left_out j) o p l n s c = absurd p
 
--- what is left is the next token and those behind it
+-- What is left is the next token and those behind it
 last-same : {T : Type 0} (front us more : List T) (next t : T) → front ++ next ∷ more ≡ us ++ t ∷ more → next ≡ t
 last-same [] [] more next t e = cc
 last-same [] (u ∷ us) more next t e = let k : length (next ∷ more) ≡ length ((u ∷ us) ++ t ∷ more) = ap length e in absurd (omega (arith, length-append us (t ∷ more)))
@@ -126,7 +126,7 @@ last-same (x ∷ front) (u ∷ us) more next t e = last-same front us more next 
     tails : x ∷ (front ++ next ∷ more) ≡ u ∷ (us ++ t ∷ more) → front ++ next ∷ more ≡ us ++ t ∷ more
     tails q = cc
 
--- too soon
+-- Too soon
 ended-lost : {T A : Type 0} (o : Out T A) → Pure o → Ended o → ((a : A) → o ≡ got a [] → ⊥) → o ≡ stop lost 0
 ended-lost (got a rest) p e n = absurd (n a (ap (λ z. got a z) e))
 ended-lost (stop lost k) p e n = ap (λ (j : ℕ). stop lost j) e

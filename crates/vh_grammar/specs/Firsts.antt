@@ -2,17 +2,17 @@
 use Rattle.std.specs.Prelude.{ℕ, zero, suc, Bool, false, ◌||◌, is_some, Option, Some, None, option_map, []}
 use Rattle.vh_grammar.specs.Part.{Part, done, tok, seq, bind, act, alt, rep, iter, nested, unless, barred}
 
--- what is asked of a tree, if there is one (own)
+-- What is asked of a tree, if there is one (own)
 abbrev pub behind : {A : Type 0} → Option A → (A → Bool) → Bool
 behind None f = false
 behind (Some a) f = f a
 
--- two trees, if both are there (own)
+-- Two trees, if both are there (own)
 abbrev pub both : {A B : Type 0} → Option A → Option B → Option (A × B)
 both None b = None
 both (Some a) b = option_map (λ b. (a, b)) b
 
--- the tree that the first one decides on, if there is one (own)
+-- The tree that the first one decides on, if there is one (own)
 abbrev pub decided : {A B : Type 0} → Option A → (A → Option B) → Option B
 decided None f = None
 decided (Some a) f = f a

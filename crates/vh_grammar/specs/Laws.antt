@@ -5,11 +5,11 @@ use Rattle.vh_grammar.specs.Reading.{Fault, lost, deep, left_out, got, stop}
 use Rattle.vh_grammar.specs.Choices.{ChoosesByFirsts}
 use Rattle.vh_grammar.specs.Table.{Table, Subject, production, whole_source, IsSource, BeginsSource, SpellsSource, OpensSource}
 
--- no token shows that a construct is left out before one is refused (own)
+-- No token shows that a construct is left out before one is refused (own)
 abbrev pub NoneLeftOut : (s : Subject) → ℕ → List s.Token → Type 0
 NoneLeftOut s levels ts = (place shown : ℕ) → s.LeavesOut levels ts place shown → ⊥
 
--- of the constructs that are left out the one with the first place has so many tokens left there (own)
+-- Of the constructs that are left out the one with the first place has so many tokens left there (own)
 pub record IsFirstLeftOut (s : Subject) (levels : ℕ) (ts : List s.Token) (place : ℕ) : Type 0 where
   -- how many are left at the token that shows it
   pub shown : ℕ
@@ -30,7 +30,7 @@ pub record Answers (s : Subject) : Type 0 where
   -- so tokens are spelled with one tree at most, and leave one rest
   pub one_tree : (levels : ℕ) (a b : s.Tree) (ts rest end : List s.Token) → s.Is levels a ts rest → s.Is levels b ts end → (a ≡ b) × (rest ≡ end)
 
--- the tokens before the one with so many left (own)
+-- The tokens before the one with so many left (own)
 pub record Front (s : Subject) (ts : List s.Token) (left : ℕ) : Type 0 where
   pub front : List s.Token
   pub rest : List s.Token
@@ -72,22 +72,22 @@ pub record Laws (s : Subject) : Type 0 where
   pub refuses : RefusesFirst s
   pub counts : CountsFirst s
 
--- of each production (own)
+-- Of each production (own)
 abbrev pub LawsOfProductions : Table → Type 0
 LawsOfProductions t = (p : t.Name) → Laws (production t p)
 
--- of a whole source (own)
+-- Of a whole source (own)
 abbrev pub LawsOfSources : Table → Type 0
 LawsOfSources t = Laws (whole_source t)
 
--- the class of each choice of the table is the set of the first tokens of what is chosen (own)
+-- The class of each choice of the table is the set of the first tokens of what is chosen (own)
 abbrev pub ClassesAreFirsts : Table → Type 0
 ClassesAreFirsts t = ((p : t.Name) → ChoosesByFirsts t.grammar (t.grammar p)) × ChoosesByFirsts t.grammar t.start
 
--- with the classes or without them the same tokens are a source with the same tree (own)
+-- With the classes or without them the same tokens are a source with the same tree (own)
 abbrev pub SpellsWithoutClasses : Table → Type 0
 SpellsWithoutClasses t = (levels : ℕ) (a : t.Source) (ts : List t.Token) → SpellsSource t levels a ts ↔ IsSource t levels a ts
 
--- with the classes or without them the same tokens begin a source (own)
+-- With the classes or without them the same tokens begin a source (own)
 abbrev pub BeginsWithoutClasses : Table → Type 0
 BeginsWithoutClasses t = (levels : ℕ) (ts : List t.Token) → OpensSource t levels ts ↔ BeginsSource t levels ts

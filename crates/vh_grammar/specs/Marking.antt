@@ -7,39 +7,39 @@ use Rattle.vh_grammar.specs.Reading.{Fault, lost, deep, left_out, Out, got, stop
 -- A mark is how many tokens are left at the first place of what was shown to be left out; 0, the place
 -- after the last token, says that nothing was.
 
--- the mark, where the construct that begins here is left out: of two places the first one stays (own)
+-- The mark, where the construct that begins here is left out: of two places the first one stays (own)
 abbrev pub with_mark : {T : Type 0} → List T → ℕ → ℕ
 with_mark ts mark = max mark (length ts)
 
--- the mark, where a token of the class that is next shows that what begins at `ts` is left out (own)
+-- The mark, where a token of the class that is next shows that what begins at `ts` is left out (own)
 abbrev pub mark_at : {T : Type 0} → List T → Bool → ℕ → ℕ
 mark_at ts shown mark = if shown then with_mark ts mark else mark
 
--- what a refusal is answered: the mark if there is one, else the fault (own)
+-- What a refusal is answered: the mark if there is one, else the fault (own)
 abbrev pub refusal : {T A : Type 0} → Fault → ℕ → ℕ → Out T A
 refusal fault left zero = stop fault left
 refusal fault left (suc mark) = stop left_out (suc mark)
 
--- the first of the tokens, or their end, is refused. A word that stands in no production is left out (own)
+-- The first of the tokens, or their end, is refused. A word that stands in no production is left out (own)
 abbrev pub refused : {T A : Type 0} → (T → Bool) → Fault → List T → ℕ → Out T A
 refused word fault ts mark = refusal fault (length ts) (mark_at ts (next_is word ts) mark)
 
--- the first token has this meaning, or none (own)
+-- The first token has this meaning, or none (own)
 abbrev pub taken_from : {T A : Type 0} → (T → Bool) → Option A → T → List T → ℕ → Out T (A × ℕ)
 taken_from word (Some a) t ts mark = got (a, mark) ts
 taken_from word None t ts mark = refused word lost (t ∷ ts) mark
 
--- one token, with what it means (own)
+-- One token, with what it means (own)
 abbrev pub marked_token : {T A : Type 0} → (T → Bool) → (T → Option A) → List T → ℕ → Out T (A × ℕ)
 marked_token word meaning [] mark = refused word lost [] mark
 marked_token word meaning (t ∷ ts) mark = taken_from word (meaning t) t ts mark
 
--- where no level is left: too deep at a token, and nothing to be had after the last (own)
+-- Where no level is left: too deep at a token, and nothing to be had after the last (own)
 abbrev pub marked_past : {T A : Type 0} → (T → Bool) → List T → ℕ → Out T A
 marked_past word [] mark = refused word lost [] mark
 marked_past word (t ∷ ts) mark = refused word deep (t ∷ ts) mark
 
--- as many turns as there are tokens of the class next, at most `n` (own)
+-- As many turns as there are tokens of the class next, at most `n` (own)
 abbrev pub marked_many : {T A : Type 0} → (List T → ℕ → Out T (A × ℕ)) → (T → Bool) → ℕ → List T → ℕ → Out T (List A × ℕ)
 marked_many item class zero ts mark = got ([], mark) ts
 marked_many item class (suc n) ts mark =
@@ -70,21 +70,21 @@ module _ {T P : Type 0} {V : P → Type 0} (word : T → Bool) (grammar : (p : P
   abbrev pub marks : {A : Type 0} → ℕ → Part T V A → List T → ℕ → Out T (A × ℕ)
   marks levels part ts mark = marked word (marked_at levels) part ts mark
 
--- what a loop has read already, in front of what it has still to read (own)
+-- What a loop has read already, in front of what it has still to read (own)
 abbrev pub joined_marks : {T A : Type 0} → List A → Out T (List A × ℕ) → Out T (List A × ℕ)
 joined_marks front o = then_ o (λ more rest. got (front ++ more.0, more.1) rest)
 
--- the tree, unless a construct was left out (own)
+-- The tree, unless a construct was left out (own)
 abbrev pub unmarked : {T A : Type 0} → A → List T → ℕ → Out T A
 unmarked a rest zero = got a rest
 unmarked a rest (suc mark) = stop left_out (suc mark)
 
--- what is answered where a part is all that is read (own)
+-- What is answered where a part is all that is read (own)
 abbrev pub answered : {T A : Type 0} → Out T (A × ℕ) → Out T A
 answered (got a rest) = unmarked a.0 rest a.1
 answered (stop fault left) = stop fault left
 
--- what is answered where all tokens are to be read: one that is left over could not stand there (own)
+-- What is answered where all tokens are to be read: one that is left over could not stand there (own)
 abbrev pub answered_whole : {T A : Type 0} → (T → Bool) → Out T (A × ℕ) → Out T A
 answered_whole word (got a []) = unmarked a.0 [] a.1
 answered_whole word (got a (t ∷ ts)) = refused word lost (t ∷ ts) a.1

@@ -31,7 +31,7 @@ pub data Part (T : Type 0) {P : Type 0} (V : P → Type 0) : Type 0 → Type 1 w
   -- left out: the grammar goes on as if it weren't
   barred : {A : Type 0} → (A → T → Bool) → Part T V A → Part T V A
 
--- a token of the class means no more than that it stands there (own)
+-- A token of the class means no more than that it stands there (own)
 abbrev pub only_means : {T : Type 0} → (T → Bool) → T → Option (Unit {0})
 only_means class t = if class t then Some tt else None
 

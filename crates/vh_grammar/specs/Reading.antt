@@ -20,39 +20,39 @@ pub data Out (T A : Type 0) : Type 0 where
   -- a fault, and how many tokens are left at its place
   stop : Fault → ℕ → Out T A
 
--- goes on with the tree and the tokens that are left, unless there is a fault already (own)
+-- Goes on with the tree and the tokens that are left, unless there is a fault already (own)
 abbrev pub then_ : {T A B : Type 0} → Out T A → (A → List T → Out T B) → Out T B
 then_ (got a rest) next = next a rest
 then_ (stop fault left) next = stop fault left
 
--- a token of the class is next (own)
+-- A token of the class is next (own)
 abbrev pub next_is : {T : Type 0} → (T → Bool) → List T → Bool
 next_is class [] = false
 next_is class (t ∷ ts) = class t
 
--- the first token has this meaning, or none (own)
+-- The first token has this meaning, or none (own)
 abbrev pub taken : {T A : Type 0} → Option A → List T → Out T A
 taken (Some a) ts = got a ts
 taken None ts = stop lost (suc (length ts))
 
--- one token, with what it means (own)
+-- One token, with what it means (own)
 abbrev pub token_of : {T A : Type 0} → (T → Option A) → List T → Out T A
 token_of meaning [] = stop lost 0
 token_of meaning (t ∷ ts) = taken (meaning t) ts
 
--- where no level is left: too deep at a token, and nothing to be had after the last (own)
+-- Where no level is left: too deep at a token, and nothing to be had after the last (own)
 abbrev pub past_levels : {T A : Type 0} → List T → Out T A
 past_levels [] = stop lost 0
 past_levels (t ∷ ts) = stop deep (suc (length ts))
 
--- as many turns as there are tokens of the class next, at most `n` (own)
+-- As many turns as there are tokens of the class next, at most `n` (own)
 abbrev pub many : {T A : Type 0} → (List T → Out T A) → (T → Bool) → ℕ → List T → Out T (List A)
 many item class zero ts = got [] ts
 many item class (suc n) ts =
     if next_is class ts then then_ (item ts) (λ a mid. then_ (many item class n mid) (λ more rest. got (a ∷ more) rest))
     else got [] ts
 
--- the same with a state, which each turn gives anew (own)
+-- The same with a state, which each turn gives anew (own)
 abbrev pub turns : {T S : Type 0} → (S → List T → Out T S) → (S → T → Bool) → ℕ → S → List T → Out T S
 turns turn class zero s ts = got s ts
 turns turn class (suc n) s ts =
@@ -84,11 +84,11 @@ module _ {T P : Type 0} {V : P → Type 0} (grammar : (p : P) → Part T V (V p)
   abbrev pub read : {A : Type 0} → ℕ → Part T V A → List T → Out T A
   read levels part ts = run (reader levels) part ts
 
--- what a loop has read already, in front of what it has still to read (own)
+-- What a loop has read already, in front of what it has still to read (own)
 abbrev pub joined : {T A : Type 0} → List A → Out T (List A) → Out T (List A)
 joined front o = then_ o (λ more rest. got (front ++ more) rest)
 
--- a whole source: a token that is left over is one that could not stand there (own)
+-- A whole source: a token that is left over is one that could not stand there (own)
 abbrev pub whole : {T A : Type 0} → Out T A → Out T A
 whole (got a []) = got a []
 whole (got a (t ∷ ts)) = stop lost (suc (length ts))

@@ -5,23 +5,23 @@ use Rattle.std.specs.Prelude.{◌≡◌, ℕ, zero, suc, Bool, true, false, Opti
 use Rattle.vh_grammar.specs.Part.{Part, done, tok, seq, bind, act, alt, rep, iter, nested, unless, barred}
 use Rattle.vh_grammar.specs.Reading.{Fault, lost, deep, next_is}
 
--- the tokens from `ts` up to `rest` are items, one for each tree of the list, and behind the last it
+-- The tokens from `ts` up to `rest` are items, one for each tree of the list, and behind the last it
 -- ends (own)
 abbrev pub Repeats : {T A : Type 0} → (A → List T → List T → Type 0) → (List T → Type 0) → List A → List T → List T → Type 0
 Repeats Item End [] ts rest = (rest ≡ ts) × End ts
 Repeats {T} Item End (a ∷ more) ts rest = (mid : List T) × Item a ts mid × Repeats Item End more mid rest
 
--- after `n` turns from a state and these tokens, this holds of the state and of the tokens left (own)
+-- After `n` turns from a state and these tokens, this holds of the state and of the tokens left (own)
 abbrev pub AfterTurns : {T S : Type 0} → (S → S → List T → List T → Type 0) → (S → List T → Type 0) → ℕ → S → List T → Type 0
 AfterTurns Turn End zero s ts = End s ts
 AfterTurns {T} {S} Turn End (suc n) s ts = (u : S) × (mid : List T) × Turn s u ts mid × AfterTurns Turn End n u mid
 
--- the first token is none of the class (own)
+-- The first token is none of the class (own)
 abbrev pub NoToken : {T A : Type 0} → (T → Option A) → List T → Type 0
 NoToken meaning [] = Unit {0}
 NoToken meaning (t ∷ ts) = meaning t ≡ None
 
--- the first token is of the class, and shows that what begins with it is left out (own)
+-- The first token is of the class, and shows that what begins with it is left out (own)
 abbrev pub ShowsHere : {T : Type 0} → (T → Bool) → List T → ℕ → ℕ → Type 0
 ShowsHere class ts place shown = (next_is class ts ≡ true) × (place ≡ length ts) × (shown ≡ length ts)
 
@@ -100,7 +100,7 @@ module _ {T P : Type 0} {V : P → Type 0} (Nested : (p : P) → V p → List T 
     Shows (barred {A} class p) ts place shown =
         Shows p ts place shown ⊎ ((a : A) × (rest : List T) × Reads p a ts rest × (next_is (class a) rest ≡ true) × (place ≡ length ts) × (shown ≡ length rest))
 
--- where no level is left, the end of the tokens is a missing token, and each token is too deep (own)
+-- Where no level is left, the end of the tokens is a missing token, and each token is too deep (own)
 abbrev pub MeetsPast : {T : Type 0} → Fault → List T → ℕ → Type 0
 MeetsPast fault [] left = (fault ≡ lost) × (left ≡ 0)
 MeetsPast fault (t ∷ ts) left = (fault ≡ deep) × (left ≡ suc (length ts))

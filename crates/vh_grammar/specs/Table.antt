@@ -57,7 +57,7 @@ pub record Subject : Type 1 where
   -- shows it
   pub LeavesOut : ℕ → List Token → ℕ → ℕ → Type 0
 
--- a production, with so many levels left (own)
+-- A production, with so many levels left (own)
 abbrev pub production : (t : Table) → t.Name → Subject
 production t p = record {
   Token = t.Token;
@@ -69,24 +69,24 @@ production t p = record {
   LeavesOut = λ levels. ShowsAt t.grammar t.left_out levels p;
 }
 
--- the tokens are a whole source with this tree (own)
+-- The tokens are a whole source with this tree (own)
 abbrev pub IsSource : (t : Table) → ℕ → t.Source → List t.Token → Type 0
 IsSource t levels a ts = Reads (ReadsAt t.grammar levels) t.start a ts []
 
--- the tokens begin a source (own)
+-- The tokens begin a source (own)
 abbrev pub BeginsSource : (t : Table) → ℕ → List t.Token → Type 0
 BeginsSource t levels ts = Begins (ReadsAt t.grammar levels) (BeginsAt t.grammar levels) t.start ts
 
--- what is answered where the tokens are read as a whole source, with so many levels for what is nested in
+-- What is answered where the tokens are read as a whole source, with so many levels for what is nested in
 -- it (own)
 abbrev pub source : (t : Table) → ℕ → List t.Token → Out t.Token t.Source
 source t levels ts = answered_whole t.left_out (marks t.left_out t.grammar levels t.start ts 0)
 
--- tokens are left behind a source, the first of which could not stand there (own)
+-- Tokens are left behind a source, the first of which could not stand there (own)
 abbrev pub IsLeft : (t : Table) → ℕ → List t.Token → List t.Token → Type 0
 IsLeft t levels ts rest = (a : t.Source) × Reads (ReadsAt t.grammar levels) t.start a ts rest
 
--- a whole source, with so many levels for what is nested in it (own)
+-- A whole source, with so many levels for what is nested in it (own)
 abbrev pub whole_source : Table → Subject
 whole_source t = record {
   Token = t.Token;
@@ -102,11 +102,11 @@ whole_source t = record {
       ⊎ ((rest : List t.Token) × IsLeft t levels ts rest × ShowsHere t.left_out rest place shown);
 }
 
--- the tokens are a whole source with this tree, with no word of classes (own)
+-- The tokens are a whole source with this tree, with no word of classes (own)
 abbrev pub SpellsSource : (t : Table) → ℕ → t.Source → List t.Token → Type 0
 SpellsSource t levels a ts = Spells (first_at t.grammar t.reach) (SpellsAt (first_at t.grammar t.reach) t.grammar levels) t.start a ts []
 
--- the tokens begin a source, with no word of classes (own)
+-- The tokens begin a source, with no word of classes (own)
 abbrev pub OpensSource : (t : Table) → ℕ → List t.Token → Type 0
 OpensSource t levels ts =
     Opens (first_at t.grammar t.reach) (SpellsAt (first_at t.grammar t.reach) t.grammar levels) (OpensAt (first_at t.grammar t.reach) t.grammar levels) t.start ts

@@ -67,7 +67,7 @@ other_more q h t [] apart = rw (at_eq q h, apart) refl
 other_more q h t (e ∷ es) apart =
     other_more_by (nat_lt h e.0) (nat_eq h e.0) q h t e es refl apart (other_more q h t es apart)
 
--- and after one is gone.
+-- And after one is gone.
 climb_from : (least lower : ℕ) (es : List (ℕ × Thing)) → lower ≤ least → NumbersRise least es → NumbersRise lower es
 climb_from least lower [] below climb = tt
 climb_from least lower (e ∷ es) below climb = (let h = climb.0 in omega arith, climb.1)
@@ -138,7 +138,7 @@ pub few_more : (h : ℕ) (t : Thing) (es : List (ℕ × Thing)) → length (inse
 few_more h t [] = omega arith
 few_more h t (e ∷ es) = few_more_by (nat_lt h e.0) (nat_eq h e.0) h t e es (few_more h t es)
 
--- or one less,
+-- Or one less,
 few_less_by : (b : Bool) (e : ℕ × Thing) (es rest : List (ℕ × Thing)) → length rest ≤ length es → length (cond b es (e ∷ rest)) ≤ suc (length es)
 few_less_by true e es rest few = omega arith
 few_less_by false e es rest few = omega (arith, few)
@@ -147,7 +147,7 @@ pub few_less : (h : ℕ) (es : List (ℕ × Thing)) → length (remove_entry (is
 few_less h [] = omega arith
 few_less h (e ∷ es) = few_less_by (is_at (nat_cmp h) e.0) e es (remove_entry (is_at (nat_cmp h)) es) (few_less h es)
 
--- or as many.
+-- Or as many.
 climb_set_by : (b : Bool) (least : ℕ) (t : Thing) (e : ℕ × Thing) (es rest : List (ℕ × Thing)) → NumbersRise least (e ∷ es)
     → NumbersRise (e.0 + 1) rest → NumbersRise least (cond b ((e.0, t) ∷ es) (e ∷ rest))
 climb_set_by true least t e es rest climb kept = climb

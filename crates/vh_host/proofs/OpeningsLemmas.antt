@@ -46,7 +46,7 @@ none-below n q [] lower = refl
 none-below n q (e ∷ es) lower =
     passes n q (first_result e) (results-from (n + 1) es) (λ same. omega arith) ∙ none-below (n + 1) q es (omega arith)
 
--- and from there on the one of each expression.
+-- And from there on the one of each expression.
 result-at : (n q i : ℕ) (es : List ExprNode) → q ≡ n + i → lookup (is_at (nat_cmp q)) (results-from n es) ≡ result_at (slice_get es i)
 result-at n q i [] at = refl
 result-at n q zero (e ∷ es) at =

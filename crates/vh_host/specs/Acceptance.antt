@@ -92,7 +92,7 @@ closed_answer begin None tokens after = tokens_answer begin tokens after
 abbrev pub lexed_answer : Place → Lexed → Result Shape DesignRefusal
 lexed_answer begin (reading first s) = closed_answer begin (slice_get s.conditionals 0) s.made.tokens s.place
 lexed_answer begin (refused lexical at) = Err (lexical, at)
--- want of memory is nothing that files come to
+-- Want of memory is nothing that files come to
 lexed_answer begin exhausted = tokens_answer begin [] (place 1 1 1)
 
 -- The design of the Verilog files among these, which are one source in word order; or their first fault.

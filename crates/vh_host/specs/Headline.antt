@@ -21,9 +21,9 @@ abbrev pub FailsBefore : ℕ → Status → Type 0
 FailsBefore m (status.TooLong n) = m ≤ n
 FailsBefore m (status.DesignRefused f p) = Unit {0}
 FailsBefore m (status.AppRefused n f p) = Unit {0}
--- words without a reading name no file
+-- Words without a reading name no file
 FailsBefore m status.Usage = ⊥
--- no refusals
+-- No refusals
 FailsBefore m (status.Done cause) = ⊥
 FailsBefore m (status.ReadFault n) = ⊥
 FailsBefore m (status.RunFault f) = ⊥

@@ -52,9 +52,9 @@ WroteOf budget moves (status.RunFault fault) written = WroteEnded moves (ending.
 WroteOf budget moves status.BudgetSpent written = WroteBudget budget moves written
 WroteOf budget moves status.WriteFault written = WroteFront moves written
 WroteOf budget moves status.NoMemory written = WroteFront moves written
--- the source failed before the run began
+-- The source failed before the run began
 WroteOf budget moves (status.ReadFault n) written = (moves ≡ []) × (written ≡ [])
--- an accepted input isn't refused
+-- An accepted input isn't refused
 WroteOf budget moves status.Usage written = ⊥
 WroteOf budget moves (status.TooLong n) written = ⊥
 WroteOf budget moves (status.DesignRefused f p) written = ⊥

@@ -47,7 +47,7 @@ Turned k None s t old new = (l : Label) × TurnsTo k l s t old new × (is_end l 
 Turned k (Some (status.Done c)) s t old new = TurnsTo k (label.End (ending.Cause c)) s t old new
 Turned k (Some (status.RunFault f)) s t old new = TurnsTo k (label.End (ending.Fault f)) s t old new
 Turned k (Some status.WriteFault) s t old new = IsCut k s old new
--- memory was refused before the label was made, or with its line
+-- Memory was refused before the label was made, or with its line
 Turned k (Some status.NoMemory) s t old new = (new ≡ old) ⊎ IsCut k s old new
 Turned k (Some status.Usage) s t old new = ⊥
 Turned k (Some (status.ReadFault n)) s t old new = ⊥

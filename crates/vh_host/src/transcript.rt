@@ -46,7 +46,7 @@ pub fn transcribe<K: Sink>(
     Status::BudgetSpent
 }
 
-/// The number of the choice that the order takes, which then is the order for the labels after it.
+// The number of the choice that the order takes, which then is the order for the labels after it.
 pub(crate) fn choose(kernel: &Kernel, order: &mut Chooser) -> u32
     requires { 0 < choices_of (state_of kernel.now) }
     ensures choice { result ≡ chosen order.old (choices_of (state_of kernel.now)) }

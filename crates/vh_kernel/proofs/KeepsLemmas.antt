@@ -93,7 +93,7 @@ pub record Keeps (P : Events → Type 0) : Type 0 where
   pub adds : (time : ℕ) (r : Region) (w : Work) (q : Events) → is_follow w ≡ false → P q → P (added (Some time) r w q)
   pub drops : (test : Entry → Bool) (q : Events) → P q → P (record q { entries = filter test q.entries })
 
--- and with a follow more that is noted, where none of it stands, with other regions and times, and where no entry was added yet.
+-- And with a follow more that is noted, where none of it stands, with other regions and times, and where no entry was added yet.
 pub record KeepsNotes (Q : Serials → Events → Type 0) : Type 0 where
   pub each : (n : Serials) → Keeps (Q n)
   pub follows : (n : Serials) (q : Events) (force : Bool) (o time : ℕ) (r : Region) → is_standing q (last_of force o n) ≡ false → Q n q

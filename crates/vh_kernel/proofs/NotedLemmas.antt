@@ -44,7 +44,7 @@ found-put : (x n : ℕ) (us : List (ℕ × ℕ)) → lookup (is_at (nat_cmp x)) 
 found-put x n [] = rw (at-same x x refl) refl
 found-put x n (e ∷ es) = found-by (nat_lt x e.0) (nat_eq x e.0) x n e es (insert_entry nat_cmp es x n) refl (found-put x n es)
 
--- and all else as before.
+-- And all else as before.
 other-by : (b d : Bool) (y x n : ℕ) (e : ℕ × ℕ) (es rest : List (ℕ × ℕ)) → nat_eq x e.0 ≡ d → y ≢ x
     → lookup (is_at (nat_cmp y)) rest ≡ lookup (is_at (nat_cmp y)) es
     → lookup (is_at (nat_cmp y)) (match_ordering (cond b Less (cond d Equal Greater)) ((x, n) ∷ e ∷ es) ((e.0, n) ∷ es) (e ∷ rest))

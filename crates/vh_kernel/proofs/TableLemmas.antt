@@ -197,7 +197,7 @@ choices-going s going =
     ap (λ (b : Bool). cond b 0 (cond (is_crowded s) 1 (top_choices (slice_get s.control 0) s))) going.goes
     ∙ ap (λ (b : Bool). cond b 1 (top_choices (slice_get s.control 0) s)) going.fits
 
--- by the top of control,
+-- By the top of control,
 by-top : (s : State) (c : Control) (k : ℕ) (g : Given) → HasTop s c
     → crowded_move (is_crowded s) s k g ≡ item_move c (without_top s) k g
 by-top s c k g on = by-going s k g on.going ∙ ap (λ (o : Option Control). top_move o s k g) on.on
@@ -208,7 +208,7 @@ choices-by-top s c on = choices-going s on.going ∙ ap (λ (o : Option Control)
 some-top : (s : State) (c : Control) → HasTop s c → 0 < choices_of s
 some-top s c on = some-choice s on.going.goes
 
--- and by the agenda, with nothing on control.
+-- And by the agenda, with nothing on control.
 by-agenda : (s : State) (o : Option Agendum) (k : ℕ) (g : Given) → HasNext s o
     → crowded_move (is_crowded s) s k g ≡ agenda_move o s k
 by-agenda s o k g next =

@@ -55,7 +55,7 @@ abbrev pub TellsStanding : Type 0
 TellsStanding = (n : Serials) (q : Events) (force : Bool) (o : ℕ) → IsNoted n q
     → is_standing q (last_of force o n) ≡ list_any (λ e. is_follow_of force o e.work) q.entries
 
--- and of each force and each assign one stands at most.
+-- And of each force and each assign one stands at most.
 abbrev pub StandsOnce : Type 0
 StandsOnce = (n : Serials) (q : Events) (force : Bool) (o i j : ℕ) (e f : Entry) → IsNoted n q
     → slice_get q.entries i ≡ Some e → slice_get q.entries j ≡ Some f → e.work ≡ work.Follow o force → f.work ≡ work.Follow o force → e ≡ f

@@ -142,7 +142,7 @@ pub record Performs (s : State) (p : ℕ) (shown : Option (List ℕ)) (u : State
 
 -- From a state a label leads to another, before that settles: a row for each label.
 abbrev pub Row : State → Label → State → Type 0
--- the startup that is next on the agenda begins
+-- The startup that is next on the agenda begins
 Row s (label.Startup k) u =
     HasNext s (Some (agendum.Startup k)) × (u ≡ started (slice_get s.world.scripts (k - 1)) k (without_item s))
 Row s (label.Do who order answer) u = Acts s (label.Do who order answer) u
@@ -151,22 +151,22 @@ Row s (label.Ret who) u = Acts s (label.Ret who) u
 Row s (label.Occ n reason object) u = Tells s n reason object u
 Row s (label.Fire n c) u = Fires s n c u
 Row s (label.Done n) u = Closes s n u
--- all inactive entries of the present time become active, else all nonblocking ones, else those of the
+-- All inactive entries of the present time become active, else all nonblocking ones, else those of the
 -- monitor region
 Row s (label.Activate r) u =
     IsCalm s (Some r) × (u ≡ with_queue (activated r s.activity.queue) s)
--- time advances to the least time of an entry
+-- Time advances to the least time of an entry
 Row s (label.Advance time) u =
     IsCalm s None × (least_time s.activity.queue.entries ≡ Some time) × (u ≡ record s { activity = at_time time s.activity })
 Row s (label.Pick n shown) u = Picks s n shown u
 Row s (label.Stmt p shown) u = Performs s p shown u
--- control with its frames, the agenda and the queue are emptied, and the end of simulation is pending
+-- Control with its frames, the agenda and the queue are emptied, and the end of simulation is pending
 Row s (label.Finish c) u = FinishIsDue s c × (u ≡ (finish_move c s).1)
--- the run is over, with the cause of its finish, once nothing is on control
+-- The run is over, with the cause of its finish, once nothing is on control
 Row s (label.End (ending.Cause c)) u =
     IsGoing s × (s.phase ≡ phase.Finished c) × (slice_get s.control 0 ≡ None)
     × (u ≡ record s { phase = phase.Ended (ending.Cause c) })
--- or in place of a label that would exceed a number, where nothing is left of the simulation but its design and the time
+-- Or in place of a label that would exceed a number, where nothing is left of the simulation but its design and the time
 Row s (label.End (ending.Fault f)) u =
     Exceeds s f × (u ≡ record s { activity = stopped s.activity; phase = phase.Ended (ending.Fault f) })
 
@@ -185,11 +185,11 @@ IsSound s = Rises 1 s.activity.queue.next s.activity.queue.entries
 abbrev pub StepsByTable : Type 0
 StepsByTable = (s t : State) (k : ℕ) (l : Label) → k < choices_of s → IsStep s k (l, t) → Step s l t
 
--- each step of the table is that of a choice;
+-- Each step of the table is that of a choice;
 abbrev pub TableBySteps : Type 0
 TableBySteps = (s t : State) (l : Label) → Step s l t → (k : ℕ) × (k < choices_of s) × IsStep s k (l, t)
 
--- a design opens soundly, a sound state stays sound, and in one the state after is a function of the
+-- A design opens soundly, a sound state stays sound, and in one the state after is a function of the
 -- state before and the label.
 abbrev pub StaysSound : Type 0
 StaysSound = (s t : State) (l : Label) → IsSound s → Step s l t → IsSound t

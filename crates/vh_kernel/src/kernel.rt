@@ -67,14 +67,14 @@ impl Kernel {
         self.simulation.time()
     }
 
-    /// The full name of an object; no bytes where the design has no such object.
+    // The full name of an object; no bytes where the design has no such object.
     pub(crate) fn object_name(&self, id: ObjId) -> &[u8]
         ensures { result.now ≡ name_of id (state_of self.now).world.names }
     {
         self.world.object_name(id)
     }
 
-    /// The name of a script by its number from 1; no bytes where there is no such script.
+    // The name of a script by its number from 1; no bytes where there is no such script.
     pub(crate) fn script_name(&self, number: u32) -> &[u8]
         ensures { result.now ≡ script_name number (state_of self.now) }
     {

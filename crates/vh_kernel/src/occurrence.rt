@@ -72,7 +72,7 @@ impl Occurrence {
         }
     }
 
-    /// The same occurrence, with the text of its value made.
+    // The same occurrence, with the text of its value made.
     pub(crate) fn with_text(self, alloc: Global, texts: &mut Texts) -> Result<Occurrence, NoMemory>
         ensures { IfOk result (λ occurrence. occurrence ≡ self) }
     {
@@ -88,7 +88,7 @@ impl Occurrence {
         })
     }
 
-    /// It is over; the text of its value is left.
+    // It is over; the text of its value is left.
     pub(crate) fn into_text(self) -> Option<Short>
         ensures { IfSome result (λ text. self.value ≡ Some text) }
     {

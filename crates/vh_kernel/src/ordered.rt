@@ -19,7 +19,7 @@ impl Model for Ordered {
 }
 
 impl Ordered {
-    /// The order, in memory that another had if there is some.
+    // The order, in memory that another had if there is some.
     pub(crate) fn new(
         alloc: Global,
         memory: Option<Ordered>,
@@ -36,7 +36,7 @@ impl Ordered {
         Ok(memory)
     }
 
-    /// The memory of an order that is shown no more, without its texts, which others may have.
+    // The memory of an order that is shown no more, without its texts, which others may have.
     pub(crate) fn into_memory(self) -> Ordered {
         let mut inner = self.inner;
         *inner = Order::Return;

@@ -106,13 +106,13 @@ turns_sound a b (adds r body room is) sound =
 turns_sound a b (drops c is) sound =
     subst (λ (x : Callbacks Body). IsSound x) (sym is) (sound_removed a c sound)
 
--- the next number doesn't fall,
+-- The next number doesn't fall,
 pub turns_next : (a b : Callbacks Body) → ChangesByOne a b → a.next ≤ b.next
 turns_next a b (stays is) = let e : b.next ≡ a.next = ap (λ (x : Callbacks Body). x.next) is in omega arith
 turns_next a b (adds r body room is) = let e : b.next ≡ a.next + 1 = ap (λ (x : Callbacks Body). x.next) is in omega arith
 turns_next a b (drops c is) = let e : b.next ≡ a.next = ap (λ (x : Callbacks Body). x.next) is in omega arith
 
--- and what was live and isn't any more isn't live again.
+-- And what was live and isn't any more isn't live again.
 gone_by : (b : Bool) (c d : ℕ) (s : Callbacks Body) → nat_eq c d ≡ b → IsSound s → is_live c s ≡ false → is_live c (removed d s) ≡ false
 gone_by true c d s is sound gone =
     let same : d ≡ c = sym (eqb-true c d is) in

@@ -68,7 +68,7 @@ stays-given q a b l (frees_one none h is) given = at-other (freed h a) b (λ (x 
 stays-given q a b l (gives_one h t fresh gives is) given =
     at-other (opened h t a) b (λ (x : Handles). x.is_given q ≡ true) is (or_right (nat_eq q h) (a.is_given q) given)
 
--- a number that is given wasn't given before, and is after,
+-- A number that is given wasn't given before, and is after,
 pub gives-new : (q : ℕ) (a b : Handles) (l : Label) → Hands a l b → is_giving q l ≡ true
     → (a.is_given q ≡ false) × (b.is_given q ≡ true)
 gives-new q a b l (gives_none none is) giving = absurd (not_both (is_giving q l) giving (none q))
@@ -79,7 +79,7 @@ gives-new q a b l (gives_one h t fresh gives is) giving =
       at-other (opened h t a) b (λ (x : Handles). x.is_given q ≡ true) is (ap (λ (x : Bool). x || a.is_given q) (eq-eqb q h same)),
     )
 
--- the numbers rise,
+-- The numbers rise,
 pub stays-climbing : (a b : Handles) (l : Label) → Hands a l b → NumbersRise 0 a.live → NumbersRise 0 b.live
 stays-climbing a b l (gives_none none is) climb = at-other a b (λ (x : Handles). NumbersRise 0 x.live) is climb
 stays-climbing a b l (frees_one none h is) climb =
@@ -87,7 +87,7 @@ stays-climbing a b l (frees_one none h is) climb =
 stays-climbing a b l (gives_one h t fresh gives is) climb =
     at-other (opened h t a) b (λ (x : Handles). NumbersRise 0 x.live) is (climb_more 0 h t a.live (omega arith) climb)
 
--- and what was given names the same or nothing any more.
+-- And what was given names the same or nothing any more.
 abbrev pub NamesStill : ℕ → Handles → Handles → Type 0
 NamesStill q a b = (thing_at q b ≡ None) ⊎ (thing_at q b ≡ thing_at q a)
 

@@ -37,11 +37,11 @@ use Rattle.vh_laws.proofs.Splits.{not_both, or_left, or_right}
 use Rattle.vh_first_design.specs.Designs.{instructions_of, codes_of}
 use Rattle.vh_names.specs.Names.{scopes_below, dotted}
 
--- module top; reg r; endmodule
+-- Module top; reg r; endmodule
 abbrev still : First
 still = record { name = codes "top"; regs = codes "r" ∷ []; blocks = [] }
 
--- app a; var r, one, two, three, x; startup { register cbEndOfCompile null 0 proc init 0; }
+-- App a; var r, one, two, three, x; startup { register cbEndOfCompile null 0 proc init 0; }
 -- proc init {
 --   r = by_name "top.r" null; one = register cbStartOfSimulation null 0 proc p1 1;
 --   two = register cbStartOfSimulation null 0 proc p2 2; three = register cbStartOfSimulation null 0 proc p3 3;

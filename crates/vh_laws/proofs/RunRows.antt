@@ -35,21 +35,21 @@ use Rattle.vh_thread.specs.Control.{gone}
 design : List (List ℕ) → List (List FirstCode) → First
 design regs blocks = record { name = codes "top"; regs = regs; blocks = blocks }
 
--- module top; reg a; initial begin a = 1; #3 $display("hi"); $finish; end endmodule
+-- Module top; reg a; initial begin a = 1; #3 $display("hi"); $finish; end endmodule
 says_hi : text_of (moves_of Fifo 100 (opening (design (codes "a" ∷ [])
     ((code.Assign 0 bit.One ∷ code.Wait 3 ∷ code.Show (codes "hi") ∷ code.Finish ∷ []) ∷ [])) []))
     ≡ codes "3 out \"hi\\n\"\n3 end finish\n"
 unfolding design digits with_pieces made_in_turn target_digits pieces_of arguments_text front value_below instructions_of codes_of number_of plane_digits map_digits zip_digits all_places scopes_below dotted all_woken all_entered all_followed reads_below groups_text block_below gone
 says_hi = refl
 
--- module top; initial #2 $display("b"); initial #1 $display("a"); endmodule
+-- Module top; initial #2 $display("b"); initial #1 $display("a"); endmodule
 by_time : text_of (moves_of Fifo 100 (opening (design []
     ((code.Wait 2 ∷ code.Show (codes "b") ∷ []) ∷ (code.Wait 1 ∷ code.Show (codes "a") ∷ []) ∷ [])) []))
     ≡ codes "1 out \"a\\n\"\n2 out \"b\\n\"\n2 end none\n"
 unfolding design digits with_pieces made_in_turn target_digits pieces_of arguments_text front value_below instructions_of codes_of number_of plane_digits map_digits zip_digits all_places scopes_below dotted all_woken all_entered all_followed reads_below groups_text block_below gone
 by_time = refl
 
--- module top; initial begin end endmodule
+-- Module top; initial begin end endmodule
 nothing_to_do : text_of (moves_of Fifo 100 (opening (design [] ([] ∷ [])) [])) ≡ codes "0 end none\n"
 unfolding design digits with_pieces made_in_turn target_digits pieces_of arguments_text front value_below instructions_of codes_of number_of plane_digits map_digits zip_digits all_places scopes_below dotted all_woken all_entered all_followed reads_below groups_text block_below gone
 nothing_to_do = refl
@@ -59,7 +59,7 @@ four_labels : length (moves_of Fifo 100 (opening (design [] ([] ∷ [])) [])) �
 unfolding design digits with_pieces made_in_turn target_digits pieces_of arguments_text front value_below instructions_of codes_of number_of plane_digits map_digits zip_digits all_places scopes_below dotted all_woken all_entered all_followed reads_below groups_text block_below gone
 four_labels = refl
 
--- module top; initial begin #1; #1; $finish; end endmodule
+-- Module top; initial begin #1; #1; $finish; end endmodule
 ten_labels : length (moves_of Fifo 100 (opening (design [] ((code.Wait 1 ∷ code.Wait 1 ∷ code.Finish ∷ []) ∷ [])) [])) ≡ 10
 unfolding design digits with_pieces made_in_turn target_digits pieces_of arguments_text front value_below instructions_of codes_of number_of plane_digits map_digits zip_digits all_places scopes_below dotted all_woken all_entered all_followed reads_below groups_text block_below gone
 ten_labels = refl
@@ -94,12 +94,12 @@ finds path = tree.by_name (tree.text path) tree.null
 prints : List ℕ → tree.Order
 prints text = tree.print (tree.text text)
 
--- app a; startup { register cbEndOfSimulation null 0 proc bye 7; } proc bye { print "bye"; }
+-- App a; startup { register cbEndOfSimulation null 0 proc bye 7; } proc bye { print "bye"; }
 says_bye : ScriptData
 says_bye = script [] (registers reason.CbEndOfSimulation tree.null (codes "bye") 7 ∷ [])
     (procedure (codes "bye") (order (prints (codes "bye")) ∷ []) ∷ [])
 
--- module top; initial begin end endmodule
+-- Module top; initial begin end endmodule
 bye : text_of (moves_of Fifo 100 (opening (design [] ([] ∷ [])) (says_bye ∷ [])))
     ≡ codes "0 startup a\n"
     ++ codes "0 do s1 register cbEndOfSimulation null 0 proc a.bye 7 => h0\n"
@@ -119,11 +119,11 @@ head =
     ++ codes "0 occ 1 cbEndOfCompile -\n"
     ++ codes "0 fire 1 c1\n"
 
--- module top; reg r; initial begin #1 r = 0; #1 r = 1; end endmodule
+-- Module top; reg r; initial begin #1 r = 0; #1 r = 1; end endmodule
 changes_twice : First
 changes_twice = design (codes "r" ∷ []) ((code.Wait 1 ∷ code.Assign 0 bit.Zero ∷ code.Wait 1 ∷ code.Assign 0 bit.One ∷ []) ∷ [])
 
--- app a; var r, one, two; startup { register cbEndOfCompile null 0 proc init 0; }
+-- App a; var r, one, two; startup { register cbEndOfCompile null 0 proc init 0; }
 -- proc init { r = by_name "top.r" null; one = register cbValueChange r 0 proc p1 1; two = register cbValueChange r 0 proc p2 2; }
 -- proc p1 { remove me; print "rest"; } proc p2 { print "p2"; }
 removes_itself : ScriptData
@@ -161,7 +161,7 @@ goes_on_without : text_of (moves_of Fifo 100 (opening changes_twice (removes_its
 unfolding design digits with_pieces made_in_turn target_digits pieces_of arguments_text front value_below instructions_of codes_of number_of plane_digits map_digits zip_digits all_places scopes_below dotted all_woken all_entered all_followed reads_below groups_text block_below gone script procedure order set registers finds prints head changes_twice removes_itself
 goes_on_without = refl
 
--- app a; var r, one, two, three, x; startup { register cbEndOfCompile null 0 proc init 0; }
+-- App a; var r, one, two, three, x; startup { register cbEndOfCompile null 0 proc init 0; }
 -- proc init {
 --   r = by_name "top.r" null;
 --   one = register cbValueChange r 0 proc p1 1; two = register cbValueChange r 0 proc p2 2; three = register cbValueChange r 0 proc p3 3;

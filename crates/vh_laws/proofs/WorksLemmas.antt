@@ -194,7 +194,7 @@ frames-without c (top.Frame f ∷ xs) (set ∷ sets) =
 frames-without c (top.Activation a ∷ xs) sets = frames-without c xs sets
 frames-without c (top.Leave cause ∷ xs) sets = frames-without c xs sets
 
--- and a fire, of the top frame.
+-- And a fire, of the top frame.
 frames-fired : (c : ℕ) (f : Told) (xs : List Control) (sets : List (List ℕ))
     → frames_in (top.Frame f ∷ xs) (without_in_top c sets) ≡ taken_from c (standing f sets) ∷ frames_in xs (drop 1 sets)
 frames-fired c f xs [] = refl

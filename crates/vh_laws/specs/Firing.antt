@@ -127,7 +127,7 @@ GoesByRemoval s moves =
     → is_live c (end_of s before).world.callbacks ≡ true → is_live c m.1.world.callbacks ≡ false
     → IsRemoval c (end_of s before) m.0
 
--- and where it is removed it is live no more, and fires no more.
+-- And where it is removed it is live no more, and fires no more.
 pub record IsGone (c : ℕ) (m : Move) (behind : List Move) : Type 0 where
   pub dead : is_live c m.1.world.callbacks ≡ false
   pub silent : any (is_fire_of c) behind ≡ false

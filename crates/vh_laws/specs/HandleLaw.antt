@@ -71,7 +71,7 @@ pub record FindsObject (s : State) (o : Order) (x : Thing) : Type 0 where
   pub found : object_named name s.world.names ≡ Some object
   pub names : x ≡ thing.Object object
 
--- or for the callback that was registered, which is live from then on with what was asked for.
+-- Or for the callback that was registered, which is live from then on with what was asked for.
 pub record Registers (s : State) (o : Order) (h : ℕ) (x : Thing) (t : State) : Type 0 where
   pub reason : Reason
   pub watched : Option ℕ
@@ -120,7 +120,7 @@ FreedByRemoval s moves =
     → is_some (thing_at h (end_of s before).world.handles) ≡ true → thing_at h m.1.world.handles ≡ None
     → (who : Who) × (m.0 ≡ label.Do who (order.Remove (Some h)) (answer.Number 1))
 
--- and an answered removal frees the handle.
+-- And an answered removal frees the handle.
 abbrev pub RemovalFrees : List Move → Type 0
 RemovalFrees moves =
     (before behind : List Move) (who : Who) (h : ℕ) (t : State)

@@ -50,13 +50,13 @@ pub record IsFresh (s : State) : Type 0 where
 abbrev pub PathsKeepLaws : Type 0
 PathsKeepLaws = (s : State) (moves : List Move) → IsFresh s → IsPath s moves → KeepsLaws s moves
 
--- and so does every run under an order of choice;
+-- And so does every run under an order of choice;
 abbrev pub Lawful : Chooser → State → Type 0
 Lawful order s = (moves : List Move) → IsRun order s moves → KeepsLaws s moves
 
 abbrev pub RunsKeepLaws : Type 0
 RunsKeepLaws = (s : State) → IsFresh s → (order : Chooser) → Lawful order s
 
--- the opening of a design with its scripts is such a state.
+-- The opening of a design with its scripts is such a state.
 abbrev pub OpensFresh : Type 0
 OpensFresh = (d : Shape) (scripts : List ScriptData) (s : State) → Opens d scripts s → IsFresh s

@@ -89,7 +89,7 @@ pub fn push_answer(line: &mut String, answer: &Answer) -> Result<(), AllocError>
     }
 }
 
-/// Adds a handle as a line shows it, `null` where there is none.
+// Adds a handle as a line shows it, `null` where there is none.
 pub(crate) fn push_handle(line: &mut String, handle: Option<HandleNo>) -> Result<(), AllocError>
     ensures { OnOk result (string_bytes line.new ≡ string_bytes line.old ++ handle_text handle) }
 {

@@ -37,7 +37,7 @@ fn least_on(on: &[bool], graph: &[Holding]) -> Option<Fault>
     fault
 }
 
-/// The least item that stands on a cycle.
+// The least item that stands on a cycle.
 pub(crate) fn cycle_fault(alloc: Global, graph: &[Holding]) -> Result<Option<Fault>, NoMemory>
     ensures { IfOk result (λ fault. let edges = map (λ h. h.0) (holdings_seen graph.now) in
         fault ≡ Numbers.least_on (map (Cycles.is_on_cycle nat_eq edges) edges)
@@ -58,7 +58,7 @@ fn is_first(index: &Index, number: usize, name: &[u8]) -> bool
     }
 }
 
-/// The least fault of names that earlier modules have.
+// The least fault of names that earlier modules have.
 pub(crate) fn twice_fault(index: &Index, modules: &[Module]) -> Option<Fault>
     ensures { result ≡ Modules.twice_from index.now 0 (map module_tree modules.now) None }
 {

@@ -31,7 +31,7 @@ pub fn named<'a>(alloc: Global, modules: &'a [Module]) -> Result<Index<'a>, NoMe
     Ok(index)
 }
 
-/// The number of a name: the place of the first module that has it, or the number of modules.
+// The number of a name: the place of the first module that has it, or the number of modules.
 pub(crate) fn number_of(index: &Index, count: u32, name: &[u8]) -> u32
     requires { count ≡ length index.now }
     ensures { result ≡ Numbers.number_of index.now name.now }
@@ -77,7 +77,7 @@ fn add_module(
     add_holdings(index, count, from, &ids, holdings)
 }
 
-/// The items of all modules, in the order of the source.
+// The items of all modules, in the order of the source.
 pub(crate) fn graph_of(
     alloc: Global,
     index: &Index,

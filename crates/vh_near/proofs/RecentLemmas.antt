@@ -8,11 +8,11 @@ use Rattle.std.specs.List.Sorted.{IsStrictlySortedBy, IsPartitionPoint, IsPartit
 use Rattle.std.specs.Map.{keys_of, lookup, remove_entry}
 use Rattle.vh_near.specs.Recent.{early_len}
 
--- the numbers rise
+-- The numbers rise
 abbrev Climbs : {V : Type 0} → List (ℕ × V) → Type 0
 Climbs es = IsStrictlySortedBy nat_cmp (keys_of es)
 
--- all numbers are above one
+-- All numbers are above one
 abbrev Above : {V : Type 0} → ℕ → List (ℕ × V) → Type 0
 Above n es = AllByRecursion (λ m. nat_cmp n m ≡ Less) (keys_of es)
 

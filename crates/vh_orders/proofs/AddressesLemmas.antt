@@ -99,7 +99,7 @@ word-found text name a first (suc count) is fits low high =
     (λ apart. word-found text name a (first + 1) count is (omega (arith, fits)) (omega (arith, low, apart)) (omega (arith, high)))
     (bytes_eq text (at_address name first)) refl
 
--- and no other.
+-- And no other.
 lost-first : (text name : List ℕ) (first count : ℕ) → text ≢ at_address name first → word_named text name (first + 1) count ≡ None
     → (b : Bool) → bytes_eq text (at_address name first) ≡ b → word_named text name first (suc count) ≡ None
 lost-first text name first count apart next true e = absurd (apart ((bytes_eq-Decides text (at_address name first)).0 e))

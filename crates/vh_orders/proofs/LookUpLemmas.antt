@@ -53,7 +53,7 @@ word-inner text inner name a is same =
     append_cancel_right inner (name ++ 91 ∷ decimal a) (93 ∷ [])
     (sym is ∙ same ∙ sym (append_assoc name (91 ∷ decimal a) (93 ∷ [])))
 
--- in which no bracket stands behind that of the address,
+-- In which no bracket stands behind that of the address,
 bracket-last : (inner name digits : List ℕ) (k : ℕ) → IsLow digits → inner ≡ name ++ 91 ∷ digits → length name < k → get_or inner k 0 < 91
 bracket-last inner name digits k low is past =
     subst (λ (m : ℕ). m < 91)
@@ -71,7 +71,7 @@ word-bracket inner name a parts =
 word-long : (inner name : List ℕ) (a : ℕ) → inner ≡ name ++ 91 ∷ decimal a → length name < length inner
 word-long inner name a parts = omega (arith, ap length parts, length-append name (91 ∷ decimal a))
 
--- so that the name of the memory stands before the last one.
+-- So that the name of the memory stands before the last one.
 pub memory-found : (text inner : List ℕ) (at : ℕ) → text ≡ inner ++ 93 ∷ [] → at < length inner → get_or inner at 0 ≡ 91
     → ((k : ℕ) → at + 1 ≤ k → k < length inner → get_or inner k 0 ≢ 91) → IsMemoryOf text (Some (take at inner))
 memory-found text inner at is inside here none name a same =
@@ -109,7 +109,7 @@ word-text text n some =
     let found = find-some (λ a. bytes_eq text (at_address n.name a)) (range_with_len n.lowest n.words) some in
     (found.0, (bytes_eq-Decides text (at_address n.name found.0)).0 found.1)
 
--- and has words.
+-- And has words.
 words-some : (text name : List ℕ) (first count : ℕ) → is_some (word_named text name first count) ≡ true → not (count == 0) ≡ true
 words-some text name first zero some = absurd (cc)
 words-some text name first (suc count) some = grind (arith, nat_tests)
@@ -139,7 +139,7 @@ candidate-meant name text i names at e =
     (λ n there meant.
     let both = cond_some (is_meant text n) p at meant in (n, ap (slice_get names) (sym both.1) ∙ there, both.0)))
 
--- and what is meant is the candidate of its name.
+-- And what is meant is the candidate of its name.
 meant-candidate : (text : List ℕ) (i : Index) (names : List Named) (j : ℕ) (n : Named) → IsIndexOf names i → i.is_whole ≡ true
     → slice_get names j ≡ Some n → is_meant text n ≡ true → candidate n.name text i names ≡ Some j
 meant-candidate text i names j n index whole there meant =

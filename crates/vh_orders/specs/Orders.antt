@@ -268,14 +268,14 @@ effect_of (order.GetValue h format) who w = not_yet (order.GetValue h format) wh
 effect_of (order.PutValue h format text mode time event) who w = not_yet (order.PutValue h format text mode time event) who w
 effect_of (order.Cancel h) who w = not_yet (order.Cancel h) who w
 effect_of order.GetTime who w = not_yet order.GetTime who w
--- register (27.33)
+-- Register (27.33)
 effect_of (order.Register r h time body n) who w =
     unless (is_startup who && needs_object r) code.E9
     (unless (needs_entry r) code.E9
     (with_ok (object_watched (needs_object r) r h w) (λ o.
     with_ok (body_named body w.scripts) (λ b.
     new_callback (registration_of r o h time n) b w))))
--- remove
+-- Remove
 effect_of (order.Remove h) who w =
     unless (is_startup who) code.E9
     (with_some h code.E1 (λ n.

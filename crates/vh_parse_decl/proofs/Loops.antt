@@ -15,7 +15,7 @@ use Rattle.vh_syntax.specs.ExpressionConditions.{expression_advances}
 use Rattle.vh_syntax.specs.Table.{eating, advancing}
 use Rattle.vh_parse_decl.specs.Pieces.{more_evs}
 
--- a list goes on by one behind a comma
+-- A list goes on by one behind a comma
 pub item_goes_on : {A : Type 0} (part : G A) → Advances part → (depth : ℕ) (front : List A) (a : A) (ts mid : List Token) (m k : ℕ) → next_is (is sign.Comma) ts ≡ true →
     marks is_unused grammar depth (after (the sign.Comma) part) ts m ≡ got (a, k) mid →
     joined_marks front (marks is_unused grammar depth (comma_more part) ts m) ≡ joined_marks (front ++ a ∷ []) (marks is_unused grammar depth (comma_more part) mid k)

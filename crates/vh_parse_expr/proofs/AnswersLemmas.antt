@@ -20,7 +20,7 @@ use Rattle.vh_syntax.specs.Table.{syntax_table, eating, advancing}
 use Rattle.vh_parse_expr.specs.Answers.{fault_at, placed, expression_answer, Answered, IsParsed}
 use Rattle.vh_parse_expr.proofs.ReadingLemmas.{Ends, ends-reader}
 
--- what is left are the last tokens, which their number tells
+-- What is left are the last tokens, which their number tells
 left-over : (all : List lexed.Token) (from : ℕ) (front rest : List Token) → from ≤ length all → map token_seen (drop from all) ≡ front ++ rest →
     (rest ≡ map token_seen (drop (length all - length rest) all)) × (from ≤ length all - length rest) × (length rest ≤ length all)
 left-over all from front rest h e =
@@ -28,11 +28,11 @@ left-over all from front rest h e =
     let d : length all - length rest ≡ from + length front = omega arith in
     (rw d (sym (drop_at front rest (length front) refl) ∙ ap (λ l. drop (length front) l) (sym e) ∙ drop-map token_seen (length front) (drop from all) ∙ ap (λ l. map token_seen l) (drop-drop (length front) from all)), omega arith, omega arith)
 
--- the tokens of an expression are spelled so
+-- The tokens of an expression are spelled so
 pub spelled : (levels : ℕ) (calls : Bool) (ts rest : List Token) (a : ExprTree) → LawsOfProductions syntax_table → expression_answer levels calls ts ≡ got a rest → ReadsAt grammar (suc levels) (expr calls) a ts rest
 spelled levels calls ts rest a laws e = (((laws (expr calls)).answers.tree (suc levels) a ts rest).0 e).0
 
--- a tree with the number of the token behind it, and what its tokens are
+-- A tree with the number of the token behind it, and what its tokens are
 abbrev pub IsRead : ℕ → Bool → List lexed.Token → ℕ → Place → Expr × ℕ → List Token → Type 0
 IsRead levels calls all from after e ts =
     IsParsed all from after (expression_answer levels calls ts) (Ok (e.0, length all - e.1))
@@ -56,7 +56,7 @@ pub parsed : (levels : ℕ) (calls : Bool) (all : List lexed.Token) (from : ℕ)
 parsed levels calls all from after seen e laws h same answer =
     subst (λ ts. IsRead levels calls all from after e ts) same (parsed_from levels calls all from after seen answer.0 e laws h same answer.1 answer.2)
 
--- a fault with its place
+-- A fault with its place
 pub refused_so : (levels : ℕ) (calls : Bool) (all : List lexed.Token) (from : ℕ) (after : Place) (seen : List Token) (why : Stop) → seen ≡ map token_seen (drop from all) → Stops (expression_answer levels calls seen) why →
     IsParsed all from after (expression_answer levels calls (map token_seen (drop from all))) (Err (fault_at (drop from all) why after))
 refused_so levels calls all from after seen why same answer = go why (subst (λ ts. Stops (expression_answer levels calls ts) why) same answer)

@@ -28,11 +28,11 @@ use Rattle.vh_parse_expr.specs.declared.expr.Standing.TheVariants as standing
 use Rattle.vh_parse_expr.specs.Pieces.{expr_at, steps_of, link_part, links_part, rows_of}
 use Rattle.vh_parse_expr.specs.Views.{tokens_seen}
 
--- with the tokens before the code
+-- With the tokens before the code
 pub fewer : (us vs : List lexed.Token) → length (tokens_seen vs) < length (tokens_seen us) → length vs < length us
 fewer us vs l = omega (arith, length-map us token_seen, length-map vs token_seen)
 
--- each repetition in an expression takes a token
+-- Each repetition in an expression takes a token
 pub expr_at_advances : (s : Standing) (calls : Bool) → Advances (expr_at s calls)
 expr_at_advances standing.Inner calls = tt
 expr_at_advances standing.Outermost calls = expression_advances calls
@@ -40,7 +40,7 @@ expr_at_advances standing.Outermost calls = expression_advances calls
 link_advances : (level : ℕ) (calls : Bool) → Advances (link_part level calls)
 link_advances level calls = (tt, (operand_advances calls, λ e. chain_advances level calls e))
 
--- a path goes on by a step
+-- A path goes on by a step
 pub path_goes_on : (s : Standing) (calls : Bool) (depth : ℕ) (sel : Bool) (p q : Path) (ts mid : List Token) (m k : ℕ) → next_is (path_goes sel p.last) ts ≡ true →
     marks is_unused grammar depth (path_turn (expr_at s calls) sel p.last p) ts m ≡ got (q, k) mid →
     marks is_unused grammar depth (steps_of (expr_at s calls) sel p) ts m ≡ marks is_unused grammar depth (steps_of (expr_at s calls) sel q) mid k
@@ -54,7 +54,7 @@ path_less s calls depth sel p q ts mid m r =
     marks_less is_unused grammar eating advancing depth (path_turn (expr_at s calls) sel p.last p)
     (path_turn_advances (expr_at s calls) (expr_at_advances s calls) sel p.last p).1 (path_turn_advances (expr_at s calls) (expr_at_advances s calls) sel p.last p).0 ts m q mid r
 
--- a list goes on by an expression
+-- A list goes on by an expression
 pub exprs_go_on : (s : Standing) (calls : Bool) (depth : ℕ) (front : List ExprTree) (e : ExprTree) (ts mid : List Token) (m k : ℕ) → next_is (is sign.Comma) ts ≡ true →
     marks is_unused grammar depth (after (the sign.Comma) (expr_at s calls)) ts m ≡ got (e, k) mid →
     joined_marks front (marks is_unused grammar depth (comma_more (expr_at s calls)) ts m) ≡ joined_marks (front ++ e ∷ []) (marks is_unused grammar depth (comma_more (expr_at s calls)) mid k)
@@ -65,7 +65,7 @@ pub expr_less : (s : Standing) (calls : Bool) (depth : ℕ) (e : ExprTree × ℕ
     marks is_unused grammar depth (after (the sign.Comma) (expr_at s calls)) ts m ≡ got e mid → length mid < length ts
 expr_less s calls depth e ts mid m r = marks_less is_unused grammar eating advancing depth (after (the sign.Comma) (expr_at s calls)) (tt, expr_at_advances s calls) refl ts m e mid r
 
--- a chain goes on by an operator and what stands behind it
+-- A chain goes on by an operator and what stands behind it
 pub links_go_on : (depth level : ℕ) (calls : Bool) (front : List (Binary × ExprTree)) (l : Binary × ExprTree) (ts mid : List Token) (m k : ℕ) → next_is (λ t. is_some (operator_at level t)) ts ≡ true →
     marks is_unused grammar depth (link_part level calls) ts m ≡ got (l, k) mid →
     joined_marks front (marks is_unused grammar depth (links_part level calls) ts m) ≡ joined_marks (front ++ l ∷ []) (marks is_unused grammar depth (links_part level calls) mid k)
@@ -76,7 +76,7 @@ pub link_less : (depth level : ℕ) (calls : Bool) (l : (Binary × ExprTree) × 
     marks is_unused grammar depth (link_part level calls) ts m ≡ got l mid → length mid < length ts
 link_less depth level calls l ts mid m r = marks_less is_unused grammar eating advancing depth (link_part level calls) (link_advances level calls) refl ts m l mid r
 
--- the chain of a level is one of the level below with the operators of the level behind it
+-- The chain of a level is one of the level below with the operators of the level behind it
 pub chain_ends : (depth level : ℕ) (calls : Bool) (e a : ExprTree) (ts mid rest : List Token) (m k mark : ℕ) (front : List (Binary × ExprTree)) →
     marks is_unused grammar depth (chain_tail level calls e) ts m ≡ got (a, k) mid →
     marks is_unused grammar depth (links_part level calls) mid k ≡ joined_marks front (marks is_unused grammar depth (links_part level calls) rest mark) →
@@ -91,7 +91,7 @@ chain_ends depth level calls e a ts mid rest m k mark front below links none =
     ∙ ap (λ o. then_ o puts) (links ∙ ap (λ o. joined_marks front o) end)
     ∙ ap (λ l. got (chained a l, mark) rest) (append-nil front)
 
--- where a chain of a level stops, all chains above it do
+-- Where a chain of a level stops, all chains above it do
 stops-above : (depth low level : ℕ) (calls : Bool) (e : ExprTree) (ts : List Token) (m : ℕ) (fault : Fault) (left : ℕ) → low ≤ level →
     marks is_unused grammar depth (chain_tail low calls e) ts m ≡ stop fault left → marks is_unused grammar depth (chain_tail level calls e) ts m ≡ stop fault left
 unfolding chain_tail
@@ -124,7 +124,7 @@ chain-fault depth low level calls e a ts mid rest m k mark front fault left h be
     ap (λ o. then_ o chains) below ∙ ap (λ o. then_ o puts) (links ∙ ap (λ o. joined_marks front o) (turn-stops depth low calls rest mark fault left next r)) in
     stops-above depth (suc low) level calls e ts m fault left (omega arith) one
 
--- where an operator with what stands behind it is refused, so is the chain
+-- Where an operator with what stands behind it is refused, so is the chain
 pub chain_stops : (depth low level : ℕ) (calls : Bool) (e a : ExprTree) (ts mid rest : List Token) (m k mark : ℕ) (front : List (Binary × ExprTree)) (why : Stop) → low < level →
     marks is_unused grammar depth (chain_tail low calls e) ts m ≡ got (a, k) mid →
     marks is_unused grammar depth (links_part low calls) mid k ≡ joined_marks front (marks is_unused grammar depth (links_part low calls) rest mark) →
@@ -135,7 +135,7 @@ chain_stops depth low level calls e a ts mid rest m k mark front (stops.Deep lef
 chain_stops depth low level calls e a ts mid rest m k mark front (stops.LeftOut left) h below links next r = chain-fault depth low level calls e a ts mid rest m k mark front left_out left h below links next r
 chain_stops depth low level calls e a ts mid rest m k mark front stops.Memory h below links next r = tt
 
--- a row of targets goes on by a turn
+-- A row of targets goes on by a turn
 pub row_goes_on : (calls : Bool) (depth : ℕ) (r u : Row Target) (ts mid : List Token) (m k : ℕ) → next_is (row_goes r.wants r.depth) ts ≡ true →
     marks is_unused grammar depth (row_turn (expression calls) r.wants r.depth r) ts m ≡ got (u, k) mid →
     marks is_unused grammar depth (rows_of calls r) ts m ≡ marks is_unused grammar depth (rows_of calls u) mid k

@@ -3,7 +3,7 @@ use Rattle.std.proofs.Common.{◌≡◌, ℕ, zero, suc, Bool, true, false, cond
 use Rattle.vh_grammar.specs.Part.{Part, done, tok, seq, bind, act, alt, rep, iter, nested, unless, barred}
 use Rattle.vh_grammar.specs.Reading.{Out, got, stop, then_, next_is, taken, token_of, past_levels, many, turns, run, reader}
 
--- the tokens that are left are the last ones
+-- The tokens that are left are the last ones
 abbrev pub Ends : {T A : Type 0} → List T → Out T A → Type 0
 Ends {T} ts (got a rest) = (front : List T) × (ts ≡ front ++ rest)
 Ends ts (stop fault left) = Unit {0}
@@ -63,7 +63,7 @@ module _ {T P : Type 0} {V : P → Type 0} (R : (p : P) → List T → Out T (V 
   ends-run (unless class p) ts = ends-run p ts
   ends-run (barred class p) ts = ends-run p ts
 
--- what a production leaves
+-- What a production leaves
 pub ends-reader : {T P : Type 0} {V : P → Type 0} (grammar : (p : P) → Part T V (V p)) (n : ℕ) (p : P) (ts : List T) → Ends ts (reader grammar n p ts)
 ends-reader {V = V} grammar zero p ts = ends-past (V p) ts
 ends-reader grammar (suc n) p ts = ends-run (reader grammar n) (ends-reader grammar n) (grammar p) ts

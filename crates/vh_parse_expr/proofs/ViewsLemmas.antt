@@ -21,7 +21,7 @@ use Rattle.vh_syntax.specs.Tokens.{Token, token_seen}
 use Rattle.vh_syntax.specs.Names.{name_by, lv_part, lv_of}
 use Rattle.vh_parse_expr.specs.Views.{step_tree, tokens_seen, pieces_seen}
 
--- a name of its first step and those behind it
+-- A name of its first step and those behind it
 pub name_tree-steps : (front all : List (Step Expr)) (last first : Step Expr) (more : List (Step Expr)) → (IsTrue false ↔ (front ≡ [])) → all ≡ front ++ last ∷ [] → slice_get all 0 ≡ Some first → more ≡ remove all 0 →
     name_tree (record { first = first; more = more }) ≡ name_by (map step_tree front) last.id (index_by expr_tree last.index)
 name_tree-steps [] all last first more empty e f m = absurd (none (empty.1 refl))
@@ -33,7 +33,7 @@ name_tree-steps (s ∷ front) all last first more empty e f m = rw (m, sym first
     first-is : s ≡ first
     first-is = let g : slice_get (s ∷ (front ++ last ∷ [])) 0 ≡ Some first = rw e at f in cc
 
--- a refusal is one, whatever was to be read
+-- A refusal is one, whatever was to be read
 stops_any : (A B : Type 0) (fault : Fault) (left mark : ℕ) (s : Stop) → Stops (refusal {T = Token} {A = A} fault left mark) s → Stops (refusal {T = Token} {A = B} fault left mark) s
 stops_any A B fault left zero (stops.Lost n) e = cc
 stops_any A B fault left zero (stops.Deep n) e = cc
@@ -44,7 +44,7 @@ stops_any A B fault left (suc mark) (stops.Deep n) e = cc
 stops_any A B fault left (suc mark) (stops.LeftOut n) e = cc
 stops_any A B fault left (suc mark) stops.Memory e = tt
 
--- a word that doesn't mean it is refused
+-- A word that doesn't mean it is refused
 pub stops_at : {A : Type 0} (word : Token → Bool) (meaning : Token → Option A) (all : List lexed.Token) (w : lexed.Token) (mark : ℕ) (s : Stop) → 1 ≤ length all → w ≡ get_or all 0 w → None ≡ meaning (token_seen w) →
     Stops (refused {A = Unit {0}} word lost (tokens_seen all) mark) s → Stops (marked_token word meaning (tokens_seen all) mark) s
 stops_at word meaning [] w mark s h is none e = absurd (omega arith)
@@ -53,7 +53,7 @@ stops_at {A} word meaning (u ∷ all) w mark s h is none e =
     subst (λ (o : Option A). Stops (taken_from word o (token_seen u) (tokens_seen all) mark) s) n
     (stops_any (Unit {0}) (A × ℕ) lost (length (tokens_seen (u ∷ all))) (mark_at (tokens_seen (u ∷ all)) (next_is word (tokens_seen (u ∷ all))) mark) s e)
 
--- what stands in a row of targets
+-- What stands in a row of targets
 lv_parts-pieces : (parts : List LvPart) → map lv_part_tree parts ≡ map lv_part (pieces_seen parts)
 lv_parts-pieces [] = refl
 lv_parts-pieces (lv.Open ∷ parts) = ap (λ l. S.opened ∷ l) (lv_parts-pieces parts)

@@ -19,8 +19,8 @@ use vh_base::Place;
 use vh_grammar::Stop;
 use vh_syntax::{Class, Sign};
 
-/// How far a row of targets has come: how many braces are open, whether a target has to come, and
-/// what stands in it.
+// How far a row of targets has come: how many braces are open, whether a target has to come, and
+// what stands in it.
 #[derive(Drop)]
 pub(crate) struct Row {
     pub open: usize,

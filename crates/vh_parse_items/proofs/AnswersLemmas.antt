@@ -9,6 +9,6 @@ use Rattle.vh_syntax.specs.Table.{syntax_table}
 use Rattle.vh_parse_expr.specs.declared.parse.TheConstants.{MOST_LEVELS}
 use Rattle.vh_parse_items.specs.Answers.{source_answer}
 
--- the tokens of a source are spelled so
+-- The tokens of a source are spelled so
 pub spelled : (seen ts : List Token) (a : SourceTree) → LawsOfSources syntax_table → seen ≡ ts → source_answer seen ≡ got a [] → IsSource syntax_table MOST_LEVELS a ts
 spelled seen ts a laws same e = subst (λ l. IsSource syntax_table MOST_LEVELS a l) same ((laws.answers.tree MOST_LEVELS a seen []).0 e).0.0

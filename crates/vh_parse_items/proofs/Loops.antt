@@ -32,7 +32,7 @@ items_go_on depth r u ts mid m k c e =
 pub item_less : (depth : ℕ) (r : Region) (u : Region × ℕ) (ts mid : List Token) (m : ℕ) → marks is_unused grammar depth (region_turn r.depth r) ts m ≡ got u mid → length mid < length ts
 item_less depth r u ts mid m e = marks_less is_unused grammar eating advancing depth (region_turn r.depth r) (turn_advances r.depth r).1 (turn_advances r.depth r).0 ts m u mid e
 
--- the same up to the end of a region
+-- The same up to the end of a region
 within_advances : (depth : ℕ) (r : Region) → (eats (within_turn depth r) ≡ true) × Advances (within_turn depth r)
 unfolding within_turn
 within_advances zero r = (refl, tt)

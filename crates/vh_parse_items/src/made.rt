@@ -28,7 +28,7 @@ pub(crate) fn task(
     place: Place,
     routine: Boxed<RoutineParts>,
 ) -> Result<Boxed<Item>, Stop>
-    ensures { let made = parts.task_of place (routine_tree routine) in
+    ensures { let made = parts.task_item_of place (routine_tree routine) in
         MatchResult result (λ i. item_tree i ≡ made) (λ stop. stop ≡ Memory) }
 {
     let RoutineParts {
@@ -90,7 +90,7 @@ pub(crate) fn for_item(
     head: Boxed<GenerateHead>,
     body: Boxed<Gblock<Item>>,
 ) -> Result<Boxed<Item>, Stop>
-    ensures { let made = parts.for_of place (generate_tree head, gblock_tree body) in
+    ensures { let made = parts.for_item_of place (generate_tree head, gblock_tree body) in
         MatchResult result (λ i. item_tree i ≡ made) (λ stop. stop ≡ Memory) }
 {
     let GenerateHead { start, test, step } = head.into_inner();
@@ -112,7 +112,7 @@ pub(crate) fn if_item(
     fails: Option<Boxed<Gblock<Item>>>,
 ) -> Result<Boxed<Item>, Stop>
     ensures { let others = option_map gblock_tree fails in
-        let made = parts.if_of place (expr_tree test, (gblock_tree holds, others)) in
+        let made = parts.if_item_of place (expr_tree test, (gblock_tree holds, others)) in
         MatchResult result (λ i. item_tree i ≡ made) (λ stop. stop ≡ Memory) }
 {
     let form = ItemForm::If { test, holds, fails };
@@ -216,7 +216,7 @@ pub(crate) fn item_block(
     id: Option<Id>,
     items: Items<Item>,
 ) -> Result<Boxed<Gblock<Item>>, Stop>
-    ensures { let made = parts.block_of place (id, items_seen items) in
+    ensures { let made = parts.item_block_of place (id, items_seen items) in
         MatchResult result (λ g. gblock_tree g ≡ made) (λ stop. stop ≡ Memory) }
 {
     Ok(Boxed::new(alloc, Gblock::Block { place, id, items })?)

@@ -31,7 +31,7 @@ decls_go_on depth front d ts mid m k c r =
 pub decl_less : (depth : ℕ) (d : DeclTree × ℕ) (ts mid : List Token) (m : ℕ) → marks is_unused grammar depth decl ts m ≡ got d mid → length mid < length ts
 decl_less depth d ts mid m r = marks_less is_unused grammar eating advancing depth decl decl_advances decl_eats ts m d mid r
 
--- the statements of a case go on by one
+-- The statements of a case go on by one
 citem_advances : (inside : Bool) → Advances (citem inside)
 unfolding citem default_item values_item
 citem_advances inside = ((tt, ((tt, tt), tt)), (((expression_advances true), (refl, (tt, (expression_advances true)))), (tt, tt)))
@@ -49,7 +49,7 @@ citems_go_on inside depth front i ts mid m k c r =
 pub citem_less : (inside : Bool) (depth : ℕ) (i : CitemTree × ℕ) (ts mid : List Token) (m : ℕ) → marks is_unused grammar depth (citem inside) ts m ≡ got i mid → length mid < length ts
 citem_less inside depth i ts mid m r = marks_less is_unused grammar eating advancing depth (citem inside) (citem_advances inside) (citem_eats inside) ts m i mid r
 
--- the statements of a block go on by one
+-- The statements of a block go on by one
 pub stmts_go_on : (inside : Bool) (depth : ℕ) (front : List StmtTree) (s : StmtTree) (ts mid : List Token) (m k : ℕ) → next_is begins_statement ts ≡ true →
     marks is_unused grammar depth (inner_stmt inside) ts m ≡ got (s, k) mid →
     joined_marks front (marks is_unused grammar depth (stmts inside) ts m) ≡ joined_marks (front ++ s ∷ []) (marks is_unused grammar depth (stmts inside) mid k)

@@ -12,7 +12,7 @@ use Rattle.vh_syntax.specs.Statements.{case_rows, inner_stmt, citem, citems, cas
 use Rattle.vh_syntax.specs.Grammar.{grammar}
 use Rattle.vh_parse_stmt.specs.Pieces.{values_of, item_by, values_item_part, more_citems, case_by, case_part}
 
--- what the first of two parts is made into may as well be done where both are
+-- What the first of two parts is made into may as well be done where both are
 first-acts : {A B C D : Type 0} (f : B → C → D) (g : A → B) (p : G A) (q : G C) (depth : ℕ) (ts : List Token) (m : ℕ) →
     marks is_unused grammar depth (two f (act g p) q) ts m ≡ marks is_unused grammar depth (two (λ a c. f (g a) c) p q) ts m
 first-acts {A} {B} {C} {D} f g p q depth ts m = one (marks is_unused grammar depth p ts m) refl
@@ -26,7 +26,7 @@ first-acts {A} {B} {C} {D} f g p q depth ts m = one (marks is_unused grammar dep
     one (got a mid) e = both a mid (marks is_unused grammar depth q mid a.1) e refl
     one (stop fault left) e = rw e refl
 
--- the same of a part in the middle of others
+-- The same of a part in the middle of others
 inner-acts : {A B C D E F : Type 0} (f : A → B × D → F) (g : C → D) (p : G A) (q : G B) (r : G C) (s : G E) (depth : ℕ) (ts : List Token) (m : ℕ) →
     marks is_unused grammar depth (two f p (seq q (before (act g r) s))) ts m ≡ marks is_unused grammar depth (two (λ a b. f a (b.0, g b.1)) p (seq q (before r s))) ts m
 inner-acts {A} {B} {C} {D} {E} {F} f g p q r s depth ts m = one (marks is_unused grammar depth p ts m) refl
@@ -51,13 +51,13 @@ inner-acts {A} {B} {C} {D} {E} {F} f g p q r s depth ts m = one (marks is_unused
     one (got a mid) e = middle a mid (marks is_unused grammar depth q mid a.1) e refl
     one (stop fault left) e = rw e refl
 
--- a statement of a case with its values in one list
+-- A statement of a case with its values in one list
 pub values-listed : (inside : Bool) (depth : ℕ) (ts : List Token) (m : ℕ) → marks is_unused grammar depth (values_item_part inside) ts m ≡ marks is_unused grammar depth (values_item inside) ts m
 unfolding values_item
 values-listed inside depth ts m =
     first-acts item_by values_of (seq (expression true) (comma_more (expression true))) (after (the sign.Colon) (inner_stmt inside)) depth ts m
 
--- a case with its statements in one list
+-- A case with its statements in one list
 pub case-listed : (inside : Bool) (depth : ℕ) (ts : List Token) (m : ℕ) → marks is_unused grammar depth (case_part inside) ts m ≡ marks is_unused grammar depth (case_stmt inside) ts m
 unfolding case_stmt citems
 case-listed inside depth ts m =

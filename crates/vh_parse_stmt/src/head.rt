@@ -19,7 +19,7 @@ use vh_parse_decl::{Exprs, declaration, event, further, set};
 use vh_parse_expr::{At, Read, expression, id, then_sign};
 use vh_syntax::{Class, Group, Sign};
 
-/// What stands in the brackets of a `for`.
+// What stands in the brackets of a `for`.
 #[derive(Drop)]
 pub(crate) struct ForHead {
     pub start: Set,
@@ -27,14 +27,14 @@ pub(crate) struct ForHead {
     pub step: Set,
 }
 
-/// The name of a block, with what is declared in it.
+// The name of a block, with what is declared in it.
 #[derive(Drop)]
 pub(crate) struct Label {
     pub id: Id,
     pub decls: Items<Decl>,
 }
 
-/// For which values a statement of a case stands, and where the first one does.
+// For which values a statement of a case stands, and where the first one does.
 #[derive(Drop)]
 pub(crate) struct Values {
     pub place: Place,

@@ -139,7 +139,7 @@ least-later n now f s r seen kept is =
 pub seen-later : (n now time : ℕ) (f : ℕ → Option Held) (s : Schedule) → schedule_in n now f ≡ s → s.present ≤ time → now ≤ time
 seen-later n now time f s seen later = let same = ap (λ (t : Schedule). t.present) seen in omega (arith, same, later)
 
--- nor before a time that is not after what is held
+-- Nor before a time that is not after what is held
 pub kept-later : (n now time : ℕ) (f : ℕ → Option Held) (s : Schedule) → schedule_in n now f ≡ s → IsKept n now f
     → IfSome (least_time s.entries) (λ t. time ≤ t) → IsKept n time f
 kept-later n now time f s seen kept least = record {

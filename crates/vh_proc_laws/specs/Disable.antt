@@ -21,7 +21,7 @@ WaitsRise s = (bound : ℕ) × Rise 0 s.waiting bound
 abbrev pub IsInside : Shape → ℕ → Processes → ℕ → Type 0
 IsInside d target ps p = (t : Process) × (process_at p ps ≡ Some t) × (is_inside d target t.thread ≡ true)
 
--- or where what has begun it is stopped, over so many branches. (own: the branches of a `fork` belong to what has begun them)
+-- Or where what has begun it is stopped, over so many branches. (own: the branches of a `fork` belong to what has begun them)
 abbrev pub IsStopped : Shape → ℕ → Processes → ℕ → ℕ → Type 0
 IsStopped d target ps zero p = IsInside d target ps p
 IsStopped d target ps (suc n) p =
@@ -31,7 +31,7 @@ IsStopped d target ps (suc n) p =
 abbrev pub Ends : Shape → ℕ → Processes → ℕ → Type 0
 Ends d target ps p = (n : ℕ) × IsStopped d target ps (suc n) p
 
--- any other leaves the block or task, and goes on behind it.
+-- Any other leaves the block or task, and goes on behind it.
 abbrev pub Leaves : Shape → ℕ → Processes → ℕ → Type 0
 Leaves d target ps p = IsInside d target ps p × (Ends d target ps p → ⊥)
 

@@ -108,7 +108,7 @@ stays-seen now next m gives e below timely =
     (time-again gives now e.serial next m.dated e.time below)
     ∙ ap (λ (x : Entry). (let f : Entry = record x { time = time_given gives now x.time } in f)) (made-seen now next m region.Inactive e below timely (inactive refl))
 
--- and to a later one, where no entry of the present time stands.
+-- And to a later one, where no entry of the present time stands.
 later-region : (a : Bool) (s next : ℕ) (m : Marks) (gives : Bool) (r : Region) → s < next
     → cond (a && nat_lt s (mark_of (marks_at false gives next m) r)) region.Active r ≡ cond (a && rank r == 2) region.Active r
 later-region a s next m gives region.Start below = rw (le-ltb s 0 (omega arith)) refl

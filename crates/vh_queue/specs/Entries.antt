@@ -54,7 +54,7 @@ abbrev pub IsFrom : ℕ → Option ℕ → Type 0
 IsFrom now None = ⊤
 IsFrom now (Some time) = now ≤ time
 
--- what is active is of the present time;
+-- What is active is of the present time;
 abbrev pub IsPresent : Region → ℕ → Option ℕ → Type 0
 IsPresent region.Start now time = ⊤
 IsPresent region.Active now time = time ≡ Some now
@@ -62,7 +62,7 @@ IsPresent region.Inactive now time = ⊤
 IsPresent region.Nonblocking now time = ⊤
 IsPresent region.Monitor now time = ⊤
 
--- and only a callback at the start of the next time has no time. (27.33.2, cbNextSimTime)
+-- And only a callback at the start of the next time has no time. (27.33.2, cbNextSimTime)
 abbrev pub HasTime : Region → Work → Option ℕ → Type 0
 HasTime r w None = (rank r ≡ rank region.Start) × (is_call w ≡ true)
 HasTime r w (Some time) = ⊤

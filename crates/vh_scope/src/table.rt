@@ -7,7 +7,7 @@ use std::alloc::Global;
 use std::marker::Model;
 use vh_base::NoMemory;
 
-/// The names of one scope, in the order of their declarations.
+// The names of one scope, in the order of their declarations.
 #[derive(Drop)]
 pub(crate) struct Table {
     names: IndexMap<Vec<u8>, Meaning>,

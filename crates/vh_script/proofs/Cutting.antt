@@ -6,20 +6,20 @@ use Rattle.std.proofs.lemmas.Bool.Decides.{nat_tests}
 use Rattle.std.proofs.lemmas.List.Sums.{prefix_len-le-length}
 use Rattle.vh_base.specs.Classes.{is_between, is_space, is_name_start, is_digit}
 use Rattle.vh_script.specs.Token.{Terminal, wrong, Token}
-use Rattle.vh_script.specs.Spelling.{Piece, blank, token, no_token, piece_at, piece_then, token_with, further, tokens_after, tokens_of, is_name_byte, is_comment_byte, is_escaped, one_more, text_len, text_of, mark_at, other_at, number_of, begins_with}
+use Rattle.vh_script.specs.Spelling.{Piece, blank, token, no_token, piece_at, piece_then, token_with, further, tokens_after, tokens_of, is_name_byte, is_comment_byte, is_escaped, one_longer, text_len, text_of, mark_at, other_at, number_of, begins_with}
 
--- so many bytes more, if there is an end
+-- So many bytes more, if there is an end
 abbrev pub further_by : ℕ → Option ℕ → Option ℕ
 further_by n o = option_map (λ len. n + len) o
 
--- skipping bytes is cutting what follows them
+-- Skipping bytes is cutting what follows them
 skipped : (skip : ℕ) (bytes : List ℕ) → tokens_after skip bytes ≡ tokens_of (drop skip bytes)
 skipped zero [] = refl
 skipped (suc skip) [] = refl
 skipped zero (byte ∷ bytes) = refl
 skipped (suc skip) (byte ∷ bytes) = skipped skip bytes
 
--- a piece is no longer than this, and has a byte at least
+-- A piece is no longer than this, and has a byte at least
 abbrev IsWithin : Piece → ℕ → Type 0
 IsWithin (blank len) most = (1 ≤ len) × (len ≤ most)
 IsWithin (token t len) most = (1 ≤ len) × (len ≤ most)
@@ -38,8 +38,8 @@ name-byte byte h = rw h refl
 hash-byte : (byte : ℕ) → nat_eq byte 35 ≡ true → is_comment_byte byte ≡ true
 hash-byte byte h = grind (arith, nat_tests)
 
--- a text ends within its bytes
-one-more-below : (o : Option ℕ) (len most : ℕ) → ((n : ℕ) → o ≡ Some n → n < most) → one_more o ≡ Some len → len < suc most
+-- A text ends within its bytes
+one-more-below : (o : Option ℕ) (len most : ℕ) → ((n : ℕ) → o ≡ Some n → n < most) → one_longer o ≡ Some len → len < suc most
 one-more-below None len most h e = cc
 one-more-below (Some n) len most h e = let below = h n refl in let same : n + 1 ≡ len = cc in omega (arith, below, same)
 
@@ -99,7 +99,7 @@ piece-within (byte ∷ bytes) =
 after-first : (len : ℕ) (byte : ℕ) (more : List ℕ) → 1 ≤ len → tokens_of (drop (len - 1) more) ≡ tokens_of (drop len (byte ∷ more))
 after-first len byte more low = let e : len ≡ suc (len - 1) = omega arith in ap (λ n. tokens_of (drop n (byte ∷ more))) (sym e)
 
--- a token more is cut off
+-- A token more is cut off
 pub token-more : (found : List Token) (t : Terminal) (len left : ℕ) (bytes rest : List ℕ) → token t len ≡ piece_at rest → left ≡ length rest → tokens_of bytes ≡ found ++ tokens_of rest
     → tokens_of bytes ≡ (found ++ token_with t left ∷ []) ++ tokens_of (drop len rest)
 token-more found t len left bytes [] e l h = cc
@@ -111,14 +111,14 @@ token-more found t len left bytes (byte ∷ more) e l h =
     ∙ ap (λ ts. token_with t left ∷ ts) (skipped (len - 1) more ∙ after-first len byte more within.0))
     ∙ sym (append_assoc found (token_with t left ∷ []) (tokens_of (drop len (byte ∷ more))))
 
--- no token more
+-- No token more
 pub no-more : (found : List Token) (left : ℕ) (bytes rest : List ℕ) → 1 ≤ length rest → no_token ≡ piece_at rest → left ≡ length rest → tokens_of bytes ≡ found ++ tokens_of rest
     → found ++ token_with wrong left ∷ [] ≡ tokens_of bytes
 no-more found left bytes [] low e l h = absurd (omega arith)
 no-more found left bytes (byte ∷ more) low e l h =
     sym (h ∙ ap (λ ts. found ++ ts) (ap (λ p. piece_then p (suc (length more)) (tokens_after (further p) more)) (sym e) ∙ ap (λ n. token_with wrong n ∷ []) (sym l)))
 
--- white space or a comment is cut off
+-- White space or a comment is cut off
 pub blank-more : (found : List Token) (len : ℕ) (bytes rest : List ℕ) → blank len ≡ piece_at rest → tokens_of bytes ≡ found ++ tokens_of rest
     → tokens_of bytes ≡ found ++ tokens_of (drop len rest)
 blank-more found len bytes [] e h = cc
@@ -127,7 +127,7 @@ blank-more found len bytes (byte ∷ more) e h =
     h ∙ ap (λ ts. found ++ ts)
     (ap (λ p. piece_then p (suc (length more)) (tokens_after (further p) more)) (sym e) ∙ skipped (len - 1) more ∙ after-first len byte more within.0)
 
--- how long a token is, and white space
+-- How long a token is, and white space
 pub token-long : (t : Terminal) (len : ℕ) (rest : List ℕ) → token t len ≡ piece_at rest → (1 ≤ len) × (len ≤ length rest)
 token-long t len rest e = subst (λ p. IsWithin p (length rest)) (sym e) (piece-within rest)
 

@@ -16,7 +16,7 @@ use Rattle.vh_script.specs.Conditions.{eating, one_more_plain, declaration_plain
 use Rattle.vh_script.specs.Grammar.{Run, Procs, grammar, the, in_parens, test, nested_block, loop_of, while_end, is_word, begins_command, begins_order, one_more, more_commands, further_names, declaration, declarations, startup_order, startup_orders, procedure, more_procedures}
 use Rattle.vh_script.specs.Views.{terminal, terminals}
 
--- with the code's tokens
+-- With the code's tokens
 pub fewer : (us vs : List held.Token) → length (terminals vs) < length (terminals us) → length vs < length us
 fewer us vs l = omega (arith, length-map us terminal, length-map vs terminal)
 
@@ -29,7 +29,7 @@ commands_go_on levels env run more ts mid is r =
 pub command_less : (levels : ℕ) (env : Env) (run more : Run) (ts mid : List Terminal) → read grammar levels (one_more env run) ts ≡ got more mid → length mid < length ts
 command_less levels env run more ts mid r = read_less grammar eating levels (one_more env run) (one_more_plain env run).0 ts more mid r
 
--- names go on by one
+-- Names go on by one
 pub names_go_on : (levels : ℕ) (rules : AppFault) (names more : List (List ℕ)) (ts mid rest : List Terminal) → next_is (is_mark marks.Comma) ts ≡ true → read grammar 0 (the marks.Comma) ts ≡ got tt mid → token_of (names_in rules names) mid ≡ got more rest →
     read grammar levels (further_names rules names) ts ≡ read grammar levels (further_names rules more) rest
 names_go_on levels rules names more ts mid rest is r s =
@@ -48,7 +48,7 @@ declarations_go_on levels rules names more ts mid is r =
 pub declaration_less : (levels : ℕ) (rules : AppFault) (names more : List (List ℕ)) (ts mid : List Terminal) → read grammar levels (declaration rules names) ts ≡ got more mid → length mid < length ts
 declaration_less levels rules names more ts mid r = read_less grammar eating levels (declaration rules names) (declaration_plain rules names).0 ts more mid r
 
--- the orders of a startup go on by one
+-- The orders of a startup go on by one
 pub orders_go_on : (levels : ℕ) (rules : AppFault) (front : List Order) (o : Order) (ts mid : List Terminal) → next_is (begins_order rules) ts ≡ true → read grammar levels (startup_order rules) ts ≡ got o mid →
     joined front (read grammar levels (startup_orders rules) ts) ≡ joined (front ++ o ∷ []) (read grammar levels (startup_orders rules) mid)
 orders_go_on levels rules front o ts mid is r = joined_turn grammar eating levels (begins_order rules) (startup_order rules) (startup_order_eats rules) front ts o mid is r
@@ -65,7 +65,7 @@ procedures_go_on levels env procs more ts mid is r =
 pub procedure_less : (levels : ℕ) (env : Env) (procs more : Procs) (ts mid : List Terminal) → read grammar levels (procedure env procs) ts ≡ got more mid → length mid < length ts
 procedure_less levels env procs more ts mid r = read_less grammar eating levels (procedure env procs) (procedure_plain env procs).0 ts more mid r
 
--- a test, and what stands behind it
+-- A test, and what stands behind it
 pub while-read : (levels : ℕ) (env : Env) (room : ℕ) (ts mid rest : List Terminal) (t : Test) (run : Run) (made : Command × ℕ) → read grammar levels (in_parens (test env)) ts ≡ got t mid → read grammar levels (nested_block env (room - 1)) mid ≡ got run rest → made ≡ loop_of t run →
     read grammar levels (while_end env room) ts ≡ got made rest
 unfolding while_end

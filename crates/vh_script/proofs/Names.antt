@@ -4,7 +4,7 @@ use Rattle.std.specs.List.{list_any}
 use Rattle.std.specs.Str.{bytes_eq}
 use Rattle.std.proofs.lemmas.List.{map_push}
 use Rattle.vh_base.specs.Lists.{names_seen}
-use Rattle.vh_base.proofs.Names.{list_any-seen}
+use Rattle.vh_base.proofs.ListsLemmas.{list_any-seen}
 use Rattle.vh_script.specs.Env.{with_name}
 
 either : (b : Bool) (keys : List (Bor (List ℕ))) (name : Bor (List ℕ)) → names_seen (if b then keys else keys ++ name ∷ []) ≡ (if b then names_seen keys else names_seen keys ++ name.now ∷ [])

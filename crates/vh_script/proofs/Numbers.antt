@@ -3,7 +3,7 @@ use Rattle.std.proofs.Common.{◌≡◌, ℕ, ◌+◌, ◌-◌, ◌*◌, ◌<◌
 use Rattle.std.proofs.lemmas.Bool.Decides.{nat_tests}
 use Rattle.vh_script.specs.Spelling.{below_limit}
 
--- the number after more digits
+-- The number after more digits
 abbrev pub number_from : ℕ → List ℕ → ℕ
 number_from n spelling = fold (λ n byte. 10 * n + (byte - 48)) n spelling
 
@@ -14,7 +14,7 @@ number-grows n (byte ∷ more) = let grown = number-grows (10 * n + (byte - 48))
 below-none : (n : ℕ) → 18446744073709551616 ≤ n → None ≡ below_limit n
 below-none n h = grind (arith, nat_tests)
 
--- a number that is too great already is no number, whatever digits follow
+-- A number that is too great already is no number, whatever digits follow
 pub too-great : (n whole : ℕ) (rest : List ℕ) → number_from n rest ≡ whole → 1 ≤ length rest → (n * 10 < 18446744073709551616 → ⊥) → None ≡ below_limit whole
 too-great n whole [] e some h = absurd (omega arith)
 too-great n whole (byte ∷ more) e some h = let grown = number-grows (10 * n + (byte - 48)) more in below-none whole (omega (arith, e, grown, h))
@@ -23,7 +23,7 @@ pub too-great_sum : (n tenfold digit whole : ℕ) (rest : List ℕ) → number_f
 too-great_sum n tenfold digit whole [] e some f g h = absurd (omega arith)
 too-great_sum n tenfold digit whole (byte ∷ more) e some f g h = let grown = number-grows (10 * n + (byte - 48)) more in below-none whole (omega (arith, e, grown, f, g, h))
 
--- a number that fits is a number
+-- A number that fits is a number
 pub below-some : (n whole : ℕ) (rest : List ℕ) → number_from n rest ≡ whole → length rest < 1 → n < 18446744073709551616 → Some n ≡ below_limit whole
 below-some n whole [] e none h = let P : ℕ → Type 0 = λ k. Some n ≡ below_limit k in subst P e (fits n h)
   where

@@ -13,12 +13,12 @@ use Rattle.vh_script.specs.Grammar.{Name, grammar, app}
 use Rattle.vh_script.specs.Conditions.{Plain, block_plain, app_plain}
 use Rattle.vh_script.specs.Answers.{answer}
 
--- a reading without a mark
+-- A reading without a mark
 abbrev lift : {T A : Type 0} → Out T A → Out T (A × ℕ)
 lift (got a rest) = got (a, 0) rest
 lift (stop fault left) = stop fault left
 
--- no token stands for what is left out
+-- No token stands for what is left out
 abbrev none : {T : Type 0} → T → Bool
 none t = false
 
@@ -35,7 +35,7 @@ pair-run : {T A B : Type 0} (a : A) (o : Out T B) → then_ (lift o) (λ b rest.
 pair-run a (got b rest) = refl
 pair-run a (stop fault left) = refl
 
--- a reading with a mark is one without, where there is none
+-- A reading with a mark is one without, where there is none
 abbrev Same : {T A : Type 0} → (List T → ℕ → Out T (A × ℕ)) → (List T → Out T A) → Type 0
 Same {T} m r = (ts : List T) → m ts 0 ≡ lift (r ts)
 
@@ -112,11 +112,11 @@ module _ {T P : Type 0} {V : P → Type 0} where
     plain-source levels p h ts =
         ap (λ o. answered_whole none o) (plain-run (reader all levels) (marked_at none all levels) (plain-reader levels) p h ts) ∙ plain-whole (read all levels p ts)
 
--- what the table answers is what a parser reads without a mark
+-- What the table answers is what a parser reads without a mark
 pub answer-read : (rules : AppFault) (earlier : List (List ℕ)) (ts : List Terminal) → answer rules earlier ts ≡ whole (read grammar MOST_LEVELS (app rules earlier) ts)
 answer-read rules earlier ts = plain-source grammar block_plain MOST_LEVELS (app rules earlier) (app_plain rules earlier) ts
 
--- what the grammar reads of the tokens of the code
+-- What the grammar reads of the tokens of the code
 pub kinds-terminals : (ts : List held.Token) → kinds_of (map token_seen ts) ≡ terminals ts
 kinds-terminals [] = refl
 kinds-terminals (t ∷ ts) = ap (λ more. kind_seen t.kind ∷ more) (kinds-terminals ts)

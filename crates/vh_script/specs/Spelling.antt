@@ -45,12 +45,12 @@ abbrev pub comment_at : List ℕ → Piece
 comment_at bytes = blank (prefix_len is_comment_byte bytes)
 
 -- The name of so many bytes that the bytes begin with (own).
-abbrev pub name_of : ℕ → List ℕ → Piece
-name_of len bytes = token (word (aims false (drop len bytes)) (take len bytes)) len
+abbrev pub name_piece : ℕ → List ℕ → Piece
+name_piece len bytes = token (word (aims false (drop len bytes)) (take len bytes)) len
 
 -- The name that the bytes begin with, read whole (own).
 abbrev pub name_at : List ℕ → Piece
-name_at bytes = name_of (prefix_len is_name_byte bytes) bytes
+name_at bytes = name_piece (prefix_len is_name_byte bytes) bytes
 
 -- The number that decimal digits spell (own).
 abbrev pub value_of : List ℕ → ℕ
@@ -70,18 +70,18 @@ abbrev pub number_at : List ℕ → Piece
 number_at bytes = number_of (below_limit (value_of (take (prefix_len is_digit bytes) bytes))) (prefix_len is_digit bytes)
 
 -- One byte more, if there is an end (own).
-abbrev pub one_more : Option ℕ → Option ℕ
-one_more o = option_map (λ len. len + 1) o
+abbrev pub one_longer : Option ℕ → Option ℕ
+one_longer o = option_map (λ len. len + 1) o
 
 -- How many bytes there are up to the quote that ends a text, if they are bytes 32 to 126 and one of the
 -- two escapes at each backslash; `escaped` says that a backslash stands before the bytes (own).
 abbrev pub text_len : Bool → List ℕ → Option ℕ
 text_len escaped [] = None
-text_len true (byte ∷ bytes) = if is_escaped byte then one_more (text_len false bytes) else None
+text_len true (byte ∷ bytes) = if is_escaped byte then one_longer (text_len false bytes) else None
 text_len false (byte ∷ bytes) =
     if byte == 34 then Some 0
-    else (if byte == 92 then one_more (text_len true bytes)
-    else (if is_between 32 126 byte then one_more (text_len false bytes) else None))
+    else (if byte == 92 then one_longer (text_len true bytes)
+    else (if is_between 32 126 byte then one_longer (text_len false bytes) else None))
 
 -- The bytes without the backslashes of their escapes (own).
 abbrev pub unescaped : Bool → List ℕ → List ℕ

@@ -271,7 +271,7 @@ fn note_bodies(d: &Design, readers: &mut [Readers]) -> Result<(), NoMemory>
     Ok(())
 }
 
-/// For each object the force and assign statements that read it. It goes once over the design.
+// For each object the force and assign statements that read it. It goes once over the design.
 pub(crate) fn readers_of(alloc: Global, d: &Design) -> Result<Vec<Readers>, NoMemory>
     ensures { IfOk result (λ rs. (o : ℕ) → o < length d.now.objects →
         follows_at rs.items o ≡ followers d.now o) }

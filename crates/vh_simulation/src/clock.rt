@@ -27,7 +27,7 @@ fn asks_in(d: &Design, e: ExprId) -> bool
     found
 }
 
-/// Does the expression read the present time?
+// Does the expression read the present time?
 pub(crate) fn asks_time(d: &Design, e: ExprId) -> bool
     requires { e < length d.now.exprs }
     ensures { result ≡ asks_time d.now.exprs e }

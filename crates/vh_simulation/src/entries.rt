@@ -37,7 +37,7 @@ fn wake(
     Ok(())
 }
 
-/// The monitor gets an entry, now, unless one stands.
+// The monitor gets an entry, now, unless one stands.
 pub(crate) fn enter_monitor(q: &mut Queue, monitor: &mut Monitor) -> Result<(), StepFault>
     ensures done { OnOk result (monitor_entered (watched monitor.old q.old)
         ≡ Ok (watched monitor.new q.new)) }
@@ -105,7 +105,7 @@ fn enter(
     note(d, q, monitor, c)
 }
 
-/// The entries that changes add, in order. It is inlined, since most labels change nothing.
+// The entries that changes add, in order. It is inlined, since most labels change nothing.
 #[inline(always)]
 #[tactic(auto, unfolding(crate::specs::Entries::all_entered))]
 pub(crate) fn enter_all(

@@ -131,7 +131,7 @@ fn follow_one(s: &Store, follows: &mut Follows, q: &mut Queue, f: &Follow) -> Re
     enter_follow(follows, q, f.force, f.object)
 }
 
-/// Each statement in turn that reads what has changed.
+// Each statement in turn that reads what has changed.
 pub(crate) fn follow(
     s: &Store,
     sense: &Sense,

@@ -9,7 +9,7 @@ use vh_ast::{DataType, Decl, Init, Var, VarPart, held};
 use vh_base::NoMemory;
 use vh_ports::Ports;
 
-/// The type of a declaration in a scope: in a module's own it may be that of a port too.
+// The type of a declaration in a scope: in a module's own it may be that of a port too.
 pub(crate) fn type_at<'a>(
     home: Option<&Ports<'a>>,
     name: &[u8],
@@ -97,7 +97,7 @@ fn add_inits<'a>(
     Ok(())
 }
 
-/// A declaration of variables.
+// A declaration of variables.
 pub(crate) fn add_decl<'a>(
     home: Option<&Ports<'a>>,
     scope: u32,
@@ -118,7 +118,7 @@ pub(crate) fn add_decl<'a>(
     }
 }
 
-/// Declarations in a row.
+// Declarations in a row.
 pub(crate) fn add_decls<'a>(
     scope: u32,
     decls: &'a [Decl],

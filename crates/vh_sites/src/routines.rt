@@ -101,7 +101,7 @@ fn add_inner<'a>(
     add_stmt(scope, body, sites)
 }
 
-/// A task, with what it declares.
+// A task, with what it declares.
 pub(crate) fn add_task<'a>(
     scope: u32,
     task: &'a Task,
@@ -133,7 +133,7 @@ fn result_type(written: &Option<ResultType>) -> VarType<'_>
     }
 }
 
-/// A function, with its result and what it declares.
+// A function, with its result and what it declares.
 pub(crate) fn add_function<'a>(
     scope: u32,
     function: &'a Function,

@@ -25,7 +25,7 @@ fn add_block<'a>(
     add_decls(number, decls, sites)
 }
 
-/// The named blocks in a statement, with what they declare.
+// The named blocks in a statement, with what they declare.
 #[cycle(stmts)]
 pub(crate) fn add_stmt<'a>(
     scope: u32,

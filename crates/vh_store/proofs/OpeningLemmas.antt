@@ -15,7 +15,7 @@ use Rattle.vh_store.specs.declared.net.Driven.{Driven}
 use Rattle.vh_store.specs.declared.store.DriverPlace.{DriverPlace}
 use Rattle.vh_store.specs.Contents.{Record, Net, net, plain, with_record}
 use Rattle.vh_store.specs.Opening.{table_of, undriven, opening_record, opening_driver, opening_wired, with_one_driver, count_at, Wired, wired}
-use Rattle.vh_store.specs.Laws.{drives, HasItsDrivers, HasItsPlace}
+use Rattle.vh_store.specs.Laws.{is_driver_of, HasItsDrivers, HasItsPlace}
 
 -- One record is set.
 set-here : {X : Type 0} (rs : List X) (o : ℕ) (r new : X) → slice_get rs o ≡ Some r → slice_get (slice_set rs o new) o ≡ Some new
@@ -46,15 +46,15 @@ one-there rs o p x None other = refl
 one-there rs o p x (Some r) other = set-there rs o p (with_one_driver x r) other
 
 its-drivers : (w : Wired) (xs : List DriverInfo) (o : ℕ) (n : Net) (ys : List Driven) → slice_get w.records o ≡ Some (driven_net n ys)
-    → slice_get (fold wired w xs).records o ≡ Some (driven_net n (ys ++ map opening_driver (filter (drives o) xs)))
+    → slice_get (fold wired w xs).records o ≡ Some (driven_net n (ys ++ map opening_driver (filter (is_driver_of o) xs)))
 its-drivers w [] o n ys there = there ∙ ap (λ (zs : List Driven). Some (driven_net n zs)) (sym (append-nil ys))
-its-drivers w (x ∷ xs) o n ys there = by (drives o x) (λ v zs here. its-drivers v xs o n zs here) refl
+its-drivers w (x ∷ xs) o n ys there = by (is_driver_of o x) (λ v zs here. its-drivers v xs o n zs here) refl
   where
     by : (b : Bool)
         → ((v : Wired) (zs : List Driven) → slice_get v.records o ≡ Some (driven_net n zs)
-        → slice_get (fold wired v xs).records o ≡ Some (driven_net n (zs ++ map opening_driver (filter (drives o) xs))))
-        → drives o x ≡ b
-        → slice_get (fold wired w (x ∷ xs)).records o ≡ Some (driven_net n (ys ++ map opening_driver (filter (drives o) (x ∷ xs))))
+        → slice_get (fold wired v xs).records o ≡ Some (driven_net n (zs ++ map opening_driver (filter (is_driver_of o) xs))))
+        → is_driver_of o x ≡ b
+        → slice_get (fold wired w (x ∷ xs)).records o ≡ Some (driven_net n (ys ++ map opening_driver (filter (is_driver_of o) (x ∷ xs))))
     by true rest is =
         let here : x.object ≡ o = eqb-true x.object o is in
         let after : slice_get (wired w x).records o ≡ Some (driven_net n (ys ++ opening_driver x ∷ [])) =
@@ -62,12 +62,12 @@ its-drivers w (x ∷ xs) o n ys there = by (drives o x) (λ v zs here. its-drive
         ∙ one-here w.records o x n ys (slice_get w.records o) refl there in
         rest (wired w x) (ys ++ opening_driver x ∷ []) after
         ∙ ap (λ (zs : List Driven). Some (driven_net n zs))
-        (append_assoc ys (opening_driver x ∷ []) (map opening_driver (filter (drives o) xs))
-        ∙ ap (λ (b : Bool). ys ++ map opening_driver (cond b (x ∷ filter (drives o) xs) (filter (drives o) xs))) (sym is))
+        (append_assoc ys (opening_driver x ∷ []) (map opening_driver (filter (is_driver_of o) xs))
+        ∙ ap (λ (b : Bool). ys ++ map opening_driver (cond b (x ∷ filter (is_driver_of o) xs) (filter (is_driver_of o) xs))) (sym is))
     by false rest is =
         let other : o ≢ x.object = λ e. eqb-false x.object o is (sym e) in
         rest (wired w x) ys (one-there w.records o x.object x (slice_get w.records x.object) other ∙ there)
-        ∙ ap (λ (b : Bool). Some (driven_net n (ys ++ map opening_driver (cond b (x ∷ filter (drives o) xs) (filter (drives o) xs))))) (sym is)
+        ∙ ap (λ (b : Bool). Some (driven_net n (ys ++ map opening_driver (cond b (x ∷ filter (is_driver_of o) xs) (filter (is_driver_of o) xs))))) (sym is)
 
 -- A net is no memory.
 no-memory : (k : Kind) → is_net k ≡ true → is_memory k ≡ false
@@ -105,8 +105,8 @@ count-of r n ys is = ap count_at is
 
 -- A net has one driver more, or is left alone.
 one-more : (w : Wired) (x : DriverInfo) (o : ℕ) (n : Net) (ys : List Driven) → slice_get w.records o ≡ Some (driven_net n ys)
-    → (b : Bool) → drives o x ≡ b
-    → (zs : List Driven) × (slice_get (wired w x).records o ≡ Some (driven_net n zs)) × (length zs ≡ length (filter (drives o) (x ∷ [])) + length ys)
+    → (b : Bool) → is_driver_of o x ≡ b
+    → (zs : List Driven) × (slice_get (wired w x).records o ≡ Some (driven_net n zs)) × (length zs ≡ length (filter (is_driver_of o) (x ∷ [])) + length ys)
 one-more w x o n ys there true is =
     let here : x.object ≡ o = eqb-true x.object o is in (
       ys ++ opening_driver x ∷ [],
@@ -122,8 +122,8 @@ one-more w x o n ys there false is =
       nothing ∙ ap (λ (b : Bool). length (cond b (x ∷ []) []) + length ys) (sym is),
     )
 
-more-before : (o : ℕ) (x : DriverInfo) (xs : List DriverInfo) (b : Bool) → drives o x ≡ b
-    → length (filter (drives o) (x ∷ xs)) ≡ length (filter (drives o) (x ∷ [])) + length (filter (drives o) xs)
+more-before : (o : ℕ) (x : DriverInfo) (xs : List DriverInfo) (b : Bool) → is_driver_of o x ≡ b
+    → length (filter (is_driver_of o) (x ∷ xs)) ≡ length (filter (is_driver_of o) (x ∷ [])) + length (filter (is_driver_of o) xs)
 more-before o x xs true is = rw is (omega arith)
 more-before o x xs false is = rw is (omega arith)
 
@@ -133,7 +133,7 @@ driver_place o k = record { object = o; index = k }
 its-place : (w : Wired) (xs : List DriverInfo) (x : ℕ) (i : DriverInfo) (n : Net) (ys : List Driven) → slice_get xs x ≡ Some i
     → slice_get w.records i.object ≡ Some (driven_net n ys)
     → slice_get (fold wired w xs).drivers (length w.drivers + x)
-    ≡ Some (record { object = i.object; index = length ys + length (filter (drives i.object) (take x xs)) })
+    ≡ Some (record { object = i.object; index = length ys + length (filter (is_driver_of i.object) (take x xs)) })
 its-place w [] x i n ys here there = absurd (cc)
 its-place w (j ∷ xs) zero i n ys here there =
     let same : j ≡ i = cc in
@@ -146,10 +146,10 @@ its-place w (j ∷ xs) zero i n ys here there =
     ∙ (ap (λ (y : DriverInfo). Some (driver_place y.object (count_at (slice_get w.records y.object)))) same
     ∙ ap (λ (c : ℕ). Some (driver_place i.object c)) (count ∙ none)))
 its-place w (j ∷ xs) (suc x) i n ys here there =
-    let more = one-more w j i.object n ys there (drives i.object j) refl in
+    let more = one-more w j i.object n ys there (is_driver_of i.object j) refl in
     let long = length-append w.drivers (record { object = j.object; index = count_at (slice_get w.records j.object) } ∷ []) in
     let at : length (wired w j).drivers + x ≡ length w.drivers + suc x = omega (arith, long) in
-    let sum = more-before i.object j (take x xs) (drives i.object j) refl in
+    let sum = more-before i.object j (take x xs) (is_driver_of i.object j) refl in
     ap (λ (k : ℕ). slice_get (fold wired (wired w j) xs).drivers k) (sym at)
     ∙ (its-place (wired w j) xs x i n more.0 here more.1
     ∙ ap (λ (c : ℕ). Some (driver_place i.object c)) (omega (arith, sum, more.2)))
@@ -157,7 +157,7 @@ its-place w (j ∷ xs) (suc x) i n ys here there =
 pub has-its-place : HasItsPlace
 has-its-place d x i o here there is =
     let none : x ≡ 0 + x = omega arith in
-    let all : length (filter (drives i.object) (take x d.drivers)) ≡ 0 + length (filter (drives i.object) (take x d.drivers)) = omega arith in
+    let all : length (filter (is_driver_of i.object) (take x d.drivers)) ≡ 0 + length (filter (is_driver_of i.object) (take x d.drivers)) = omega arith in
     ap (λ (k : ℕ). slice_get (opening_wired d).drivers k) none
     ∙ (its-place (record { records = map (opening_record d.exprs) d.objects; drivers = [] }) d.drivers x i
     (record { table = table_of o.detail; undriven = undriven o; drivers = [] }) [] here

@@ -32,14 +32,14 @@ HasNoOrder = (t : NetType) (u : Vector) (c d : Driven) (before after : List Driv
     → resolution t u (before ++ c ∷ d ∷ after) ≡ resolution t u (before ++ d ∷ c ∷ after)
 
 -- Before all, a net has the drivers of the design that name it, in their order.
-abbrev pub drives : ℕ → DriverInfo → Bool
-drives o x = x.object == o
+abbrev pub is_driver_of : ℕ → DriverInfo → Bool
+is_driver_of o x = x.object == o
 
 abbrev pub net_before : List DriverInfo → ℕ → ObjectInfo → Record
 net_before xs o i = plain (net (record {
   table = table_of i.detail;
   undriven = undriven i;
-  drivers = map opening_driver (filter (drives o) xs);
+  drivers = map opening_driver (filter (is_driver_of o) xs);
 }))
 
 abbrev pub HasItsDrivers : Type 0
@@ -48,7 +48,7 @@ HasItsDrivers = (d : Shape) (o : ℕ) (i : ObjectInfo) → slice_get d.objects o
 
 -- A driver's place is how many of the drivers before it drive the same net.
 abbrev pub place_before : List DriverInfo → ℕ → DriverInfo → DriverPlace
-place_before xs x i = record { object = i.object; index = length (filter (drives i.object) (take x xs)) }
+place_before xs x i = record { object = i.object; index = length (filter (is_driver_of i.object) (take x xs)) }
 
 abbrev pub HasItsPlace : Type 0
 HasItsPlace = (d : Shape) (x : ℕ) (i : DriverInfo) (o : ObjectInfo) → slice_get d.drivers x ≡ Some i

@@ -21,7 +21,7 @@ use Rattle.vh_store.specs.declared.net.Driven.{Driven}
 use Rattle.vh_store.specs.declared.store.DriverPlace.{DriverPlace}
 use Rattle.vh_store.specs.Contents.{Assigned, variable, memory, net, Record, plain, with_record, Contents, answered}
 
--- x at each digit of an object.
+-- X at each digit of an object.
 abbrev pub unknown : ObjectInfo → Vector
 unknown i = filled i.width X i.signed
 
@@ -45,7 +45,7 @@ constant_in ns (detail.Value e) = literal_at (slice_get ns e)
 constant_in ns (detail.Call systf result args) = None
 constant_in ns (detail.Routine body) = None
 
--- z at each digit of a net.
+-- Z at each digit of a net.
 abbrev pub undriven : ObjectInfo → Vector
 undriven i = filled i.width Z i.signed
 

@@ -457,7 +457,7 @@ read_as part kinds = marks is_unused grammar 200 part (seen kinds) 0
 abbrev e : List ℕ → ExprTree
 e bytes = E.named_at (E.name (record { place = here; name = bytes }) E.no_index E.no_step) E.no_sel
 
--- a ? b : c ? d : g: it groups to the right
+-- A ? b : c ? d : g: it groups to the right
 choice-tree : read_as (expression true) ((name (codes "a")) ∷ (fixed sign.Question) ∷ (name (codes "b")) ∷ (fixed sign.Colon) ∷
     (name (codes "c")) ∷ (fixed sign.Question) ∷ (name (codes "d")) ∷ (fixed sign.Colon) ∷
     (name (codes "g")) ∷ [])
@@ -471,21 +471,21 @@ power-tree : read_as (expression true) ((fixed sign.Minus) ∷ (name (codes "a")
 unfolding esel_end esel dotted bracketed selected reselected path_turn path_rest path row_turn braced_rest braced lv arguments name_end by_name system_end by_system parens braces_end braces prim unary_operand any_operand chain_tail choice_tail expression_tail expression a_range a_type a_value assigned a_net an_init var_part a_var reg_decl integer_decl time_decl decl delay_value delay_end delay ev event_list event set assignment task_call name_stmt by_name_stmt by_brace_stmt empty_stmt delay_stmt event_stmt wait_stmt otherwise if_stmt default_item values_item citem citems case_stmt for_head for_stmt loop_stmt forever_stmt label stmts begin_stmt fork_stmt trigger_stmt disable_stmt force_stmt release_stmt slot slots system_task system_stmt statement port_head pdecl next_port next_ports ports par port_ids port_item next_delayed more_delayed delayed_nets all_nets net_item decl_item event_item genvar_item parameter_item assign_item gate gate_item conn_by_name conn conns inst instance_item process_item targ_head targ_ids targ targ_id targ_one next_targ next_targs targs local routine task_item result_type function_item generate_head for_item other_gblock if_item item region_word region_end items within_turn region_rest first_word one_item_rest one_item item_block a_gblock pars port_list a_module source
 power-tree = refl
 
--- a - b - c: one chain, which groups to the left
+-- A - b - c: one chain, which groups to the left
 minus-tree : read_as (expression true) ((name (codes "a")) ∷ (fixed sign.Minus) ∷ (name (codes "b")) ∷ (fixed sign.Minus) ∷
     (name (codes "c")) ∷ [])
     ≡ got ((E.chained (e (codes "a")) ((binary.Minus, (e (codes "b"))) ∷ (binary.Minus, (e (codes "c"))) ∷ [])), 0) []
 unfolding esel_end esel dotted bracketed selected reselected path_turn path_rest path row_turn braced_rest braced lv arguments name_end by_name system_end by_system parens braces_end braces prim unary_operand any_operand chain_tail choice_tail expression_tail expression a_range a_type a_value assigned a_net an_init var_part a_var reg_decl integer_decl time_decl decl delay_value delay_end delay ev event_list event set assignment task_call name_stmt by_name_stmt by_brace_stmt empty_stmt delay_stmt event_stmt wait_stmt otherwise if_stmt default_item values_item citem citems case_stmt for_head for_stmt loop_stmt forever_stmt label stmts begin_stmt fork_stmt trigger_stmt disable_stmt force_stmt release_stmt slot slots system_task system_stmt statement port_head pdecl next_port next_ports ports par port_ids port_item next_delayed more_delayed delayed_nets all_nets net_item decl_item event_item genvar_item parameter_item assign_item gate gate_item conn_by_name conn conns inst instance_item process_item targ_head targ_ids targ targ_id targ_one next_targ next_targs targs local routine task_item result_type function_item generate_head for_item other_gblock if_item item region_word region_end items within_turn region_rest first_word one_item_rest one_item item_block a_gblock pars port_list a_module source
 minus-tree = refl
 
--- a + b * c
+-- A + b * c
 times-tree : read_as (expression true) ((name (codes "a")) ∷ (fixed sign.Plus) ∷ (name (codes "b")) ∷ (fixed sign.Star) ∷
     (name (codes "c")) ∷ [])
     ≡ got ((E.chained (e (codes "a")) ((binary.Plus, (E.chained (e (codes "b")) ((binary.Times, (e (codes "c"))) ∷ []))) ∷ [])), 0) []
 unfolding esel_end esel dotted bracketed selected reselected path_turn path_rest path row_turn braced_rest braced lv arguments name_end by_name system_end by_system parens braces_end braces prim unary_operand any_operand chain_tail choice_tail expression_tail expression a_range a_type a_value assigned a_net an_init var_part a_var reg_decl integer_decl time_decl decl delay_value delay_end delay ev event_list event set assignment task_call name_stmt by_name_stmt by_brace_stmt empty_stmt delay_stmt event_stmt wait_stmt otherwise if_stmt default_item values_item citem citems case_stmt for_head for_stmt loop_stmt forever_stmt label stmts begin_stmt fork_stmt trigger_stmt disable_stmt force_stmt release_stmt slot slots system_task system_stmt statement port_head pdecl next_port next_ports ports par port_ids port_item next_delayed more_delayed delayed_nets all_nets net_item decl_item event_item genvar_item parameter_item assign_item gate gate_item conn_by_name conn conns inst instance_item process_item targ_head targ_ids targ targ_id targ_one next_targ next_targs targs local routine task_item result_type function_item generate_head for_item other_gblock if_item item region_word region_end items within_turn region_rest first_word one_item_rest one_item item_block a_gblock pars port_list a_module source
 times-tree = refl
 
--- a * b + c
+-- A * b + c
 plus-tree : read_as (expression true) ((name (codes "a")) ∷ (fixed sign.Star) ∷ (name (codes "b")) ∷ (fixed sign.Plus) ∷
     (name (codes "c")) ∷ [])
     ≡ got ((E.chained (E.chained (e (codes "a")) ((binary.Times, (e (codes "b"))) ∷ [])) ((binary.Plus, (e (codes "c"))) ∷ [])), 0) []

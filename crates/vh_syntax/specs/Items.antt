@@ -231,11 +231,11 @@ all_nets =
     (act no_delay (comma_list a_net))
 
 -- NET type [ delay ] net { "," net } ";" (IEEE 1364-2005, A.2.1.3)
-abbrev pub net_of : Place × NetType → TypeTree × (Option DelayTree × List NetTree) → ItemTree
-net_of n r = plain_at n.0 (I.net n.1 r.0 r.1.0 r.1.1)
+abbrev pub net_item_of : Place × NetType → TypeTree × (Option DelayTree × List NetTree) → ItemTree
+net_item_of n r = plain_at n.0 (I.net n.1 r.0 r.1.0 r.1.1)
 
 unfoldable pub net_item : G ItemTree
-net_item = two net_of (placed_row net_rows) (seq a_type (ended all_nets))
+net_item = two net_item_of (placed_row net_rows) (seq a_type (ended all_nets))
 
 -- decl (IEEE 1364-2005, A.2.1.3)
 abbrev pub decl_place : DeclTree → Place
@@ -435,12 +435,12 @@ routine inside =
     (seq (rep begins_local local) (inner_stmt inside)))
 
 -- "task" .. "endtask" (IEEE 1364-2005, A.2.7)
-abbrev pub task_of : Place → Routine → ItemTree
-task_of place r =
+abbrev pub task_item_of : Place → Routine → ItemTree
+task_item_of place r =
     plain_at place (I.task (record { id = r.0; targs = r.1.0; locals = r.1.1.0; body = r.1.1.1 }))
 
 unfoldable pub task_item : G ItemTree
-task_item = two task_of (at_the sign.Task) (before (routine false) (the sign.Endtask))
+task_item = two task_item_of (at_the sign.Task) (before (routine false) (the sign.Endtask))
 
 -- [ "integer" | "time" | type ], where no type is a type that is written (IEEE 1364-2005, A.2.6)
 unfoldable pub result_type : G (Option ResultTree)
@@ -479,26 +479,26 @@ generate_head =
     seq assigned (after (the sign.Semicolon) (seq (expression true)
     (after (the sign.Semicolon) assigned)))
 
-abbrev pub for_of : Place → GenerateHead × GblockTree → ItemTree
-for_of place r = I.item place (I.for_item r.0.0 r.0.1.0 r.0.1.1 r.1)
+abbrev pub for_item_of : Place → GenerateHead × GblockTree → ItemTree
+for_item_of place r = I.item place (I.for_item r.0.0 r.0.1.0 r.0.1.1 r.1)
 
 unfoldable pub for_item : G ItemTree
-for_item = two for_of (at_the sign.For) (seq (in_parens generate_head) inner_gblock)
+for_item = two for_item_of (at_the sign.For) (seq (in_parens generate_head) inner_gblock)
 
 -- "if" "(" expr ")" gblock [ "else" gblock ] (IEEE 1364-2005, A.4.2)
-abbrev pub else_of : Option GblockTree → ElseTree
-else_of None = I.no_else
-else_of (Some g) = I.else_gblock g
+abbrev pub else_gblock_of : Option GblockTree → ElseTree
+else_gblock_of None = I.no_else
+else_gblock_of (Some g) = I.else_gblock g
 
-abbrev pub if_of : Place → ExprTree × (GblockTree × Option GblockTree) → ItemTree
-if_of place r = I.item place (I.if_item r.0 r.1.0 (else_of r.1.1))
+abbrev pub if_item_of : Place → ExprTree × (GblockTree × Option GblockTree) → ItemTree
+if_item_of place r = I.item place (I.if_item r.0 r.1.0 (else_gblock_of r.1.1))
 
 unfoldable pub other_gblock : G (Option GblockTree)
 other_gblock = opt (is sign.Else) (after (the sign.Else) inner_gblock)
 
 unfoldable pub if_item : G ItemTree
 if_item =
-    two if_of (at_the sign.If) (seq (in_parens (expression true)) (seq inner_gblock other_gblock))
+    two if_item_of (at_the sign.If) (seq (in_parens (expression true)) (seq inner_gblock other_gblock))
 
 -- item, but for `generate` regions (IEEE 1364-2005, A.1.4)
 unfoldable pub item : G ItemTree
@@ -607,12 +607,12 @@ unfoldable pub one_item : G GblockTree
 one_item = bind (before first_word item_here) one_item_rest
 
 -- gblock = item | "begin" [ ":" ID ] { item } "end" (IEEE 1364-2005, A.4.2)
-abbrev pub block_of : Place → Option Id × List ItemTree → GblockTree
-block_of place r = I.item_block place r.0 (I.items r.1)
+abbrev pub item_block_of : Place → Option Id × List ItemTree → GblockTree
+item_block_of place r = I.item_block place r.0 (I.items r.1)
 
 unfoldable pub item_block : G GblockTree
 item_block =
-    two block_of (at_the sign.Begin)
+    two item_block_of (at_the sign.Begin)
     (before (seq (opt (is sign.Colon) (after (the sign.Colon) an_id)) items) (the sign.End))
 
 unfoldable pub a_gblock : G GblockTree

@@ -22,11 +22,15 @@ pub mod Classes
 pub mod Conditions
 -- Levels of operators
 pub mod Levels
--- The conditions of each subject
+-- The conditions of names and targets
 pub mod NameConditions
+-- The conditions of expressions
 pub mod ExpressionConditions
+-- The conditions of types, ranges and declared names
 pub mod DeclarationConditions
+-- The conditions of statements
 pub mod StatementConditions
+-- The conditions of items, modules and sources
 pub mod ItemConditions
 -- The table with the proofs that it meets the conditions
 pub mod Table

@@ -161,14 +161,14 @@ pub enum Sign {
     Unused,
 }
 
-/// The number of a sign, in the order above.
+// The number of a sign, in the order above.
 pub(crate) fn code(sign: Sign) -> u8
     ensures { result ≡ Signs.number sign }
 {
     sign as u8
 }
 
-/// The sign that a reserved word is.
+// The sign that a reserved word is.
 pub(crate) fn word_sign(word: Keyword) -> Sign
     ensures { result ≡ Signs.word_sign word }
 {
@@ -299,7 +299,7 @@ pub(crate) fn word_sign(word: Keyword) -> Sign
     }
 }
 
-/// The sign that an operator or a mark is.
+// The sign that an operator or a mark is.
 pub(crate) fn mark_sign(mark: Mark) -> Sign
     ensures { result ≡ Signs.mark_sign mark }
 {

@@ -227,14 +227,14 @@ static ITEM: [Sign; 30] = [
 
 static CONNS: [Sign; 2] = [Sign::Dot, Sign::Comma];
 
-/// Whether the sign is one of these. It takes time in their number.
+// Whether the sign is one of these. It takes time in their number.
 fn is_one_of(signs: &[Sign], sign: Sign) -> bool
     ensures { result ≡ one_of signs.now sign }
 {
     signs.iter().any(|one| code(*one) == code(sign))
 }
 
-/// What the first row of the sign says. It takes time in the number of rows.
+// What the first row of the sign says. It takes time in the number of rows.
 fn row_of<T: Copy>(rows: &[(Sign, T)], sign: Sign) -> Option<T>
     ensures { result ≡ Signs.row_of rows.now sign }
 {
@@ -246,14 +246,14 @@ fn row_of<T: Copy>(rows: &[(Sign, T)], sign: Sign) -> Option<T>
     None
 }
 
-/// Whether the system name is no call.
+// Whether the system name is no call.
 fn is_plain(name: &[u8]) -> bool
     ensures { result ≡ named_in plain_systems name.now }
 {
     name == b"$time".as_slice() || name == b"$signed".as_slice() || name == b"$unsigned".as_slice()
 }
 
-/// The signs of a group.
+// The signs of a group.
 fn signs_of(group: Group) -> &'static [Sign]
     ensures { result.now ≡ group_signs group }
 {

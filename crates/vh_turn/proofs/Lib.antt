@@ -1,6 +1,8 @@
 -- The widths of a `case`, its subject and its labels
 mod CaseLemmas
+-- How many digits drivers have side by side
 pub mod DrivesLemmas
+-- A driver comes to its new value
 mod LawsLemmas
 -- A variable may be forced
 mod ForciblesLemmas

@@ -186,7 +186,7 @@ single_store d (single.Release object) s = released object s
 single_store d (single.Procedural object e) s = with_assign d object e s
 single_store d (single.Deassign object) s = deassigned object s
 
--- and what they change, force or release.
+-- And what they change, force or release.
 abbrev pub single_made : Shape → Single → Contents → List Made
 single_made d (single.Show show) s = []
 single_made d single.Finish s = []

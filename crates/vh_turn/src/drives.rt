@@ -190,8 +190,8 @@ fn drive_next(
     Ok(rest)
 }
 
-/// Each driver takes its digits of a value, the first one the highest: it compares them with its
-/// scheduled update.
+// Each driver takes its digits of a value, the first one the highest: it compares them with its
+// scheduled update.
 #[tactic(auto, unfolding(crate::specs::Drives::all_driven, crate::specs::Drives::digits_driven))]
 pub(crate) fn drive_all(
     d: &Design,

@@ -63,7 +63,7 @@ fn open_object(
     see_ids(alloc, number, items, &mut known.names)
 }
 
-/// The module itself.
+// The module itself.
 pub(crate) fn open_module(
     alloc: Global,
     instance: Instance,
@@ -129,7 +129,7 @@ fn keep_turn(
     genvars.keep(number, genvar)
 }
 
-/// A block in a scope; answers its number.
+// A block in a scope; answers its number.
 pub(crate) fn open_block(
     alloc: Global,
     instance: Instance,
@@ -177,8 +177,8 @@ fn is_free(alloc: Global, names: &Names, scope: u32, word: BlockText) -> Result<
     Ok(names.meaning(ObjId::new(scope), &bytes).is_none())
 }
 
-/// What a construct's block is called where no name is written: with so many zeros that the scope
-/// doesn't declare it.
+// What a construct's block is called where no name is written: with so many zeros that the scope
+// doesn't declare it.
 pub(crate) fn counted_name<'a>(
     alloc: Global,
     names: &Names,

@@ -21,8 +21,8 @@ use vh_nodes::Name;
 use vh_ports::Ports;
 use vh_sites::Choice;
 
-/// What is known so far, under numbers of its own, what constructs come to so far, and the least
-/// fault so far; whether something was passed over, and how many blocks there are.
+// What is known so far, under numbers of its own, what constructs come to so far, and the least
+// fault so far; whether something was passed over, and how many blocks there are.
 #[derive(Drop)]
 pub(crate) struct Unrolling<'a> {
     pub(crate) known: Known,
@@ -32,7 +32,7 @@ pub(crate) struct Unrolling<'a> {
     pub(crate) passed: bool,
 }
 
-/// What holds for all of an instance, whose module is number 0 here.
+// What holds for all of an instance, whose module is number 0 here.
 #[derive(Clone, Copy)]
 pub(crate) struct Instance<'a, 'b> {
     pub(crate) ports: &'b Ports<'a>,
@@ -42,7 +42,7 @@ pub(crate) struct Instance<'a, 'b> {
     pub(crate) given: &'b Given<'a>,
 }
 
-/// The same as the values of parameters need it.
+// The same as the values of parameters need it.
 pub(crate) fn home_in<'a, 'b>(instance: Instance<'a, 'b>) -> Home<'a, 'b>
     ensures { home_seen result ≡ home_of instance.entry }
 {
@@ -55,7 +55,7 @@ pub(crate) fn home_in<'a, 'b>(instance: Instance<'a, 'b>) -> Home<'a, 'b>
     }
 }
 
-/// One fault more.
+// One fault more.
 pub(crate) fn take_fault(fault: DesignFault, place: Place, state: &mut Unrolling)
     ensures { unrolling_seen state.new
         ≡ Constructs.with_fault fault place (unrolling_seen state.old) }
@@ -63,7 +63,7 @@ pub(crate) fn take_fault(fault: DesignFault, place: Place, state: &mut Unrolling
     state.fault = least(state.fault, Some((fault, place)));
 }
 
-/// One choice more.
+// One choice more.
 pub(crate) fn add_choice<'a>(choice: Choice<'a>, state: &mut Unrolling<'a>) -> Result<(), NoMemory>
     ensures { OnOk result (unrolling_seen state.new
         ≡ Constructs.with_choice (choice_seen choice.entry) (unrolling_seen state.old)) }
@@ -72,7 +72,7 @@ pub(crate) fn add_choice<'a>(choice: Choice<'a>, state: &mut Unrolling<'a>) -> R
     Ok(())
 }
 
-/// Whether so much is made that nothing behind it is looked for.
+// Whether so much is made that nothing behind it is looked for.
 pub(crate) fn is_full(state: &Unrolling) -> bool
     ensures { result ≡ Constructs.is_full (unrolling_seen state.now) }
 {
@@ -150,7 +150,7 @@ fn note(
     }
 }
 
-/// The value of a constant, where it has one; else its fault counts, or it is passed over.
+// The value of a constant, where it has one; else its fault counts, or it is passed over.
 pub(crate) fn value_of(
     alloc: Global,
     home: Home,
@@ -167,7 +167,7 @@ pub(crate) fn value_of(
     note(outcome, state)
 }
 
-/// The number that a value stands for, read without a sign; 0 where a digit is x or z.
+// The number that a value stands for, read without a sign; 0 where a digit is x or z.
 pub(crate) fn number_in(value: &Vec4) -> u64
     ensures { result ≡ Constructs.number_in value.now }
 {
@@ -188,7 +188,7 @@ fn without_x(place: Place, value: Option<Vec4>, state: &mut Unrolling) -> Option
     }
 }
 
-/// The value of a constant without x.
+// The value of a constant without x.
 pub(crate) fn known_value(
     alloc: Global,
     home: Home,
@@ -206,7 +206,7 @@ pub(crate) fn known_value(
     Ok(without_x(e.place, value, state))
 }
 
-/// The value of a loop's variable: 32 digits, signed.
+// The value of a loop's variable: 32 digits, signed.
 pub(crate) fn genvar_value(
     alloc: Global,
     home: Home,

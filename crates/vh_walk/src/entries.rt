@@ -21,7 +21,7 @@ fn is_ordered(conn: &Conn) -> bool
     }
 }
 
-/// The expression of an entry, if one is written.
+// The expression of an entry, if one is written.
 pub(crate) fn written(conn: &Conn) -> &Option<Expr>
     ensures { option_map expr_tree result.now ≡ Overrides.written (conn_tree conn.now) }
 {
@@ -31,7 +31,7 @@ pub(crate) fn written(conn: &Conn) -> &Option<Expr>
     }
 }
 
-/// What an entry gives its value to.
+// What an entry gives its value to.
 pub(crate) fn entry_name<'a>(names: &[&'a [u8]], place: usize, conn: &'a Conn) -> Option<&'a [u8]>
     ensures { option_copied result
         ≡ Overrides.entry_name (names_seen names.now) place (conn_tree conn.now) }
@@ -128,7 +128,7 @@ fn any_by_name(conns: &[Conn]) -> bool
     false
 }
 
-/// The least fault of the entries, whatever their expressions are.
+// The least fault of the entries, whatever their expressions are.
 pub(crate) fn entries_fault(
     alloc: Global,
     place: Place,

@@ -16,7 +16,7 @@ use vh_declare::Given;
 use vh_least::{Fault, least};
 use vh_logic::Vec4;
 
-/// What is given so far, and the least fault so far.
+// What is given so far, and the least fault so far.
 #[derive(Drop)]
 pub(crate) struct Overriding<'a> {
     given: Given<'a>,
@@ -112,8 +112,8 @@ fn take_entries<'a>(
     Ok(overriding)
 }
 
-/// What an instance of a module gives to its parameters, worked out where its item stands, or the
-/// least fault of that; `place` is that of the item's module name.
+// What an instance of a module gives to its parameters, worked out where its item stands, or the
+// least fault of that; `place` is that of the item's module name.
 #[tactic(auto, unfolding(crate::specs::Overrides::overrides))]
 pub(crate) fn overrides<'a>(
     alloc: Global,

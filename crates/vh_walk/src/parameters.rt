@@ -74,7 +74,7 @@ fn add_items<'a>(items: &'a [Item], names: &mut Vec<&'a [u8]>) -> Result<(), NoM
     Ok(())
 }
 
-/// The parameters of a module, by name.
+// The parameters of a module, by name.
 pub(crate) fn parameters_of(alloc: Global, module: &Module) -> Result<Vec<&[u8]>, NoMemory>
     ensures { IfOk result (λ v. names_seen v.items
         ≡ Overrides.parameters_of (module_tree module.now)) }

@@ -38,7 +38,7 @@ pub struct Modules<'a, 'b> {
     pub names: &'b Index<'a>,
 }
 
-/// An instance that is to be walked.
+// An instance that is to be walked.
 #[derive(Drop)]
 struct Waiting<'a, 'b> {
     ports: &'b Ports<'a>,

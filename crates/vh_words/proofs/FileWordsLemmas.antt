@@ -7,12 +7,12 @@ use Rattle.std.proofs.lemmas.List.Folds.{list_all-map}
 use Rattle.std.proofs.lemmas.Bool.Decides.{nat_tests}
 use Rattle.vh_words.specs.Words.{can_be_run, is_design_word, is_file_word, texts}
 
--- one of the words passes a test
+-- One of the words passes a test
 any-texts : (p : List ℕ → Bool) (files : List (String Global)) → list_any p (texts files) ≡ list_any (λ file. p (string_bytes file)) files
 any-texts p [] = refl
 any-texts p (file ∷ files) = ap (λ (b : Bool). p (string_bytes file) || b) (any-texts p files)
 
--- the three tests of file words
+-- The three tests of file words
 abbrev tests : ℕ → Bool → Bool → Bool
 tests length all design = nat_le length 8 && all && design
 
@@ -23,14 +23,14 @@ tests-texts files =
     ∙ ap (λ (b : Bool). tests (length (texts files)) b (list_any (λ file. is_design_word (string_bytes file)) files)) (sym (list_all-map is_file_word string_bytes files))
     ∙ ap (λ (b : Bool). tests (length (texts files)) (list_all is_file_word (texts files)) b) (sym (any-texts is_design_word files))
 
--- too many words
+-- Too many words
 pub too_many : (files : List (String Global)) → 8 < length files → false ≡ can_be_run (texts files)
 too_many files long =
     let no_room : nat_le (length files) 8 ≡ false = grind (arith, nat_tests) in
     sym (ap (λ (b : Bool). b && list_all (λ file. is_file_word (string_bytes file)) files && list_any (λ file. is_design_word (string_bytes file)) files) no_room)
     ∙ tests-texts files
 
--- a word that names no file
+-- A word that names no file
 pub no_file : (files : List (String Global)) → length files ≤ 8 → list_all (λ file. is_file_word (string_bytes file)) files ≡ false → false ≡ can_be_run (texts files)
 no_file files few none =
     let room : nat_le (length files) 8 ≡ true = grind (arith, nat_tests) in
@@ -38,7 +38,7 @@ no_file files few none =
     ∙ ap (λ (b : Bool). b && list_any (λ file. is_design_word (string_bytes file)) files) none)
     ∙ tests-texts files
 
--- words that name files, by whether one names a Verilog file
+-- Words that name files, by whether one names a Verilog file
 pub by_design : (files : List (String Global)) → length files ≤ 8 → list_all (λ file. is_file_word (string_bytes file)) files ≡ true
     → list_any (λ file. is_design_word (string_bytes file)) files ≡ can_be_run (texts files)
 by_design files few all =

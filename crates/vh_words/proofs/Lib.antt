@@ -1,3 +1,4 @@
--- Lemmas of the words.
+-- Which file words can be run
 pub mod FileWordsLemmas
+-- Digits that are read as a number
 pub mod NumbersLemmas

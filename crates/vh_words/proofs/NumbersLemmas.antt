@@ -26,7 +26,7 @@ below-some limit n small = sym (ap (λ (b : Bool). if b then Some n else None) (
 below-none : (limit n : ℕ) → (n < limit → ⊥) → None ≡ below limit n
 below-none limit n great = let b : nat_lt n limit ≡ false = grind (arith, nat_tests, great) in sym (ap (λ (b : Bool). if b then Some n else None) b)
 
--- what a numeral is, where it can't be read as a number below 2^64
+-- What a numeral is, where it can't be read as a number below 2^64
 pub not_named : {E : Type 0} (word : List ℕ) (e : E) → ParsesUnsigned 64 10 word (Err e) → is_numeral word ≡ true → None ≡ number_named word
 not_named word e h is =
     let parts : (0 < length word) × Digits word = grind (arith, nat_tests, is) in

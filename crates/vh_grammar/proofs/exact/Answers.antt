@@ -1,5 +1,5 @@
 -- Each clause is a law of the grammar's table.
-use Rattle.vh_grammar.proofs.Laws.{laws_of_productions, laws_of_sources, classes_are_firsts, spells_without_classes, begins_without_classes}
+use Rattle.vh_grammar.proofs.LawsLemmas.{laws_of_productions, laws_of_sources, classes_are_firsts, spells_without_classes, begins_without_classes}
 use Rattle.vh_grammar.proofs.exact.Goals as goal
 
 pub returns : goal.returns

@@ -1,6 +1,6 @@
 use Rattle.vh_host.specs.Acceptance.{by_texts}
 use Rattle.vh_host.specs.Reading.{files_seen}
-use Rattle.vh_host.proofs.Verdicts.{refused_texts}
+use Rattle.vh_host.proofs.JudgingLemmas.{refused_texts}
 use Rattle.vh_host.proofs.host.run_files.Goals as goal
 
 pub returns-in-Err-clause-answers : goal.returns-in-Err-clause-answers

@@ -1,10 +1,10 @@
 use Rattle.std.proofs.Common.{◌≡◌, length}
 use Rattle.vh_words.specs.Words.{texts}
 use Rattle.vh_host.specs.Reading.{files_seen}
-use Rattle.vh_host.proofs.Files.{AreWith}
+use Rattle.vh_host.proofs.ReadingLemmas.{AreWith}
 use Rattle.vh_host.proofs.plain.files_with.Given as goal
 
--- the files so far, with those that are left
+-- The files so far, with those that are left
 abbrev pub invariant-loop-word : goal.invariant-loop-word
 invariant-loop-word l =
     (AreWith (files_seen l.files.items) l.word-index (texts l.words) l.contents)

@@ -5,7 +5,7 @@ use Rattle.vh_words.specs.Views.{asked}
 use Rattle.vh_host.specs.Acceptance.{Verdict, verdict}
 use Rattle.vh_host.specs.Headline.{IsTextBy}
 use Rattle.vh_host.specs.Reading.{files_seen}
-use Rattle.vh_host.proofs.Files.{same_words}
+use Rattle.vh_host.proofs.ReadingLemmas.{same_words}
 use Rattle.vh_host.proofs.plain.plain_text.Goals as goal
 
 pub returns : goal.returns

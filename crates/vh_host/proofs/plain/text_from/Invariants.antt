@@ -4,7 +4,7 @@ use Rattle.vh_kernel.specs.Step.{choices_of}
 use Rattle.vh_kernel.specs.Run.{moves_of, text_of}
 use Rattle.vh_host.proofs.plain.text_from.Given as goal
 
--- the text so far, with that of the labels that are left
+-- The text so far, with that of the labels that are left
 abbrev pub invariant-loop-made : goal.invariant-loop-made
 invariant-loop-made l =
     (l.text.items ++ text_of (moves_of l.next (l.budget - l.made) (state_of l.kernel)) ≡ text_of (moves_of l.fn.order l.budget (state_of l.fn.kernel)))

@@ -3,7 +3,7 @@ use Rattle.std.specs.Prelude.{IfOk}
 use Rattle.vh_host.specs.Acceptance.{Verdict, by_files}
 use Rattle.vh_host.specs.Headline.{IsTextBy}
 use Rattle.vh_host.specs.Reading.{files_seen}
-use Rattle.vh_host.proofs.Files.{none_long, none_too_long, same_short}
+use Rattle.vh_host.proofs.ReadingLemmas.{none_long, none_too_long, same_short}
 use Rattle.vh_host.proofs.plain.text_of_files.Goals as goal
 
 pub returns-then-any_too_long : goal.returns-then-any_too_long

@@ -5,7 +5,7 @@ use Rattle.vh_host.specs.declared.reading.Unread.{Unread}
 use Rattle.vh_host.specs.declared.reading.Unread.TheVariants as unread
 use Rattle.vh_words.specs.Words.{texts}
 use Rattle.vh_host.specs.Reading.{file_seen, files_seen}
-use Rattle.vh_host.proofs.Files.{read_more, read_all, meets_long, meets_none_long, word_at, word_numbered, answered_same}
+use Rattle.vh_host.proofs.ReadingLemmas.{read_more, read_all, meets_long, meets_none_long, word_at, word_numbered, answered_same}
 use Rattle.vh_host.proofs.reading.read_files.Goals as goal
 
 pub returns-in-Err-clause-long : goal.returns-in-Err-clause-long

@@ -1,10 +1,10 @@
 use Rattle.std.proofs.Common.{◌≡◌, ℕ, List}
 use Rattle.vh_words.specs.Words.{texts}
 use Rattle.vh_host.specs.Reading.{files_seen}
-use Rattle.vh_host.proofs.Files.{ReadUpTo}
+use Rattle.vh_host.proofs.ReadingLemmas.{ReadUpTo}
 use Rattle.vh_host.proofs.reading.read_files.Given as goal
 
--- the files of the words so far were read, and nothing failed
+-- The files of the words so far were read, and nothing failed
 abbrev pub invariant-loop-word : goal.invariant-loop-word
 invariant-loop-word g l =
     (ReadUpTo (λ f. g.F.Files.holds l.fn.files f) (texts l.words) l.word-index (files_seen l.found.items))

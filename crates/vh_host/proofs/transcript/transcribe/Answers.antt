@@ -1,7 +1,7 @@
 use Rattle.std.proofs.Common.{ℕ, Some, None, subst, arith, ◌∙◌}
 use Rattle.vh_kernel.specs.Views.{state_of}
 use Rattle.vh_host.specs.Turn.{Turned}
-use Rattle.vh_host.proofs.Turns.{so_far_more, so_far_ends, so_far_spent}
+use Rattle.vh_host.proofs.TurnLemmas.{so_far_more, so_far_ends, so_far_spent}
 use Rattle.vh_host.proofs.transcript.transcribe.Goals as goal
 
 pub returns-in-Some-clause-wrote : goal.returns-in-Some-clause-wrote

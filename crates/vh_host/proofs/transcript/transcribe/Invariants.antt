@@ -1,7 +1,7 @@
 use Rattle.std.proofs.Common.{◌≡◌, ◌<◌}
 use Rattle.vh_kernel.specs.Views.{state_of}
 use Rattle.vh_kernel.specs.Step.{choices_of}
-use Rattle.vh_host.proofs.Turns.{SoFar}
+use Rattle.vh_host.proofs.TurnLemmas.{SoFar}
 use Rattle.vh_host.proofs.transcript.transcribe.Given as goal
 
 abbrev pub invariant-loop-made : goal.invariant-loop-made

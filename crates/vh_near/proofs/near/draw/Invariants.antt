@@ -1,7 +1,7 @@
 use Rattle.std.proofs.Common.{◌≡◌, ◌++◌, length}
 use Rattle.vh_near.proofs.near.draw.Given as goal
 
--- all keys stand where they stood
+-- All keys stand where they stood
 abbrev pub invariant-loop-first : goal.invariant-loop-first
 invariant-loop-first g l = l.near.items ++ l.far.keys ≡ l.initial.near.items ++ l.initial.far.keys
 

@@ -10,7 +10,7 @@ on-ok : {X Y : Type 0} (r : Result X Y) (P : Type 0) → is_ok r ≡ true → On
 on-ok (Ok x) P is holds = holds
 on-ok (Err y) P is holds = absurd (cc)
 
--- a row is its first entry and the others
+-- A row is its first entry and the others
 split : {V : Type 0} (row : List (ℕ × V)) (e : ℕ × V) → Some e ≡ slice_get row 0 → row ≡ e ∷ drop 1 row
 split [] e is = absurd (cc)
 split (x ∷ row) e is = let same : e ≡ x = cc in ap (λ (y : ℕ × _). y ∷ row) (sym same)

@@ -10,7 +10,7 @@ use Rattle.vh_queue.proofs.place.last_of.Goals as goal
 abbrev serial_of : Place → ℕ
 serial_of p = p.serial
 
--- the last serial is that of the last place
+-- The last serial is that of the last place
 last-serial : (ps : List Place) (p : Place) → Some p ≡ last_key ps → Some p.serial ≡ last_of (map serial_of ps)
 last-serial [] p is = absurd (cc)
 last-serial (q ∷ []) p is = let same : p ≡ q = cc in ap (λ (r : Place). Some r.serial) same

@@ -5,7 +5,7 @@ use Rattle.vh_queue.specs.Serials.{picked_by}
 use Rattle.vh_queue.specs.Views.{all_seen}
 use Rattle.vh_queue.proofs.queue.nth_picked.Given as goal
 
--- the one looked for is among the rest, that many further
+-- The one looked for is among the rest, that many further
 abbrev pub invariant-loop-stored : goal.invariant-loop-stored
 invariant-loop-stored l =
     slice_get (map (λ (e : Entry). e.serial) (filter (picked_by l.starts l.now l.first) (all_seen l.now l.marks (l.stored-iterator ++ values_of l.row)))) l.left

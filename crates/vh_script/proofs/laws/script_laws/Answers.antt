@@ -1,5 +1,5 @@
 -- Each is a law of the kit, at this table.
-use Rattle.vh_grammar.proofs.Laws.{laws_of_productions, laws_of_sources, classes_are_firsts, spells_without_classes, begins_without_classes}
+use Rattle.vh_grammar.proofs.LawsLemmas.{laws_of_productions, laws_of_sources, classes_are_firsts, spells_without_classes, begins_without_classes}
 use Rattle.vh_script.specs.Table.{script_table}
 use Rattle.vh_script.proofs.laws.script_laws.Goals as goal
 

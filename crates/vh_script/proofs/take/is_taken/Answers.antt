@@ -1,7 +1,7 @@
 -- The names of the code are those that contracts see.
 use Rattle.std.proofs.Common.{sym, ◌∙◌}
 use Rattle.std.specs.Str.{bytes_eq}
-use Rattle.vh_base.proofs.Names.{list_any-seen}
+use Rattle.vh_base.proofs.ListsLemmas.{list_any-seen}
 use Rattle.vh_script.proofs.take.is_taken.Goals as goal
 
 pub returns-then-counts : goal.returns-then-counts

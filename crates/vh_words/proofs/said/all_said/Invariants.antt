@@ -4,7 +4,7 @@ use Rattle.vh_words.specs.Words.{texts}
 use Rattle.vh_words.specs.Views.{saying}
 use Rattle.vh_words.proofs.said.all_said.Given as goal
 
--- what the words that are left say, behind those so far
+-- What the words that are left say, behind those so far
 abbrev pub invariant-loop-word : goal.invariant-loop-word
 invariant-loop-word l =
     Words.said (texts (drop l.word-index l.words)) (saying l.said) ≡ Words.said (texts l.words) Words.nothing_said

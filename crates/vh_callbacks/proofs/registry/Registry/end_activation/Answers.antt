@@ -19,7 +19,7 @@ end-requires g c =
     let P : ℕ → Type 0 = λ n. 0 < n in
     subst P are c.requires
 
--- by whether the last ends
+-- By whether the last ends
 pub invariant_of-self : goal.invariant_of-self
 invariant_of-self g c =
     let es = c.self.inside.entries.entries in

@@ -4,7 +4,7 @@ use Rattle.vh_base.specs.Outside.{appended}
 use Rattle.vh_edge.proofs.Appended.{kept_whole, front_whole}
 use Rattle.vh_edge.proofs.holding.Holding.keep.Goals as goal
 
--- the piece was written behind all that was held
+-- The piece was written behind all that was held
 pub returns-clause-ok : goal.returns-clause-ok
 returns-clause-ok g c =
     on_ok_weaker c.write_whole.result
@@ -15,7 +15,7 @@ returns-clause-ok g c =
     (c.if-hold-2.ensures.held ∙ c.in_ok-flush.ensures.nothing))
     c.write_whole.ensures.ok
 
--- or a front of it
+-- Or a front of it
 pub returns-clause-err : goal.returns-clause-err
 returns-clause-err g c =
     on_err_weaker c.write_whole.result

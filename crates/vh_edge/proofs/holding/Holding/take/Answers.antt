@@ -7,7 +7,7 @@ on_err : {A E : Type 0} (r : Result A E) (P : Type 0) → P → OnErr r P
 on_err (Ok x) P p = tt
 on_err (Err e) P p = p
 
--- a front of what was kept was written out
+-- A front of what was kept was written out
 pub returns-in_err-flush-clause-err : goal.returns-in_err-flush-clause-err
 returns-in_err-flush-clause-err g c =
     let (part, w) = c.in_err-flush.ensures.err in
@@ -18,7 +18,7 @@ returns-in_err-flush-clause-err g c =
           ∙ ap (λ l. appended (g.K.Sink.written c.keep.new.self.sink) (take part l)) c.is_due.ensures.held,
     ))
 
--- all of it was
+-- All of it was
 pub returns-in_ok-flush-clause-ok : goal.returns-in_ok-flush-clause-ok
 returns-in_ok-flush-clause-ok g c =
     all_of_kept _ _ _ c.keep.new.self.held.items _ _ c.in_ok-keep.ensures.ok

@@ -2,7 +2,7 @@ use Rattle.std.proofs.Common.{◌≡◌, length}
 use Rattle.vh_kernel.specs.Settle.{is_void, without_front}
 use Rattle.vh_kernel.proofs.kernel.settling.settle_control.Given as goal
 
--- what is left settles as the whole does
+-- What is left settles as the whole does
 abbrev pub invariant-voids : goal.invariant-voids
 invariant-voids l = without_front (is_void l.callbacks.callbacks) l.control ≡ without_front (is_void l.callbacks.callbacks) l.initial.control
 

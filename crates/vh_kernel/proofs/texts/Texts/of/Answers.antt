@@ -3,7 +3,7 @@ use Rattle.vh_logic.specs.Vector.{width_of}
 use Rattle.vh_kernel.proofs.OccurrencesLemmas.{short-text}
 use Rattle.vh_kernel.proofs.texts.Texts.of.Goals as goal
 
--- a value has 64 digits at most, so its text isn't too long
+-- A value has 64 digits at most, so its text isn't too long
 pub unreachable-requires : goal.unreachable-requires
 unreachable-requires c =
     let size : length c.as_bytes.result.now ≡ width_of c.args.value.now =

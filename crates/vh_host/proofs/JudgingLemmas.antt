@@ -22,7 +22,7 @@ use Rattle.vh_host.specs.Reading.{AreRead, MeetsLong, MeetsNoneLong, contents_of
 use Rattle.vh_host.specs.Judging.{RefusesTexts, status_of}
 use Rattle.vh_host.proofs.Appended.{appended_nothing}
 use Rattle.vh_host.proofs.OpeningsLemmas.{has-opening}
-use Rattle.vh_host.proofs.Files.{files_back, some_contents, told_verdict}
+use Rattle.vh_host.proofs.ReadingLemmas.{files_back, some_contents, told_verdict}
 
 -- Nothing is written of a run before its first label.
 none_from : (order : Chooser) (budget : ℕ) (design : Shape) (scripts : List ScriptData) (s : Status) → WroteOf budget [] s []

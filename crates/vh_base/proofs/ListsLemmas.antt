@@ -8,7 +8,7 @@ use Rattle.std.proofs.Math.Seq.{drop-cons}
 use Rattle.std.proofs.lemmas.List.Folds.{list_any-append}
 use Rattle.vh_base.specs.Lists.{all_differ, names_seen}
 
--- the place of a name among the names of the code
+-- The place of a name among the names of the code
 pub position-seen : (p : List ℕ → Bool) (keys : List (Bor (List ℕ))) → position p (names_seen keys) ≡ position (λ key. p key.now) keys
 position-seen p keys = rw (length-map keys (λ key. key.now), prefix-seen p keys) refl
   where
@@ -53,7 +53,7 @@ any-in : (p : List ℕ → Bool) (front more : List (List ℕ)) (name : List ℕ
 any-in p [] more name h = rw h refl
 any-in p (first ∷ front) more name h = rw (any-in p front more name h) (or_true (p first))
 
--- a name that is there already
+-- A name that is there already
 pub differ-repeats : (front more : List (List ℕ)) (name : List ℕ) → list_any (bytes_eq name) front ≡ true → all_differ (front ++ name ∷ more) ≡ false
 differ-repeats [] more name h = cc
 differ-repeats (first ∷ front) more name h = by_first (bytes_eq name first) refl (differ-repeats front more name)
@@ -62,7 +62,7 @@ differ-repeats (first ∷ front) more name h = by_first (bytes_eq name first) re
     by_first true e again = rw (any-in (bytes_eq first) front more name (bytes_eq-swap first name ∙ e)) refl
     by_first false e again = rw (again (ap (λ b. b || list_any (bytes_eq name) front) (sym e) ∙ h)) (and_false (not (list_any (bytes_eq first) (front ++ name ∷ more))))
 
--- a name that is new
+-- A name that is new
 pub differ-new : (front : List (List ℕ)) (name : List ℕ) → list_any (bytes_eq name) front ≡ false → all_differ (front ++ name ∷ []) ≡ all_differ front
 differ-new [] name h = refl
 differ-new (first ∷ front) name h =
@@ -77,7 +77,7 @@ not-true : (b d : Bool) → d ≡ not b → d ≡ true → b ≡ false
 not-true true d e h = cc
 not-true false d e h = refl
 
--- the next name is there already
+-- The next name is there already
 pub add-repeats : (keys names : List (Bor (List ℕ))) (i : ℕ) (next : Bor (List ℕ)) (all more : List (List ℕ)) (is_new : Bool) → i < length names
     → names_seen keys ++ names_seen (drop i names) ≡ all → is_new ≡ not (list_any (λ key. bytes_eq (get_or names i next).now key.now) keys) → is_new ≡ false → all_differ (all ++ more) ≡ false
 add-repeats keys names i next all more is_new h e added tested =
@@ -86,7 +86,7 @@ add-repeats keys names i next all more is_new h e added tested =
     ∙ differ-repeats (names_seen keys) (names_seen (drop (suc i) names) ++ more) (get_or names i next).now
     (list_any-seen (bytes_eq (get_or names i next).now) keys ∙ not-false _ is_new added tested)
 
--- the next name is new
+-- The next name is new
 pub add-keeps : (keys keys' names : List (Bor (List ℕ))) (i : ℕ) (next : Bor (List ℕ)) (all : List (List ℕ)) (is_new differ : Bool) → i < length names
     → names_seen keys ++ names_seen (drop i names) ≡ all → all_differ (names_seen keys) ≡ differ
     → is_new ≡ not (list_any (λ key. bytes_eq (get_or names i next).now key.now) keys) → is_new ≡ true
@@ -106,7 +106,7 @@ add-keeps keys keys' names i next all is_new differ h e d added tested grown = (
     keys_are : names_seen keys' ≡ names_seen keys ++ (get_or names i next).now ∷ []
     keys_are = ap names_seen (grown ∙ ap (λ b. cond b keys (keys ++ get_or names i next ∷ [])) is_absent) ∙ map_push (λ key. key.now) keys (get_or names i next)
 
--- names that repeat, where none was declared before
+-- Names that repeat, where none was declared before
 pub differ-only : (old names : List (Bor (List ℕ))) (all : List (List ℕ)) → old ≡ [] → names_seen names ≡ all
     → ((more : List (List ℕ)) → all_differ (names_seen old ++ names_seen names ++ more) ≡ false) → all_differ all ≡ false
 differ-only old names all e f h =

@@ -18,9 +18,9 @@ use Rattle.vh_grammar.proofs.Parts.{On, Met, size-part, cut-part, tree-part, fau
 use Rattle.vh_grammar.proofs.MarkingLemmas.{attached, Peak, peak-at, peak-map, peak-then, Judged, run-judged, reader-judged, Same, same-of, run-same}
 use Rattle.vh_grammar.proofs.ShownLemmas.{Behind, Inside, inside-here, inside-mid, inside-next, here-down, here-up, got-cut, run-inside, run-behind, run-front, run-down, run-up, reader-inside, reader-behind, reader-front, reader-down, reader-up}
 use Rattle.vh_grammar.proofs.Subjects.{Pure, Facts, laws}
-use Rattle.vh_grammar.proofs.Choices.{chooses, to-reads, from-reads, to-begins, from-begins, spells-reads, reads-spells, opens-begins, begins-opens}
+use Rattle.vh_grammar.proofs.ChoicesLemmas.{chooses, to-reads, from-reads, to-begins, from-begins, spells-reads, reads-spells, opens-begins, begins-opens}
 
--- the pure grammar leaves nothing out
+-- The pure grammar leaves nothing out
 no-turn : {T S : Type 0} (Turn : S → S → List T → List T → Type 0) (End : S → List T → Type 0) → ((s : S) (ts : List T) → End s ts → ⊥) → (n : ℕ) (s : S) (ts : List T) → AfterTurns Turn End n s ts → ⊥
 no-turn Turn End f zero s ts h = f s ts h
 no-turn Turn End f (suc n) s ts h = no-turn Turn End f n h.0 h.1 h.3
@@ -51,7 +51,7 @@ past-none : {T : Type 0} (ts : List T) (left : ℕ) → MeetsPast left_out ts le
 past-none [] left h = let e : left_out ≡ lost = h.0 in cc
 past-none (t ∷ ts) left h = let e : left_out ≡ deep = h.0 in cc
 
--- what is left is the end of the tokens
+-- What is left is the end of the tokens
 joined-end : {T : Type 0} (ts mid rest us vs : List T) → ts ≡ us ++ mid → mid ≡ vs ++ rest → ts ≡ (us ++ vs) ++ rest
 joined-end {T} ts mid rest us vs e d = rw append_assoc (e ∙ ap (λ (z : List T). us ++ z) d)
 
@@ -83,7 +83,7 @@ reads-end N f (nested p) a ts rest h = f p a ts rest h
 reads-end N f (unless class p) a ts rest h = reads-end N f p a ts rest h
 reads-end N f (barred class p) a ts rest h = reads-end N f p a ts rest h
 
--- a whole source
+-- A whole source
 whole-tree : {T A : Type 0} (a : A) (rest : List T) (o : Out T A) → whole o ≡ got a rest → (o ≡ got a []) × (rest ≡ [])
 whole-tree a rest (got b []) e = (cc, cc)
 whole-tree a rest (got b (t ∷ ts)) e = cc
@@ -142,7 +142,7 @@ whole-met fault left (got a []) e = cc
 whole-met fault left (got a (t ∷ ts)) e = inr (a, t, ts, refl, cc, cc)
 whole-met fault left (stop f j) e = inl e
 
--- what is known of a part, with its marks
+-- What is known of a part, with its marks
 module _ {T P : Type 0} {V : P → Type 0} (word : T → Bool) (grammar : (p : P) → Part T V (V p)) (eating : (p : P) → eats (grammar p) ≡ true) (advancing : (p : P) → Advances (grammar p)) where
   abbrev Shown : ℕ → {A : Type 0} → Part T V A → List T → ℕ → ℕ → Type 0
   Shown n p = Shows (ReadsAt grammar n) word (ShowsAt grammar word n) p
@@ -203,7 +203,7 @@ module _ {T P : Type 0} {V : P → Type 0} (word : T → Bool) (grammar : (p : P
   same-part : {A : Type 0} (n more : ℕ) (p : Part T V A) → Advances p → (ts : List T) (m : ℕ) → Same (read grammar n p ts) (marks word grammar n p ts m) (marks word grammar (more + n) p ts m)
   same-part n more p v ts m = run-same word (reader grammar n) (marked_at word grammar n) (marked_at word grammar (more + n)) (ReadsAt grammar n) (MeetsAt grammar n) (ShowsAt grammar word n) (size-reader grammar eating n) (reader-sound grammar eating advancing n) (reader-tree grammar eating advancing n) (reader-judged word grammar eating advancing n) (reader-same n more) p v ts m
 
--- a reading that isn't too deep
+-- A reading that isn't too deep
 same-is : {T A X : Type 0} (o : Out T A) (x y : Out T X) → ((left : ℕ) → o ≡ stop deep left → ⊥) → Same o x y → y ≡ x
 same-is (got a rest) x y f s = s
 same-is (stop lost left) x y f s = s
