@@ -1,7 +1,7 @@
 #!/bin/sh
 # Runs the measurements of docs/PERFORMANCE.md, and prints the page's tables: what the launcher adds, "Runs", "Behavioural
 # designs", "Reading and elaborating", "Callbacks", "Scripts" and "Tokens", with the figures of Icarus Verilog where it is there
-# ("-" where it isn't); and, where `rt` is there, those of single crates. Run it after ./vhost has built the program; it takes
+# ("-" where it isn't); and, where `rt` is there, those of single crates. Run it after ./vhost prove; it takes
 # half an hour and more where valgrind is there.
 folder=$(dirname -- "$0")
 

@@ -2,7 +2,7 @@
 # Measures callbacks: so many on one register (1,000) that changes so many times (2,000), each of which
 # returns at once; beside the same in Icarus Verilog with the application of bench/callbacks.c, where
 # iverilog-vpi is there. A third number registers so many more at the end of the run. Run it after
-# ./vhost has built the program.
+# ./vhost prove.
 . "$(dirname -- "$0")/measure.sh"
 callbacks=${1:-1000}
 changes=${2:-2000}

@@ -1,10 +1,10 @@
 #!/bin/sh
 # Counts instructions of single crates with the programs of bench/crates, and prints the tables of docs/PERFORMANCE.md that they
-# make; give names of programs, or none for all. A program is proved and built over the libraries in crates/*/out, which ./vhost
-# or `rt lib` in a crate's folder builds, or over those of the tree that VHOST_LIBRARIES names. LEX_BYTES gives the texts of `lex`
-# another length. Needs rt and valgrind.
+# make; give names of programs, or none for all. A program is proved and built over libraries that `rt ci` makes in a copy of the
+# crates that it stands on, where what this machine has proved of the same sources isn't proved again, or over those in crates/*/out
+# of the tree that VHOST_LIBRARIES names. LEX_BYTES gives the texts of `lex` another length. Needs rt and valgrind.
 . "$(dirname -- "$0")/measure.sh"
-libraries=${VHOST_LIBRARIES:-$here}
+libraries=$VHOST_LIBRARIES
 bytes=${LEX_BYTES:-4194304}
 kit=$(dirname -- "$(rt doc)") && command -v valgrind >/dev/null || { echo "crates.sh: rt or valgrind isn't there" >&2; exit 1; }
 
@@ -22,15 +22,32 @@ below() {
         END { n = split(names, all, " "); for (k = 1; k <= n; k++) visit(all[k]) }' "$here/crates.txt"
 }
 
+# uses_of NAME: the crates of the repository that a program of bench/crates names.
+uses_of() { sed -n 's,^// uses: ,,p' "$here/bench/crates/$1.rt.txt"; }
+
+# make_libraries NAME..: the libraries of these programs, in a copy that is the top of a repository of its own.
+make_libraries() {
+    libraries=$work/libraries
+    mkdir -p "$libraries/.git" "$libraries/crates" && cp "$here/HANDLES" "$libraries" || return 1
+    for crate in $(below $(for name; do uses_of "$name"; done)); do
+        grep "^${crate}[ :]" "$here/crates.txt" >>"$libraries/crates.txt" && mkdir "$libraries/crates/$crate" || return 1
+        for part in src specs proofs; do
+            [ ! -d "$here/crates/$crate/$part" ] || cp -R "$here/crates/$crate/$part" "$libraries/crates/$crate" || return 1
+        done
+    done
+    echo "crates.sh: proving $(wc -l <"$libraries/crates.txt") crates, but for those that are kept" >&2
+    (cd "$libraries" && exec rt ci) >"$work/log" 2>&1 </dev/null || { tail -n 20 "$work/log" >&2; return 1; }
+}
+
 # built NAME: proves and builds a program of bench/crates as $work/NAME/program.
 built() {
-    uses=$(sed -n 's,^// uses: ,,p' "$here/bench/crates/$1.rt.txt")
+    uses=$(uses_of "$1")
     mkdir -p "$work/$1/src" && cp "$here/bench/crates/$1.rt.txt" "$work/$1/src/main.rt" || return 1
     set -- "$1" --crate-name "bench_$1" src/main.rt --extern "std=$kit/rlibs/std.rlib" -L "dependency=$kit/rlibs"
     for crate in $(below $uses); do
         library=$libraries/crates/$crate/out/rlib
         [ -d "$library/$crate.rlib" ] || {
-            echo "crates.sh: no $1, since $crate isn't built: call rt lib in crates/$crate" >&2
+            echo "crates.sh: no $1, since $crate isn't built in $libraries" >&2
             return 1
         }
         set -- "$@" -L "dependency=$library"
@@ -130,6 +147,7 @@ measure_logic() {
 }
 
 [ $# -gt 0 ] || set -- lex queue logic slots
+[ -n "$libraries" ] || make_libraries "$@" || exit 1
 status=0
 for name; do
     { built "$name" && "measure_$name"; } || status=1

@@ -1,7 +1,7 @@
 #!/usr/bin/env python3
 """Counts instructions of the designs in bench/designs by valgrind's callgrind, as the difference of two runs of unlike length, so
 that reading is no part of them, and prints the table "Behavioural designs" of docs/PERFORMANCE.md; beside it the same of
-Icarus Verilog where it is there ("-" where it isn't). Needs valgrind; run it after ./vhost has built the program, or name one."""
+Icarus Verilog where it is there ("-" where it isn't). Needs valgrind; run it after ./vhost prove, or name one."""
 import pathlib
 import re
 import shutil

@@ -1,5 +1,5 @@
 #!/usr/bin/env python3
-"""Runs the examples of examples/README.md with the program that ./vhost built, or with the one that is named, and compares
+"""Runs the examples of examples/README.md with the program that ./vhost prove built, or with the one that is named, and compares
 what is written with the transcripts, byte for byte. Checks also that each file of the folder stands in its table; that each
 block of a page which shows one of them is a part of it (the page names the file in a comment above the block, as
 <!-- examples/once.txt -->), and no transcript, design or script is shown without; and that the stored runs of the gate have the
@@ -72,6 +72,12 @@ def stored(table):
         for transcript in (text for row, text in table if mode == "run" and row == words):
             same = (crate.parent / "stdout").read_bytes() == (FOLDER / transcript).read_bytes()
             holds(same, f"stdout of {crate.parent.name} isn't examples/{transcript}")
+    cases = (TOP / "crates/vh_cases_stored/data/examples").read_text()
+    for name, text, transcript in re.findall(r"^-- (\S+)\n(.*?)^> run \1\n(.*?)^! 0$", cases, re.M | re.S):
+        if (FOLDER / name).exists():
+            wanted = [it for row, it in table if row == [name]]
+            same = text == (FOLDER / name).read_text() and transcript in [(FOLDER / it).read_text() for it in wanted]
+            holds(same, f"the case of {name} in vh_cases_stored isn't that of examples/")
 
 
 def main():

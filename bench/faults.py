@@ -1,5 +1,5 @@
 #!/usr/bin/env python3
-"""Runs the examples of docs/FAULTS.md with the program that ./vhost built, and compares what is written with the page, word
+"""Runs the examples of docs/FAULTS.md with the proved program, or with the one that is named, and compares what is written with the page, word
 for word. Prints a line for each that differs, and at the end how many were tried; ends with 1 where one differs."""
 import pathlib
 import re
@@ -9,7 +9,7 @@ import tempfile
 
 TOP = pathlib.Path(__file__).resolve().parent.parent
 PAGE = (TOP / "docs/FAULTS.md").read_text()
-PROGRAM = TOP / ".vhost/vhost"
+PROGRAM = pathlib.Path(sys.argv[1] if len(sys.argv) > 1 else TOP / ".vhost/vhost").resolve()
 TEXT = re.compile(r"The text (?:`` (.*?) ``|`([^`]*)`) gets\n\n```\n(.*?)\n```", re.S)
 MADE = re.compile(r"The text of the pieces (.*?) gets\n\n```\n(.*?)\n```", re.S)
 PIECE = re.compile(r"`([^`]*)`(?: ([\d,]+)\s+times)?")

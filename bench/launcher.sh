@@ -9,32 +9,87 @@ holds() {
     "$@" || { failed=$((failed + 1)) && echo "not so: $*"; }
 }
 
-# A repository with the launcher, two crates, and a stand-in on PATH that notes its calls.
+# A repository with the launcher, two crates and one beside, and a stand-in on PATH that notes its calls. What it has proved it
+# keeps beside its kit, as rt does, and the program that it builds or tries says its words.
 fresh_repository() {
-    rm -rf "$work/top" && mkdir -p "$work/top/crates/vh_sim/src" "$work/top/crates/vh_sim/data" "$work/top/crates/vh_low/src" "$work/bin"
-    mkdir -p "$work/top/crates/vh_low/specs" "$work/top/crates/vh_beside/src"
-    mkdir -p "$work/top/docs" && cp "$here/docs/FAULTS.md" "$work/top/docs/"
-    cp "$here/vhost" "$work/top/" && cd "$work/top" || exit 1
+    rm -rf "$work/top" "$work/rattle-kept" "$work/cache"
+    mkdir -p "$work/top/crates/vh_sim/src" "$work/top/crates/vh_sim/data" "$work/top/crates/vh_low/src" "$work/bin" "$work/kit"
+    mkdir -p "$work/top/crates/vh_low/specs" "$work/top/crates/vh_low/must-fail" "$work/top/crates/vh_beside/src" "$work/top/.git"
+    mkdir -p "$work/top/docs" "$work/top/bench" "$work/top/.ci" && cp "$here/docs/FAULTS.md" "$work/top/docs/"
+    cp "$here/vhost" "$work/top/" && cp "$here/.ci/run" "$work/top/.ci/" && cd "$work/top" || exit 1
     printf '# a comment\nvh_sim: vh_low std\nvh_beside: vh_low\nvh_low:\n' >crates.txt
+    printf '# a comment\nvh_low 6000\nvh_sim 600\nvh_beside 99999\n' >bench/seconds.txt
     echo 'Handles allowed: none.' >HANDLES
+    for page in pages examples faults; do echo "import os, sys; sys.exit('$page' in os.environ.get('STALE', ''))" >"bench/$page.py"; done
     echo 'pub mod Words' >crates/vh_low/specs/Lib.antt
+    echo 'old: low' >crates/vh_low/must-fail/low.edit
     echo 'fn beside() {}' >crates/vh_beside/src/lib.rt
     echo 'fn main() {}' >crates/vh_sim/src/main.rt
+    echo run >crates/vh_sim/args
     echo 'fn low() {}' >crates/vh_low/src/lib.rt
     echo 'module top; endmodule' >a.v
     cat >"$work/bin/rt" <<'STAND_IN'
 #!/bin/sh
-crate=${PWD##*/}
-echo "$1 $crate" >>"$BUILDS"
-echo "rt: chose --jobs 2 for $crate" && sleep "${SLOW:-0}" && echo 'logic=proved functions=2'
-[ "$BROKEN" != "$crate" ] || exit 1
-[ "$1" != lib ] || { mkdir -p out/rlib; exit; }
-mkdir -p out && cat >out/vh_sim <<'PROGRAM' && chmod +x out/vh_sim
+program() {
+    cat <<'PROGRAM'
 #!/bin/sh
+[ -z "$SLEEPS" ] || { echo "$$" >"$SLEEPS" && exec sleep 60; }
 echo "ran $*"
 [ -z "$TELLS" ] || echo "$TELLS" >&2
 exit "${ENDS:-7}"
 PROGRAM
+}
+prove_all() {
+    [ -f crates.txt ] && [ -d .git ] || { echo "rt: no repository" && exit 2; }
+    find . -type f | LC_ALL=C sort >"$BUILDS.files"
+    for name in $(sed -n 's/^\(vh_[a-z]*\):.*/\1/p' crates.txt | LC_ALL=C sort); do
+        sum=$name.$(cat HANDLES $(find crates/$name/src crates/$name/specs -type f 2>/dev/null | LC_ALL=C sort) | cksum | cut -d' ' -f1)
+        rm -rf "crates/$name/out"
+        [ ! -f "$KEPT/$sum" ] || { echo "rt: $name is kept: an earlier run on this machine proved the same" && continue; }
+        mkdir "crates/$name/out" && echo "$name" >>"$BUILDS"
+        sleep "${SLOW:-0}"
+        if [ "$BROKEN" = "$name" ] || { [ "$KILLED" = "$name" ] && [ "$RT_JOBS" != 1 ]; }; then
+            [ -z "$KILLED" ] || echo "rt: the check was killed, most likely for memory: once more"
+            printf 'rt: %s NOT PROVED\nrt: FAILED: %s\n0 passed, 1 failed\n' "$name" "$name"
+            exit 1
+        fi
+        printf '== %s\nlogic=proved functions=2\nrt: %s proved\n' "$name" "$name"
+        [ "$name" = vh_sim ] || { mkdir -p "$KEPT" && : >"$KEPT/$sum"; } 2>/dev/null
+    done
+    program >crates/vh_sim/out/vh_sim && chmod +x crates/vh_sim/out/vh_sim
+    echo 'rt: ok'
+    echo '2 passed, 0 failed'
+}
+try() {
+    room=$(mktemp -d "$BUILDS.XXXXXX")
+    [ -z "$SLEEPS" ] || { echo "$$" >"$SLEEPS" && exec sleep 60; }
+    while [ "$1" != -- ]; do
+        [ "$1" != --data ] || cp "${2#*=}" "$room/${2%%=*}"
+        shift 2
+    done
+    shift
+    program >"$room/program" && cd "$room" && echo "rt: a hint" >&2
+    [ -z "$REFUSES" ] || { printf '%s\nrun=none proved=no\n' "$REFUSES" >&2 && exit 2; }
+    if [ -n "$WRITES_MUCH" ]; then
+        printf "the end of the program's standard output:\n| more\n" >&2
+        echo "checked: no-answer: the program wrote more than 1048576 bytes to standard output or to standard error, the limit on each" >&2
+        echo "run=no-answer proved=no" >&2
+        exit 6
+    fi
+    sh ./program "$@"
+    status=$?
+    for file in [1-8].v [1-8].app; do [ ! -f "$file" ] || cat "$file"; done
+    printf 'interpreter: no-answer: steps\nchecked: ended status=%s\nrun=ended status=%s runners=1 proved=no\n' "$status" "$status" >&2
+    rm -rf "$room"
+    exit "$status"
+}
+[ "$1" = doc ] || echo "$1 ${PWD##*/}" | sed 's/^ci.*/ci/' >>"$BUILDS"
+case $1 in
+    doc) echo "${KEPT%/*}/kit/START-HERE.md" ;;
+    ci) prove_all ;;
+    try) shift && try "$@" ;;
+    *) exit 2 ;;
+esac
 STAND_IN
     printf '#!/bin/sh\necho look >>"$LOOKS"\nexec %s "$@"\n' "$(PATH=$bare command -v cksum)" >"$work/bin/cksum"
     chmod +x "$work/bin/rt" "$work/bin/cksum"
@@ -43,11 +98,14 @@ STAND_IN
 }
 BUILDS=$work/builds
 LOOKS=$work/looks
-export BUILDS LOOKS
+KEPT=$work/rattle-kept
+XDG_CACHE_HOME=$work/cache
+export BUILDS LOOKS KEPT XDG_CACHE_HOME
 full=$work/bin:$PATH
 bare=$PATH
 [ -z "$(command -v rt)" ] || bare=$(printf '%s' "$PATH" | tr ':' '\n' | while read -r folder; do [ -x "$folder/rt" ] || printf '%s:' "$folder"; done)
-builds() { grep -c '^run vh_sim$' "$BUILDS"; }
+builds() { grep -c '^ci$' "$BUILDS"; }
+tries() { grep -c '^try vh_sim$' "$BUILDS"; }
 looks() { wc -l <"$LOOKS" | tr -d ' '; }
 run() {
     PATH=$1
@@ -59,19 +117,122 @@ run() {
 }
 PATH=$full
 export PATH
+unproved='^vhost: there is no proved program of these sources; the unproved one answers, in about four minutes; ./vhost prove makes the proved one, in about 110 minutes$'
 
+# where no proved program is, the unproved one answers, and a line says so before
 fresh_repository
+tried_so() {
+    run "$full" ./vhost "$@"
+    holds [ "$status" = "${ENDS:-7}" ]
+    holds [ "$(head -n 1 "$work/err" | grep -c "$unproved")" = 1 ]
+    holds [ "$(sed 1d "$work/err")" = "$TELLS" ]
+}
+tried_so run a.v
+holds [ "$(cat "$work/out")" = "ran run 1.v
+module top; endmodule" ]
+holds [ "$(cat "$BUILDS")" = "try vh_sim" ]
+holds [ ! -e .vhost ]
+# files elsewhere, names with blanks and worse, options, and the words that the program says
+mkdir -p "$work/odd at 1:1" && echo 'app b; startup { print "on" }' >"$work/odd at 1:1/b: A9 at 2:2.app"
+cp a.v "$work/odd at 1:1/-n \$(x)=*.v" && cp a.v "$work/odd at 1:1/.v"
+TELLS='application refused: 2.app: A2 at 1:29' ENDS=3
+export TELLS ENDS
+for names in "../odd at 1:1/" "$work/odd at 1:1/"; do
+    run "$full" ./vhost --order lifo run "$names-n \$(x)=*.v" --budget=5 "${names}b: A9 at 2:2.app" -- "$names.v"
+    holds [ "$status" = 3 ]
+    holds [ "$(cat "$work/out")" = "ran --order lifo run 1.v --budget=5 2.app -- 3.v
+module top; endmodule
+module top; endmodule
+app b; startup { print \"on\" }" ]
+    holds [ "$(sed 1d "$work/err")" = "application refused: ${names}b: A9 at 2:2.app: A2 at 1:29" ]
+done
+cd "$work/odd at 1:1" && TELLS='' && run "$full" ../top/vhost run .v && cd "$work/top" || exit 1
+holds [ "$(head -n 1 "$work/out")" = "ran run 1.v" ]
+TELLS='design refused: N2 at 1:3:7' ENDS=2
+tried_so run a.v
+unset TELLS ENDS
+# what can't be read is told at once, as the program would
+: >"$BUILDS"
+mkdir folder.v
+head -c 4194305 /dev/zero >long.v && head -c 1048577 /dev/zero >long.app && head -c 1048576 /dev/zero >short.app
+for call in 'gone.v:cannot read gone.v' 'a.v folder.v:cannot read folder.v' 'long.v gone.v:too long: long.v' 'a.v long.app:too long: long.app'; do
+    run "$full" ./vhost run ${call%%:*}
+    holds [ "$status" = 6 ]
+    holds [ "$(cat "$work/err")" = "${call#*:}" ]
+done
+holds [ ! -s "$BUILDS" ]
+run "$full" ./vhost run a.v short.app
+holds [ "$status" = 7 ]
+# standard output that takes nothing
+if [ -c /dev/full ]; then
+    run "$full" sh -c './vhost run a.v >/dev/full'
+    holds [ "$status" = 7 ]
+    holds [ "$(sed 1d "$work/err")" = "cannot write" ]
+fi
+# more output than rt try tells, and sources that it refuses
+WRITES_MUCH=yes
+export WRITES_MUCH
+run "$full" ./vhost run a.v
+holds [ "$status" = 125 ]
+holds [ ! -s "$work/out" ]
+holds grep -q '^vhost: no answer: the unproved program writes 1 MiB at most, and this run writes more; --budget N makes it shorter, and ./vhost prove makes the proved one' "$work/err"
+holds [ "$(wc -l <"$work/err" | tr -d ' ')" = 2 ]
+unset WRITES_MUCH
+REFUSES='error[E1]: no such name'
+export REFUSES
+run "$full" ./vhost run a.v
+holds [ "$status" = 125 ]
+holds grep -q '^error\[E1\]: no such name$' "$work/err"
+holds grep -q '^vhost: no answer: rt try ended with status 2, and said what stands above; ./vhost prove' "$work/err"
+unset REFUSES
+# where only the proved program is asked for, it never answers
+: >"$BUILDS"
+VHOST_PROVED=1
+export VHOST_PROVED
+run "$full" ./vhost run a.v
+holds [ "$status" = 125 ]
+holds grep -q '^vhost: there is no proved program of these sources, and VHOST_PROVED asks for it; ./vhost prove makes the proved one, in about 110 minutes$' "$work/err"
+holds [ ! -s "$BUILDS" ]
+unset VHOST_PROVED
+run "$bare" ./vhost run a.v
+holds [ "$status" = 125 ]
+holds grep -q "isn't on PATH" "$work/err"
+run "$bare" ./vhost prove
+holds [ "$status" = 125 ]
+holds grep -q "isn't on PATH" "$work/err"
+run "$full" ./vhost prove a.v
+holds [ "$status" = 1 ]
+holds [ "$(cat "$work/err")" = "usage: vhost prove" ]
+
+# ./vhost prove proves the program in a copy of what it stands on, which goes when it has been taken
+: >"$BUILDS"
 SLOW=2
 export SLOW
-run "$full" ./vhost run a.v
+run "$full" ./vhost prove
 unset SLOW
-holds [ "$status" = 7 ]
-holds [ "$(cat "$work/out")" = "ran run a.v" ]
-holds [ "$(cat "$BUILDS")" = "lib vh_low
-run vh_sim" ]
-holds [ "$(grep -vc '^vhost: \(at work on\|passed\) vh_[a-z]*$\|^rt: chose\|^logic=proved' .vhost/log)" = 0 ]
-holds grep -q "^vhost: 0 of 2 crates proved, at work on vh_low, 0:0[0-9]\$" "$work/err"
-holds grep -q "^vhost: 1 of 2 crates proved, at work on vh_sim, 0:0[0-9]\$" "$work/err"
+holds [ "$status" = 0 ]
+holds [ ! -s "$work/out" ]
+holds [ "$(cat "$BUILDS")" = "ci
+vh_low
+vh_sim" ]
+holds [ "$(cat "$BUILDS.files")" = "./HANDLES
+./crates.txt
+./crates/vh_low/specs/Lib.antt
+./crates/vh_low/src/lib.rt
+./crates/vh_sim/args
+./crates/vh_sim/src/main.rt" ]
+holds [ -z "$(ls "$work/cache/vhost")" ]
+holds grep -q "^vhost: proving the program: 2 crates, about 110 minutes; what is proved stays so, where this is interrupted$" "$work/err"
+holds grep -q "^vhost: 0 of 2 crates proved, at work on vh_low, about [0-9]* minutes left$" "$work/err"
+holds grep -q "^vhost: 1 of 2 crates proved, at work on vh_sim, about [0-9]* minutes left$" "$work/err"
+holds grep -q "^vhost: the program is proved, and ./vhost runs it from now on$" "$work/err"
+holds grep -q "^vh_low [0-3]$" .vhost/seconds
+for there in "$full" "$bare"; do
+    run "$there" ./vhost prove
+    holds [ "$status" = 0 ]
+    holds [ "$(cat "$work/err")" = "vhost: the proved program of these sources is here" ]
+    holds [ "$(builds)" = 1 ]
+done
 
 # a call that is up to date reads no source, says nothing, and passes the status on; so it does where rt isn't on PATH
 up_to_date() {
@@ -82,9 +243,12 @@ up_to_date() {
     holds [ ! -s "$work/err" ]
     holds [ "$(looks)" = 0 ]
 }
-run "$full" ./vhost run a.v # the folder of the build's results is new: a look, and no more
 up_to_date "$full"
 up_to_date "$bare"
+VHOST_PROVED=1
+export VHOST_PROVED
+up_to_date "$full"
+unset VHOST_PROVED
 holds [ "$(builds)" = 1 ]
 
 # by a link, and by a link to a link, and from other folders
@@ -107,18 +271,20 @@ holds [ "$(builds)" = 1 ]
 holds [ "$(looks)" -gt 0 ]
 up_to_date "$full"
 
-# what changes the sources needs a build: a file of any crate that has other bytes, that is new or gone, also with its folder
+# what changes the sources needs a proof: a file of any crate that has other bytes, that is new or gone, also with its folder
 seen() {
     sleep 0.1
     eval "$1"
     run "$bare" ./vhost run a.v
     holds [ "$1: $status" = "$1: 125" ]
     holds grep -q "isn't on PATH" "$work/err"
-    before=$(builds)
+    before=$(builds) before_tries=$(tries)
     run "$full" ./vhost run a.v
     holds [ "$status" = 7 ]
-    holds [ "$1: $(builds)" = "$1: $((before + 1))" ]
-    run "$full" ./vhost run a.v
+    holds grep -q "$unproved" "$work/err"
+    holds [ "$1: $(builds) $(tries)" = "$1: $before $((before_tries + 1))" ]
+    run "$full" ./vhost prove
+    holds [ "$1: $status $(builds)" = "$1: 0 $((before + 1))" ]
     up_to_date "$full"
     up_to_date "$bare"
     holds [ "$1: $(builds)" = "$1: $((before + 1))" ]
@@ -169,39 +335,145 @@ BROKEN=vh_low
 export BROKEN
 sleep 0.1
 echo 'fn third() {}' >>crates/vh_low/src/lib.rt
-run "$full" ./vhost run a.v
+run "$full" ./vhost prove
 holds [ "$status" = 125 ]
 holds grep -q "^vhost: the build failed at vh_low; what it said is in .*/.vhost/log\$" "$work/err"
-holds [ "$(cat "$BUILDS")" = "lib vh_low" ]
+holds [ "$(cat "$BUILDS")" = "ci
+vh_low" ]
 BROKEN=vh_sim
-run "$full" ./vhost run a.v
+run "$full" ./vhost prove
 holds [ "$status" = 125 ]
 holds grep -q "^vhost: the build failed at vh_sim" "$work/err"
+holds [ -z "$(ls "$work/cache/vhost")" ]
 unset BROKEN
 : >"$BUILDS"
-run "$full" ./vhost run a.v
-holds [ "$status" = 7 ]
-holds [ "$(cat "$BUILDS")" = "run vh_sim" ]
-# but not where its results are gone
-rm -r crates/*/out .vhost/vhost
+run "$full" ./vhost prove
+holds [ "$status" = 0 ]
+holds [ "$(cat "$BUILDS")" = "ci
+vh_sim" ]
+up_to_date "$full"
+# one that was too much for the memory is tried once more, a crate at a time
+rm -r .vhost/vhost "$KEPT"
+KILLED=vh_low
+export KILLED
 : >"$BUILDS"
-run "$full" ./vhost run a.v
-holds [ "$(cat "$BUILDS")" = "lib vh_low
-run vh_sim" ]
+run "$full" ./vhost prove
+unset KILLED
+holds [ "$status" = 0 ]
+holds grep -q "^vhost: a check was killed, most likely for memory: once more, a crate at a time$" "$work/err"
+holds [ "$(builds)" = 2 ]
 rm .vhost/vhost crates.txt
-run "$full" ./vhost run a.v
+run "$full" ./vhost prove
 holds [ "$status" = 125 ]
 holds grep -q "crates.txt" "$work/err"
+
+# with_stand_in NAME TEXT: a command of this name before the real one, which is $real.
+with_stand_in() {
+    mkdir -p "$work/machine" && printf '#!/bin/sh\nreal=%s\n%s\n' "$(PATH=$bare command -v "$1")" "$2" >"$work/machine/$1"
+    chmod +x "$work/machine/$1"
+}
+# proved_on_machine: a build where the commands of $work/machine speak of the machine, which then are gone.
+proved_on_machine() {
+    fresh_repository
+    run "$work/machine:$full" ./vhost prove
+    rm -rf "$work/machine"
+}
+# a small disk: a build isn't begun, but where there is room among temporary files
+with_stand_in df 'printf "Filesystem 1024-blocks Used Available\nx 9 9 4096000\n"'
+proved_on_machine
+holds [ "$status" = 125 ]
+holds grep -q "^vhost: a build wants [0-9]* MB of disk; .*/cache/vhost has 4000 MB; .* has 4000 MB$" "$work/err"
+holds [ "$(builds)" = 0 ]
+with_stand_in df 'case $* in */cache/*) printf "head\nx 9 9 4096000\n" ;; *) printf "head\nx 9 9 40960000\n" ;; esac'
+proved_on_machine
+holds [ "$status" = 0 ]
+holds [ "$(wc -l <"$work/err" | tr -d ' ')" = "$(grep -c 'proving the program\|crates proved\|is proved' "$work/err")" ]
+with_stand_in df 'case $2 in */cache/*) printf "head\nx 9 9 40960000\n" ;; *) printf "head\nx 9 9 4096000\n" ;; esac'
+proved_on_machine
+holds [ "$status" = 0 ]
+holds grep -q "^vhost: $work has 4000 MB of disk left, and rt keeps what is proved where 5000 are" "$work/err"
+# little memory
+with_stand_in sed 'case $* in */proc/meminfo) echo 6144000 ;; *) exec "$real" "$@" ;; esac'
+proved_on_machine
+holds [ "$status" = 0 ]
+holds grep -q "^vhost: 6000 MB of memory are free, and 8000 are wanted: fewer crates stand side by side, so it takes longer$" "$work/err"
+# nothing can be kept beside the kit
+fresh_repository
+: >"$KEPT"
+run "$full" ./vhost prove
+holds [ "$status" = 0 ]
+holds grep -q "^vhost: .*/rattle-kept can't be written: nothing of what is proved is kept" "$work/err"
+up_to_date "$full"
+rm "$KEPT"
+# nothing can be put beside the sources
+fresh_repository
+: >.vhost
+run "$full" ./vhost prove
+holds [ "$status" = 125 ]
+holds grep -q "^vhost: ./.vhost, where the program is to stand, can't be written$" "$work/err"
+rm .vhost
+tried_so run a.v
+
+# the gate's program is taken where it passed, and no source was touched meanwhile
+fresh_repository
+run "$full" .ci/run
+holds [ "$status" = 0 ]
+holds [ "$(cat "$BUILDS")" = "ci
+vh_beside
+vh_low
+vh_sim" ]
+up_to_date "$bare"
+holds [ "$(cat crates/vh_low/must-fail/low.edit)" = "old: low" ]
+sleep 0.1
+echo 'fn other() {}' >>crates/vh_low/src/lib.rt
+tried_so run a.v
+BROKEN=vh_sim
+export BROKEN
+run "$full" .ci/run
+unset BROKEN
+holds [ "$status" = 1 ]
+tried_so run a.v
+# nor is the gate passed where a page isn't so
+for STALE in pages examples faults; do
+    export STALE
+    run "$full" .ci/run
+    holds [ "$status" = 1 ]
+done
+unset STALE
+# gate_with COMMAND: a gate in the midst of which this is done.
+gate_with() {
+    SLOW=1
+    export SLOW
+    : >"$BUILDS"
+    .ci/run >/dev/null 2>&1 &
+    gate=$!
+    while ! grep -q '^vh_' "$BUILDS"; do sleep 0.1; done
+    eval "$1"
+    wait "$gate"
+    gate_status=$?
+    unset SLOW
+}
+gate_with 'echo "fn more() {}" >>crates/vh_low/src/lib.rt'
+holds [ "$gate_status" = 0 ]
+tried_so run a.v
+cp -p crates/vh_low/src/lib.rt "$work/before.rt"
+gate_with 'echo "fn else() {}" >>crates/vh_low/src/lib.rt && cp -p "$work/before.rt" crates/vh_low/src/lib.rt'
+holds [ "$gate_status" = 0 ]
+tried_so run a.v
+run "$full" .ci/run
+up_to_date "$full"
 
 # words that have no reading
 fresh_repository
 for words in '' 'run' 'walk a.v' 'run a.app' 'run a.txt' 'run 1.v 2.v 3.v 4.v 5.v 6.v 7.v 8.v 9.v' 'run a.app b.app' 'run -a.v' 'run a.v -b.app' \
-    'run --order fifo --order=lifo a.v' 'run a.v --order' 'run --budget 0 a.v' 'run -- --order fifo a.v' 'run --order=random a.v' 'run - a.v'; do
+    'run --order fifo --order=lifo a.v' 'run a.v --order' 'run --budget 0 a.v' 'run -- --order fifo a.v' 'run --order=random a.v' 'run - a.v' \
+    'run --budget 1e6 a.v' 'run --budget=01 a.v' 'run --budget 9223372036854775808 a.v' 'run --order seeded: a.v' 'run --order seeded:x a.v' \
+    'run --order seeded:18446744073709551616 a.v' 'run --budget=5 --budget 5 a.v'; do
     run "$full" ./vhost $words
     holds [ "$status" = 1 ]
     holds grep -q "^usage: vhost run" "$work/err"
 done
-holds [ "$(builds)" = 0 ]
+holds [ ! -s "$BUILDS" ]
 
 # what is said of a code needs no program, and each code has something
 run "$bare" ./vhost explain S3
@@ -229,22 +501,28 @@ for words in explain 'explain S3 A2'; do
     holds [ "$status" = 1 ]
     holds grep -q "^usage: vhost explain CODE" "$work/err"
 done
-holds [ "$(builds)" = 0 ]
+holds [ ! -s "$BUILDS" ]
 
 # options may stand anywhere before `--`, behind which each word is a file
-for words in '--order lifo run a.v' 'run --order=seeded:3 a.v --budget 5' 'run -- a.v'; do
-    fresh_repository
+for words in '--order lifo run a.v' 'run --order=seeded:3 a.v --budget 5' 'run -- a.v' 'run --order seeded:18446744073709551615 a.v' \
+    'run --budget 9223372036854775807 a.v' 'run --order seeded:0 a.v'; do
+    : >"$BUILDS"
     run "$full" ./vhost $words
-    holds [ "$(builds)" = 1 ]
+    holds [ "$(tries)" = 1 ]
+    holds [ "$(head -n 1 "$work/out")" = "ran $(echo "$words" | sed 's/a.v/1.v/')" ]
 done
 
-# eight files, any number of which are scripts
-run "$full" ./vhost run 1.v 2.v 3.v 4.v 5.v 6.v 7.v a.app
-holds [ "$(cat "$work/out")" = "ran run 1.v 2.v 3.v 4.v 5.v 6.v 7.v a.app" ]
-fresh_repository
-run "$full" ./vhost run a.v b.app c.app
-holds [ "$(cat "$work/out")" = "ran run a.v b.app c.app" ]
-holds [ "$(builds)" = 1 ]
+# eight files, any number of which are scripts, tried and by the proved program
+eight_files() {
+    run "$full" ./vhost run 1.v 2.v 3.v 4.v 5.v 6.v 7.v a.app
+    holds [ "$(head -n 1 "$work/out")" = "ran run 1.v 2.v 3.v 4.v 5.v 6.v 7.v $1" ]
+    run "$full" ./vhost run 1.v a.app a.app
+    holds [ "$(head -n 1 "$work/out")" = "ran run 1.v $2" ]
+}
+for name in 1.v 2.v 3.v 4.v 5.v 6.v 7.v a.app; do cp a.v "$name"; done
+eight_files 8.app '2.app 3.app'
+run "$full" ./vhost prove
+eight_files a.app 'a.app a.app'
 
 # a word of a file may be its ending alone
 run "$full" ./vhost run .v .app
@@ -382,56 +660,138 @@ refused_silently() {
     holds [ "$status" = 2 ]
     holds [ "$(grep -ac FAULTS "$work/out")" = 0 ]
 }
-# how far a build is stands in one line, which is written over; nothing of it is left when the program begins
+# how far a build is stands in one line, which is written over; nothing of it is left when the build ends
 told_on_a_terminal() {
     unset TELLS ENDS
     fresh_repository
     SLOW=2
     export SLOW
-    run "$full" script -qec "./vhost run a.v" /dev/null
-    unset SLOW
-    holds [ "$status" = 7 ]
+    run "$full" script -qec "stty cols 120; ./vhost prove" /dev/null
+    holds [ "$status" = 0 ]
     # a | for what goes back and clears the line
     tr -d '\r' <"$work/out" | sed "s/$(printf '\033')\[K/|/g" >"$work/lines"
     holds [ "$(grep -c "crates proved" "$work/lines")" = 1 ]
-    holds grep -q "|vhost: 0 of 2 crates proved, at work on vh_low, 0:0[0-9]|" "$work/lines"
-    holds grep -q "|vhost: 1 of 2 crates proved, at work on vh_sim, 0:0[0-9]|" "$work/lines"
-    holds grep -q "|ran run a.v" "$work/lines"
+    holds grep -q "|vhost: 0 of 2 crates proved, at work on vh_low, about [0-9]* minutes left|" "$work/lines"
+    holds grep -q "|vhost: 1 of 2 crates proved, at work on vh_sim, about [0-9]* minutes left|" "$work/lines"
+    holds grep -q "|vhost: the program is proved" "$work/lines"
+    fresh_repository
+    run "$full" script -qec "stty cols 40; ./vhost prove" /dev/null
+    unset SLOW
+    tr -d '\r' <"$work/out" | sed "s/$(printf '\033')\[K/|/g" >"$work/lines"
+    holds grep -q "|vhost: 0 of 2 crates proved, at work on|" "$work/lines"
+    # an answer of the unproved program is followed by what a terminal gets, under the user's own names
+    fresh_repository
+    echo 'app b; startup { print "on" }' >b.app
+    TELLS='application refused: 2.app: A2 at 1:29' ENDS=3
+    export TELLS ENDS
+    run "$full" script -qec "./vhost run a.v b.app" /dev/null
+    unset TELLS ENDS
+    holds [ "$status" = 3 ]
+    tr -d '\r' <"$work/out" >"$work/lines"
+    holds grep -q '^b.app:1:29$' "$work/lines"
+    holds grep -q '^application refused: b.app: A2 at 1:29$' "$work/lines"
+    holds grep -q '^vhost: see docs/FAULTS.md#a2$' "$work/lines"
 }
-if command -v script >/dev/null; then refused_silently && told_on_a_terminal; else echo "script isn't there, so no terminal was tried"; fi
+# ended_so SIGNAL STATUS: a call on a terminal that this signal ends; what it began has ended too, and nothing of it is left.
+ended_so() {
+    SLEEPS=$work/sleeps
+    export SLEEPS
+    rm -f "$SLEEPS" "$work/launcher" "$work/ended"
+    mkdir -p "$work/temporary"
+    TMPDIR=$work/temporary script -qec "sh -c 'echo \$\$ >$work/launcher; exec ./vhost run a.v'; echo \$? >$work/ended" /dev/null >/dev/null 2>&1 &
+    terminal=$!
+    while [ ! -s "$SLEEPS" ]; do sleep 0.1; done
+    kill -s "$1" "$(cat "$work/launcher")"
+    wait "$terminal"
+    holds [ "$1: $(cat "$work/ended")" = "$1: $2" ]
+    holds [ ! -d "/proc/$(cat "$SLEEPS")" ]
+    holds [ -z "$(ls "$work/temporary")" ]
+    unset SLEEPS
+}
+ended_on_a_terminal() {
+    for by in 'unproved one' 'proved one'; do
+        if [ "$by" = 'unproved one' ]; then fresh_repository; else run "$full" ./vhost prove; fi
+        ended_so TERM 143
+        ended_so HUP 129
+        ! command -v python3 >/dev/null || ended_by_keys
+    done
+}
+# ended_by_keys: a call that ^C on its terminal ends, and what it began with it.
+ended_by_keys() {
+    SLEEPS=$work/sleeps
+    export SLEEPS
+    rm -f "$SLEEPS"
+    cat >"$work/call" <<'CALL'
+import os, pty, signal, sys, time
+parent, child = pty.fork()
+if parent == 0:
+    signal.signal(signal.SIGINT, signal.SIG_DFL)
+    os.execv("./vhost", ["./vhost", "run", "a.v"])
+while not (os.path.exists(os.environ["SLEEPS"]) and os.path.getsize(os.environ["SLEEPS"])):
+    time.sleep(0.1)
+os.write(child, b"\x03")
+try:
+    while os.read(child, 65536):
+        pass
+except OSError:
+    pass
+print(os.waitstatus_to_exitcode(os.waitpid(parent, 0)[1]))
+CALL
+    run "$full" python3 "$work/call"
+    holds [ "$(cat "$work/out")" = -2 ]
+    holds [ ! -d "/proc/$(cat "$SLEEPS")" ]
+    unset SLEEPS
+}
+if command -v script >/dev/null; then
+    refused_silently
+    told_on_a_terminal
+    ended_on_a_terminal
+else
+    echo "script isn't there, so no terminal was tried"
+fi
 unset TELLS ENDS
 
-# 40 first calls at one time: one build, and each runs the program
+# 40 builds at one time: one proves, and all end well
+fresh_repository
 SLOW=2
 export SLOW
 n=0
 while [ "$n" -lt 40 ]; do
-    { ./vhost run a.v >"$work/many.$n" 2>/dev/null || echo "$?" >"$work/status.$n"; } &
+    { ./vhost prove >"$work/many.$n" 2>&1; echo "$?" >"$work/status.$n"; } &
     n=$((n + 1))
 done
 wait
 holds [ "$(builds)" = 1 ]
-holds [ "$(cat "$work"/many.* | grep -c 'ran run a.v')" = 40 ]
-holds [ "$(cat "$work"/status.* | sort -u)" = 7 ]
-unset SLOW
+holds [ "$(cat "$work"/many.* | grep -c 'the proved program of these sources is here')" = 39 ]
+holds [ "$(cat "$work"/status.* | sort -u)" = 0 ]
 
 # an interrupted build ends its call of rt, and the next goes on where it stood
 fresh_repository
-SLOW=2
-export SLOW
-./vhost run a.v >/dev/null 2>&1 &
-while [ "$(builds)" = 0 ]; do sleep 0.1; done
-kill "$!"
-wait "$!" 2>/dev/null
-holds [ "$?" = 125 ]
+./vhost prove >/dev/null 2>"$work/first" &
+build=$!
+while ! grep -q '^vh_low$' "$BUILDS"; do sleep 0.1; done
+./vhost prove >/dev/null 2>"$work/second" &
+second=$!
+while [ ! -s "$work/second" ]; do sleep 0.1; done
+kill "$second"
+wait "$second" 2>/dev/null
+holds [ "$?" = 143 ]
+holds [ "$(cat "$work/second")" = "vhost: another call is proving the program; waiting for it" ]
+while ! grep -q '^vh_sim$' "$BUILDS"; do sleep 0.1; done
+kill "$build"
+wait "$build" 2>/dev/null
+holds [ "$?" = 143 ]
+holds grep -q '^vhost: ended before the program is proved; another call goes on from there$' "$work/first"
 sleep 3
-holds [ ! -e crates/vh_sim/out/vh_sim ]
+holds [ ! -e .vhost/vhost ]
+holds [ -z "$(ls "$work/cache/vhost")" ]
 unset SLOW
-run "$full" ./vhost run a.v
-holds [ "$status" = 7 ]
-holds [ "$(cat "$BUILDS")" = "lib vh_low
-run vh_sim
-run vh_sim" ]
+: >"$BUILDS"
+run "$full" ./vhost prove
+holds [ "$status" = 0 ]
+holds [ "$(cat "$BUILDS")" = "ci
+vh_sim" ]
+up_to_date "$full"
 
 echo "$tried tried, $failed failed"
 [ "$failed" = 0 ]

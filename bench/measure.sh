@@ -1,4 +1,4 @@
-# Read by the other scripts here, with `program` (what ./vhost built), `work` (a folder that goes when
+# Read by the other scripts here, with `program` (what ./vhost prove built), `work` (a folder that goes when
 # the script ends), `repeated`, and `measured`.
 here=$(CDPATH= cd -- "$(dirname -- "$0")/.." && pwd) || exit 1
 program="$here/.vhost/vhost"

@@ -2,7 +2,7 @@
 """Counts instructions of what applications do by valgrind's callgrind: a fire, an order, a byte of a text, a callback that renews itself, a
 look for a name. Each is the difference of two runs of unlike length, so that reading is no part of it but where a script must be longer to
 ask more, which is then taken off by a run that reads the same and asks nothing. Prints the table "Orders" of docs/PERFORMANCE.md, and the
-seconds of the processor of removals. Needs valgrind; run it after ./vhost has built the program, or name one."""
+seconds of the processor of removals. Needs valgrind; run it after ./vhost prove, or name one."""
 import pathlib
 import re
 import resource

@@ -1,6 +1,6 @@
 #!/bin/sh
 # Measures `vhost run` on a design of so many `initial` blocks of 20 statements each (1,000 if none are
-# given): 8 delays, 8 assignments and 4 displays. Run it after ./vhost has built the program.
+# given): 8 delays, 8 assignments and 4 displays. Run it after ./vhost prove.
 . "$(dirname -- "$0")/measure.sh"
 blocks=${1:-1000}
 {

@@ -1,6 +1,6 @@
 #!/bin/sh
 # Measures what ./vhost adds to the program: the time of the processor, user and system, of so many calls (200) of each with no
-# words, which both answer by the usage line. The least of five rounds is told. Run it after ./vhost has built the program.
+# words, which both answer by the usage line. The least of five rounds is told. Run it after ./vhost prove.
 . "$(dirname -- "$0")/measure.sh"
 calls=${1:-200}
 

@@ -1,5 +1,5 @@
 #!/usr/bin/env python3
-"""Makes large texts, runs them with the program that ./vhost built, or with the one that is named, and prints the tables "Reading
+"""Makes large texts, runs them with the program that ./vhost prove built, or with the one that is named, and prints the tables "Reading
 and elaborating", "Scripts" and "Tokens" of docs/PERFORMANCE.md: the seconds of the processor, the greatest memory, and what was
 answered; and the instructions a label of a script's loops, where valgrind is there. Takes some minutes."""
 import pathlib

@@ -1,8 +1,7 @@
 #!/bin/sh
 # Counts instructions a label where so many processes (10,000) wait at as many different times: the k-th waits #k, then #N
 # again and again, with an assignment behind each. The count is that of five waits more for each process, and what reading
-# them takes is taken off: the same text with a `$finish` that comes first. Needs valgrind; run it after ./vhost has built
-# the program.
+# them takes is taken off: the same text with a `$finish` that comes first. Needs valgrind; run it after ./vhost prove.
 . "$(dirname -- "$0")/measure.sh"
 processes=${1:-10000}
 

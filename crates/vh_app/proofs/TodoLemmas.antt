@@ -9,8 +9,8 @@ use Rattle.std.proofs.lemmas.Option.{slice_get_within}
 use Rattle.vh_base.specs.declared.orders.Answer.{Answer}
 use Rattle.vh_base.specs.declared.orders.Order.{Order}
 use Rattle.vh_base.specs.declared.orders.Seen.{Seen}
-use Rattle.vh_script.specs.Tree.{App, Command, ask, finish, choose, loop, Commands, no_command, one_command, commands}
-use Rattle.vh_script.specs.Tree as tree
+use Rattle.vh_app_script.specs.Tree.{App, Command, ask, finish, choose, loop, Commands, no_command, one_command, commands}
+use Rattle.vh_app_script.specs.Tree as tree
 use Rattle.vh_app.specs.declared.point.Point.{Point}
 use Rattle.vh_app.specs.declared.form.Node.{Node}
 use Rattle.vh_app.specs.declared.form.Node.TheVariants.{Ask, Set, Turn, Go, Return}

@@ -1,7 +1,7 @@
 -- The steps that a script's tree is laid out in. Startup and procedures stand one behind the other, each
 -- with a return behind its last command (own).
 use Rattle.std.specs.Prelude.{ℕ, ◌+◌, List, [], ◌∷◌, ◌++◌, map, length, None, option_map}
-use Rattle.vh_script.specs.Tree as tree
+use Rattle.vh_app_script.specs.Tree as tree
 use Rattle.vh_app.specs.declared.form.Atom.{Atom}
 use Rattle.vh_app.specs.declared.form.Atom.TheVariants as atom
 use Rattle.vh_app.specs.declared.form.Body.{Body}

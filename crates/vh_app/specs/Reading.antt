@@ -2,8 +2,8 @@
 use Rattle.std.specs.Prelude.{◌≡◌, ℕ, List, Result, Ok, Err}
 use Rattle.vh_base.specs.declared.faults.AppFault.{AppFault}
 use Rattle.vh_base.specs.declared.place.Place.{Place}
-use Rattle.vh_script.specs.Answers.{script_of}
-use Rattle.vh_script.specs.Tree.{App}
+use Rattle.vh_app_script.specs.Answers.{script_of}
+use Rattle.vh_app_script.specs.Tree.{App}
 use Rattle.vh_app.specs.Layout.{script_laid}
 use Rattle.vh_app.specs.Script.{ScriptData}
 

@@ -5,8 +5,8 @@ use Rattle.vh_base.specs.declared.orders.Answer.{Answer}
 use Rattle.vh_base.specs.declared.orders.Order.{Order}
 use Rattle.vh_base.specs.declared.orders.Order.TheVariants as order
 use Rattle.vh_base.specs.declared.orders.Seen.{Seen}
-use Rattle.vh_script.specs.Tree.{App, Command, ask, finish, choose, loop, Commands, no_command, one_command, commands, Procedure}
-use Rattle.vh_script.specs.Tree as tree
+use Rattle.vh_app_script.specs.Tree.{App, Command, ask, finish, choose, loop, Commands, no_command, one_command, commands, Procedure}
+use Rattle.vh_app_script.specs.Tree as tree
 use Rattle.vh_app.specs.declared.point.Point.{Point}
 use Rattle.vh_app.specs.declared.form.Node.{Node}
 use Rattle.vh_app.specs.declared.form.Node.TheVariants.{Ask, Set, Go, Return}

@@ -2,8 +2,8 @@
 use Rattle.std.specs.Prelude.{◌≡◌, ⊤, Result, Ok, Err}
 use Rattle.vh_base.specs.declared.faults.AppFault.{AppFault}
 use Rattle.vh_base.specs.declared.place.Place.{Place}
-use Rattle.vh_script.specs.declared.fault.ScriptFault.{ScriptFault}
-use Rattle.vh_script.specs.declared.fault.ScriptFault.TheVariants as faults
+use Rattle.vh_app_script.specs.declared.fault.ScriptFault.{ScriptFault}
+use Rattle.vh_app_script.specs.declared.fault.ScriptFault.TheVariants as faults
 use Rattle.vh_app.specs.declared.laying.Laying as code
 use Rattle.vh_app.specs.Layout.{Laid}
 use Rattle.vh_app.specs.Script.{ScriptData}

@@ -1,13 +1,13 @@
 ghost use Rattle.std.specs.Prelude.{◌≡◌, IfOk, false, option_map, nat_eq, ◌&&◌, not};
 ghost use Rattle.vh_app.specs.Layout as spec;
 ghost use Rattle.vh_app.specs.Layout.{atom_laid, body_laid, form_laid, test_laid};
-ghost use Rattle.vh_script.specs.Spelling.{unescaped};
-ghost use Rattle.vh_script.specs.Views.{atom_seen, body_seen, name_seen, order_seen, test_seen};
+ghost use Rattle.vh_app_script.specs.Spelling.{unescaped};
+ghost use Rattle.vh_app_script.specs.Views.{atom_seen, body_seen, name_seen, order_seen, test_seen};
 
 use crate::form::{Atom, Body, Form, Test};
 use std::alloc::Global;
+use vh_app_script as tree;
 use vh_base::{NoMemory, Short};
-use vh_script as tree;
 
 // How long a text is at most.
 const TEXT_LIMIT: usize = 255;

@@ -2,17 +2,17 @@ ghost use Rattle.std.specs.Prelude.{◌≡◌, ◌++◌, ◌∷◌, [], length, 
 ghost use Rattle.vh_app.specs.Layout as spec;
 ghost use Rattle.vh_app.specs.Layout.{asked, choice_laid, script_laid, startup_laid, turn_laid, with_command, with_commands, with_procedure, with_procedures};
 ghost use Rattle.vh_app.specs.Views.{laid_seen};
-ghost use Rattle.vh_script.specs.Tree.{commands};
-ghost use Rattle.vh_script.specs.Views.{app_seen, command_tree, order_seen, procedure_seen, test_seen};
+ghost use Rattle.vh_app_script.specs.Tree.{commands};
+ghost use Rattle.vh_app_script.specs.Views.{app_seen, command_tree, order_seen, procedure_seen, test_seen};
 
 use crate::form::{Node, Procedure};
 use crate::forms::{atom, atom_if, form, name, test};
 use crate::script::Script;
 use crate::sizes::{plus, sizes_of};
 use std::alloc::Global;
+use vh_app_script as tree;
+use vh_app_script::{App, Command};
 use vh_base::NoMemory;
-use vh_script as tree;
-use vh_script::{App, Command};
 
 // The steps so far, and the procedures with their starts.
 #[derive(Drop)]

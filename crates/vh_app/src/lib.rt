@@ -5,7 +5,7 @@
 //! its first fault and where that stands, as `app_of` of `specs/Reading.antt` says, and
 //! [`Script::next`] the next order, the point behind it and the variables, as `next_of` of
 //! `specs/Next.antt` says. It stands on
-//! `vh_script` for the trees of scripts.
+//! `vh_app_script` for the trees of scripts.
 #![tactic(auto)]
 
 mod form;
@@ -27,4 +27,4 @@ pub use point::Point;
 pub use read::read_app;
 pub use script::Script;
 pub use vars::Vars;
-pub use vh_script::ScriptFault;
+pub use vh_app_script::ScriptFault;

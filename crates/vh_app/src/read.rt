@@ -5,8 +5,8 @@ ghost use Rattle.vh_app.specs.Views.{IsAnswer};
 use crate::laying::script_of;
 use crate::script::Script;
 use std::alloc::Global;
+use vh_app_script::{ScriptFault, read_script};
 use vh_base::{NoMemory, Short};
-use vh_script::{ScriptFault, read_script};
 
 /// The script that the bytes are, in front of which scripts of these names stand; or its first
 /// fault, `A1` to `A5`, and where that stands: line and column from 1, in bytes; the file is 0. Of

@@ -1,10 +1,10 @@
 ghost use Rattle.std.specs.Prelude.{◌≡◌, ◌+◌, IfOk, map};
 ghost use Rattle.vh_app.specs.Layout.{size_of, sizes_of};
-ghost use Rattle.vh_script.specs.Tree.{commands};
-ghost use Rattle.vh_script.specs.Views.{command_tree};
+ghost use Rattle.vh_app_script.specs.Tree.{commands};
+ghost use Rattle.vh_app_script.specs.Views.{command_tree};
 
+use vh_app_script::Command;
 use vh_base::NoMemory;
-use vh_script::Command;
 
 // So many steps and so many more, where they can be numbered.
 pub(crate) fn plus(steps: usize, more: usize) -> Result<usize, NoMemory>

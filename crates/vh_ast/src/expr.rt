@@ -6,8 +6,8 @@ use crate::token::Id;
 use sqlite_items::{Boxed, Items};
 use std::alloc::Global;
 use vh_base::{NoMemory, Place};
+use vh_base_shared::SharedBytes;
 use vh_lex::Number;
-use vh_shared::SharedBytes;
 
 /// `prim`, over expressions `E` (IEEE 1364-2005, 5.2 and Annex A.8.4). A name and a select stand in boxes,
 /// so that an expression takes little, whatever it is.

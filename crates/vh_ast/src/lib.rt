@@ -7,7 +7,7 @@
 //! [`held`] looks into a box that may be absent. A chain of operators, a target's braces and `generate`
 //! regions are flat: a tree is as deep as what the depth limit counts.
 //!
-//! It stands on `vh_base` for places, on `vh_shared` for names and texts, on `vh_lex` for numbers and for
+//! It stands on `vh_base` for places, on `vh_base_shared` for names and texts, on `vh_lex` for numbers and for
 //! what the directives before a module set, and on `sqlite_items` for lists and boxes that a type may
 //! hold itself in.
 #![tactic(auto)]

@@ -1,6 +1,6 @@
 use sqlite_items::Items;
 use vh_base::Place;
-use vh_shared::SharedBytes;
+use vh_base_shared::SharedBytes;
 
 /// `ID` or `SYS`: a name or a system name (IEEE 1364-2005, 3.7).
 #[derive(Drop)]

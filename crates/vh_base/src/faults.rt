@@ -2,6 +2,7 @@ ghost use Rattle.std.specs.Prelude.{◌≡◌};
 ghost use Rattle.vh_base.specs.Faults.{cause_name, fault_name, design_fault_name, app_fault_name};
 
 use std::alloc::{AllocError, AllocFailed};
+use std::fmt;
 use thiserror::Error;
 
 /// Memory was refused. The one free answer: it comes from any call that takes an
@@ -83,73 +84,73 @@ impl Fault {
 /// sizes and hierarchy. Of two faults that with the first place is answered.
 #[derive(Clone, Copy, Debug, PartialEq, Eq, Error)]
 pub enum DesignFault {
+    /// A byte that begins no token.
     /// Outside strings and comments (IEEE 1364-2005, 3.1).
-    #[error("a byte that begins no token")]
     L1,
+    /// A directive that is unknown here, malformed or unbalanced.
     /// An unbalanced one is a conditional without its end, or an end without its conditional
     /// (IEEE 1364-2005, 19).
-    #[error("a directive that is unknown here, malformed or unbalanced")]
     L2,
+    /// A macro that is undefined, takes arguments, holds a directive or is nested above 64.
     /// At its use (IEEE 1364-2005, 19.3).
-    #[error("a macro that is undefined, takes arguments, holds a directive or is nested above 64")]
     L3,
+    /// A malformed number, or an escape that no string has.
     /// Also a size outside 1 to 64, and a number that its 64 digits don't hold (IEEE 1364-2005, 3.5
     /// and 3.6).
-    #[error("a malformed number, or an escape that no string has")]
     L4,
+    /// A comment, an attribute or a string without its end.
     /// At its start (IEEE 1364-2005, 3.3, 3.6 and 3.8).
-    #[error("a comment, an attribute or a string without its end")]
     L5,
+    /// A name, a string, the tokens or the uses of macros above their limit.
     /// A name above 1,024 bytes, a string above 4,096, a token past the 4,194,304th, or a use of a
     /// macro past the 1,048,576th. (own)
-    #[error("a name, a string, the tokens or the uses of macros above their limit")]
     L6,
+    /// A token with which no source goes on.
     /// The first with which the tokens so far begin no source, or the end of an unfinished one
     /// (IEEE 1364-2005, Annex A).
-    #[error("a token with which no source goes on")]
     S1,
+    /// Statements, blocks and expressions nested above 200.
     /// At the first token that is nested so. (own)
-    #[error("statements, blocks and expressions nested above 200")]
     S2,
+    /// A construct of the standard that is left out.
     /// At the construct's first token. (own)
-    #[error("a construct of the standard that is left out")]
     S3,
+    /// A name, a module, a port or a parameter that isn't declared.
     /// Also a use of one of another kind, as of a module's name in an expression.
-    #[error("a name, a module, a port or a parameter that isn't declared")]
     N1,
+    /// A name declared twice in one scope, or two modules of one name.
     /// At the second declaration's name (IEEE 1364-2005, 12.7).
-    #[error("a name declared twice in one scope, or two modules of one name")]
     N2,
+    /// A width, a bound, a size or a count outside its range.
     /// A width outside 1 to 64, a bound outside 0 to 2^31-1, above 65,536 words, a replication below
     /// 1, a number without size in a concatenation, or a string operand above 8 bytes. (own)
-    #[error("a width, a bound, a size or a count outside its range")]
     N3,
+    /// A value that isn't constant where a constant is needed.
     /// Also a parameter whose value needs itself.
-    #[error("a value that isn't constant where a constant is needed")]
     N4,
+    /// A target that can't take this assignment.
     /// As a net in a procedural assignment, or a variable in a continuous one (IEEE 1364-2005, 6 and
     /// 9).
-    #[error("a target that can't take this assignment")]
     N5,
+    /// An event control of something that can't be waited on.
     /// Other than a name, a constant select of one or a named event; or of a memory. (own)
-    #[error("an event control of something that can't be waited on")]
     N6,
+    /// Connections, parameter entries or gate terminals that don't fit.
     /// In another number than is declared, by order and by name in one list, one named twice, or a
     /// terminal of another width than 1 (IEEE 1364-2005, 12.2 and 12.3).
-    #[error("connections, parameter entries or gate terminals that don't fit")]
     N7,
+    /// A module that instantiates itself, directly or through others.
     /// At the module's name in the item that stands on the circle (IEEE 1364-2005, 12.1).
-    #[error("a module that instantiates itself, directly or through others")]
     N8,
+    /// No top module, or more than one.
     /// At the first byte of the first file (IEEE 1364-2005, 12.1.1).
-    #[error("no top module, or more than one")]
     N9,
+    /// A system task or function that is unknown, of the other kind, or called wrongly.
     /// Wrong are the arguments or a format (IEEE 1364-2005, 17).
-    #[error("a system task or function that is unknown, of the other kind, or called wrongly")]
     N10,
+    /// More objects, statements, words, expressions, drivers or processes than fit.
     /// 100,000 objects, 4,194,304 statements and operators, 1,048,576 words of memories, and 2^31 of
     /// each other. (own)
-    #[error("more objects, statements, words, expressions, drivers or processes than fit")]
     N11,
 }
 
@@ -180,6 +181,12 @@ impl DesignFault {
             DesignFault::N10 => "N10",
             DesignFault::N11 => "N11",
         }
+    }
+}
+
+impl fmt::Display for DesignFault {
+    fn fmt<W: fmt::Write>(&self, f: &mut fmt::Formatter<W>) -> fmt::Result {
+        f.write_str(self.name())
     }
 }
 

@@ -4,7 +4,7 @@ use std::marker::{Model, PhantomData};
 
 /// A number `N` by which one of the things of kind `K` is named, which contracts see as the number. A
 /// number of one kind is none of another.
-#[derive(Clone, Copy, Debug, PartialEq, Eq, PartialOrd, Ord)]
+#[derive_where(Clone, Copy, Debug, PartialEq, Eq, PartialOrd, Ord; N)]
 pub struct Id<N, K> {
     kind: PhantomData<K>,
     number: N,
@@ -68,37 +68,28 @@ pub type WaitId = Id<u32, Waits>;
 pub type ShowId = Id<u32, Shows>;
 
 /// The kind of entries of the event queue.
-#[derive(Clone, Copy, Debug, PartialEq, Eq, PartialOrd, Ord)]
 pub struct Entries;
 
 /// The kind of processes.
-#[derive(Clone, Copy, Debug, PartialEq, Eq, PartialOrd, Ord)]
 pub struct Processes;
 
 /// The kind of callbacks.
-#[derive(Clone, Copy, Debug, PartialEq, Eq, PartialOrd, Ord)]
 pub struct Callbacks;
 
 /// The kind of handles.
-#[derive(Clone, Copy, Debug, PartialEq, Eq, PartialOrd, Ord)]
 pub struct Handles;
 
 /// The kind of design objects.
-#[derive(Clone, Copy, Debug, PartialEq, Eq, PartialOrd, Ord)]
 pub struct Objects;
 
 /// The kind of drivers of nets.
-#[derive(Clone, Copy, Debug, PartialEq, Eq, PartialOrd, Ord)]
 pub struct Drivers;
 
 /// The kind of expressions.
-#[derive(Clone, Copy, Debug, PartialEq, Eq, PartialOrd, Ord)]
 pub struct Expressions;
 
 /// The kind of sets of objects that processes wait on.
-#[derive(Clone, Copy, Debug, PartialEq, Eq, PartialOrd, Ord)]
 pub struct Waits;
 
 /// The kind of calls of display tasks.
-#[derive(Clone, Copy, Debug, PartialEq, Eq, PartialOrd, Ord)]
 pub struct Shows;

@@ -1,6 +1,7 @@
 ghost use Rattle.std.specs.Prelude.{◌≡◌};
 ghost use Rattle.vh_base.specs.Words.{reason_text, code_name};
 
+use std::fmt;
 use thiserror::Error;
 
 /// Why a callback is called (IEEE 1364-2005, 27.33.2 to 27.33.4).
@@ -43,56 +44,56 @@ impl Reason {
 /// What is wrong with an order that is refused. (own)
 #[derive(Clone, Copy, Debug, PartialEq, Eq, Error)]
 pub enum Code {
+    /// A handle that isn't live, or null where one is needed.
     /// It was freed, or never given. (own)
-    #[error("a handle that isn't live, or null where one is needed")]
     E1,
+    /// A handle of the wrong kind.
     /// Also an order that only a callback's activation may give.
-    #[error("a handle of the wrong kind")]
     E2,
+    /// No such property or relation for this kind.
     /// As asked for by `get`, `get_str`, `handle` or `iterate` (IEEE 1364-2005, 26.6).
-    #[error("no such property or relation for this kind")]
     E3,
+    /// A text that is no value in this format.
     /// As given to `put_value`. (own)
-    #[error("a text that is no value in this format")]
     E4,
+    /// An object that can't be put.
     /// A parameter, a constant, an operation; a system function call other than the running one,
     /// or with a mode other than `vpiNoDelay`; a word of a memory with force or release.
-    #[error("an object that can't be put")]
     E5,
+    /// A time that can't be waited for.
     /// `cbAtStartOfSimTime` with a time not above now, `cbAfterDelay` with delay 0, or a time above
     /// 2^63-1.
-    #[error("a time that can't be waited for")]
     E6,
+    /// A change at the present time in a read-only synch.
     /// Within a `cbReadOnlySynch` activation, a put other than with a delay of 1 or more, or a synch
     /// registration with delay 0.
-    #[error("a change at the present time in a read-only synch")]
     E7,
+    /// The run has passed its finish.
     /// Nothing is put, scheduled, cancelled or ended then. (own)
-    #[error("the run has passed its finish")]
     E8,
+    /// An order that this phase doesn't allow.
     /// A startup registers no reason that needs an object, and only a startup registers system tasks.
-    #[error("an order that this phase doesn't allow")]
     E9,
+    /// As many handles are live as may be.
     /// 65,536, or 2^63 were given.
-    #[error("as many handles are live as may be")]
     E10,
+    /// As many callbacks are live as may be.
     /// 65,536, or 2^63 were given.
-    #[error("as many callbacks are live as may be")]
     E11,
+    /// No native of this name is in stock.
     /// As named in a registration. (own)
-    #[error("no native of this name is in stock")]
     E12,
+    /// No script has this procedure.
     /// As named in a registration. (own)
-    #[error("no script has this procedure")]
     E13,
+    /// A system name that is built in or registered.
     /// As named in a registration. (own)
-    #[error("a system name that is built in or registered")]
     E14,
+    /// The event queue is full.
     /// 1,048,576 entries stand, or 2^63 serials were given.
-    #[error("the event queue is full")]
     E15,
+    /// A value or a text that doesn't fit the format.
     /// Of `get_value` and `put_value`, and of a text of more than 255 bytes that is asked for. (own)
-    #[error("a value or a text that doesn't fit the format")]
     E16,
 }
 
@@ -119,6 +120,12 @@ impl Code {
             Code::E15 => "E15",
             Code::E16 => "E16",
         }
+    }
+}
+
+impl fmt::Display for Code {
+    fn fmt<W: fmt::Write>(&self, f: &mut fmt::Formatter<W>) -> fmt::Result {
+        f.write_str(self.name())
     }
 }
 

@@ -3,7 +3,7 @@ use Rattle.std.proofs.Common.{◌≡◌, ◌∙◌, ◌<◌, ◌≤◌, ◌+◌,
 use Rattle.std.specs.Prelude.{map, is_some}
 use Rattle.std.proofs.lemmas.List.{at_drop_more}
 use Rattle.vh_base.specs.declared.faults.DesignFault.TheVariants.{N4}
-use Rattle.vh_nodes.specs.Fits.{all_before}
+use Rattle.vh_design_nodes.specs.Fits.{all_before}
 use Rattle.vh_ast.specs.declared.token.Id.{Id}
 use Rattle.vh_ast.specs.declared.name.Name.{Name}
 use Rattle.vh_ast.specs.declared.name.Step.{Step as NameStep}

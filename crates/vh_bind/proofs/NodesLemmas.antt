@@ -7,13 +7,13 @@ use Rattle.std.specs.Cmp.Derive.{both_true}
 use Rattle.std.proofs.lemmas.Bool.{ltb-true, ltb-false, lt-ltb, eq-eqb}
 use Rattle.std.proofs.lemmas.Option.{slice_get_within}
 use Rattle.vh_logic.specs.declared.vector.TheConstants.{MAX_WIDTH}
-use Rattle.vh_nodes.specs.declared.expr.ExprKind.{ExprKind}
-use Rattle.vh_nodes.specs.declared.expr.ExprKind.TheVariants as kind
-use Rattle.vh_nodes.specs.declared.expr.ExprNode.{ExprNode}
-use Rattle.vh_nodes.specs.declared.object.ObjectInfo.{ObjectInfo}
-use Rattle.vh_nodes.specs.Widths.{width_of, signed_of, widest, summed, all_signed, operands, is_reduction, kind_width, kind_signed}
-use Rattle.vh_nodes.specs.Fits.{is_width, same_sign, all_before, fits_kind, fits_node}
-use Rattle.vh_nodes.proofs.FitsLemmas.{and_left, and_right}
+use Rattle.vh_design_nodes.specs.declared.expr.ExprKind.{ExprKind}
+use Rattle.vh_design_nodes.specs.declared.expr.ExprKind.TheVariants as kind
+use Rattle.vh_design_nodes.specs.declared.expr.ExprNode.{ExprNode}
+use Rattle.vh_design_nodes.specs.declared.object.ObjectInfo.{ObjectInfo}
+use Rattle.vh_design_nodes.specs.Widths.{width_of, signed_of, widest, summed, all_signed, operands, is_reduction, kind_width, kind_signed}
+use Rattle.vh_design_nodes.specs.Fits.{is_width, same_sign, all_before, fits_kind, fits_node}
+use Rattle.vh_design_nodes.proofs.FitsLemmas.{and_left, and_right}
 use Rattle.vh_design.specs.Validity.{AllFit}
 use Rattle.vh_bind.specs.declared.nodes.TheConstants.{MOST_EXPRS}
 use Rattle.vh_bind.specs.declared.operators.Operator.{Operator}

@@ -3,8 +3,8 @@ use Rattle.std.proofs.Common.{◌≡◌, ◌∙◌, ◌<◌, ◌+◌, ◌∷◌,
 use Rattle.std.specs.Prelude.{map, is_some}
 use Rattle.std.proofs.lemmas.List.{at_drop_more}
 use Rattle.vh_base.specs.declared.place.Place.{Place}
-use Rattle.vh_scope.specs.declared.names.Meaning.{Meaning}
-use Rattle.vh_scope.specs.LookUp.{found_inside}
+use Rattle.vh_bind_scope.specs.declared.names.Meaning.{Meaning}
+use Rattle.vh_bind_scope.specs.LookUp.{found_inside}
 use Rattle.vh_ast.specs.declared.token.Id.{Id}
 use Rattle.vh_ast.specs.declared.name.Name.{Name}
 use Rattle.vh_ast.specs.declared.name.Step.{Step as NameStep}

@@ -7,12 +7,12 @@ use Rattle.std.specs.Ordering.{nat_cmp, is_eq}
 use Rattle.std.specs.declared.cmp.Ordering.TheVariants.{Equal}
 use Rattle.std.specs.Cmp.{nat_cmp_is}
 use Rattle.vh_logic.specs.Vector.{Vector}
-use Rattle.vh_nodes.specs.declared.expr.ExprKind.{ExprKind}
-use Rattle.vh_nodes.specs.declared.expr.ExprKind.TheVariants as kind
-use Rattle.vh_nodes.specs.declared.expr.ExprNode.{ExprNode}
-use Rattle.vh_nodes.specs.Widths.{kind_width, kind_signed}
-use Rattle.vh_nodes.specs.Fits.{is_width, same_sign, fits_kind, fits_node}
-use Rattle.vh_nodes.proofs.FitsLemmas.{and_left}
+use Rattle.vh_design_nodes.specs.declared.expr.ExprKind.{ExprKind}
+use Rattle.vh_design_nodes.specs.declared.expr.ExprKind.TheVariants as kind
+use Rattle.vh_design_nodes.specs.declared.expr.ExprNode.{ExprNode}
+use Rattle.vh_design_nodes.specs.Widths.{kind_width, kind_signed}
+use Rattle.vh_design_nodes.specs.Fits.{is_width, same_sign, fits_kind, fits_node}
+use Rattle.vh_design_nodes.proofs.FitsLemmas.{and_left}
 use Rattle.vh_design.specs.Validity.{AllFit, IsValid, IsCounted}
 use Rattle.vh_store.specs.Contents.{Contents}
 use Rattle.vh_store.specs.Opening.{IsOpening, is_call, first_result, result_at}

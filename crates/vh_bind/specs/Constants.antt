@@ -7,20 +7,20 @@ use Rattle.vh_base.specs.declared.faults.DesignFault.TheVariants.{N1, N3, N4, N5
 use Rattle.vh_base.specs.declared.place.Place.{Place}
 use Rattle.vh_logic.specs.declared.vector.TheConstants.{MAX_WIDTH}
 use Rattle.vh_logic.specs.Vector.{Vector}
-use Rattle.vh_nodes.specs.declared.expr.Chosen.{Chosen}
-use Rattle.vh_nodes.specs.declared.expr.ExprKind.TheVariants as kind
-use Rattle.vh_nodes.specs.declared.expr.Range.{Range}
-use Rattle.vh_nodes.specs.declared.expr.Select.{Select}
-use Rattle.vh_nodes.specs.declared.expr.Select.TheVariants as select
-use Rattle.vh_nodes.specs.Kinds.{is_variable}
-use Rattle.vh_nodes.specs.Fits.{has_kind}
-use Rattle.vh_nodes.specs.Widths.{width_of, signed_of}
+use Rattle.vh_design_nodes.specs.declared.expr.Chosen.{Chosen}
+use Rattle.vh_design_nodes.specs.declared.expr.ExprKind.TheVariants as kind
+use Rattle.vh_design_nodes.specs.declared.expr.Range.{Range}
+use Rattle.vh_design_nodes.specs.declared.expr.Select.{Select}
+use Rattle.vh_design_nodes.specs.declared.expr.Select.TheVariants as select
+use Rattle.vh_design_nodes.specs.Kinds.{is_variable}
+use Rattle.vh_design_nodes.specs.Fits.{has_kind}
+use Rattle.vh_design_nodes.specs.Widths.{width_of, signed_of}
 use Rattle.vh_design.specs.Shape.{Shape}
 use Rattle.vh_store.specs.Contents.{Contents}
 use Rattle.vh_eval.specs.Value.{value_of}
-use Rattle.vh_scope.specs.declared.names.Meaning.{Meaning}
-use Rattle.vh_scope.specs.declared.look_up.Declaration.{Declaration}
-use Rattle.vh_scope.specs.LookUp.{first_found, found_inside}
+use Rattle.vh_bind_scope.specs.declared.names.Meaning.{Meaning}
+use Rattle.vh_bind_scope.specs.declared.look_up.Declaration.{Declaration}
+use Rattle.vh_bind_scope.specs.LookUp.{first_found, found_inside}
 use Rattle.vh_ast.specs.declared.operator.Unary.{Unary}
 use Rattle.vh_ast.specs.declared.routine.TaskDirection.{TaskDirection}
 use Rattle.vh_ast.specs.declared.token.Id.{Id}

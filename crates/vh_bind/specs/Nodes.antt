@@ -8,23 +8,23 @@ use Rattle.vh_logic.specs.declared.digits.Digit.TheVariants.{Zero}
 use Rattle.vh_logic.specs.Vector.{Vector, filled}
 use Rattle.vh_logic.specs.Parts.{concatenation}
 use Rattle.vh_logic.specs.Planes.{digits_of}
-use Rattle.vh_nodes.specs.declared.expr.Unary.{Unary}
-use Rattle.vh_nodes.specs.declared.expr.Unary.TheVariants as to
-use Rattle.vh_nodes.specs.declared.expr.Arithmetic.{Arithmetic}
-use Rattle.vh_nodes.specs.declared.expr.Arithmetic.TheVariants as arithmetic
-use Rattle.vh_nodes.specs.declared.expr.Shift.{Shift}
-use Rattle.vh_nodes.specs.declared.expr.Shift.TheVariants as shift
-use Rattle.vh_nodes.specs.declared.expr.Comparison.{Comparison}
-use Rattle.vh_nodes.specs.declared.expr.Comparison.TheVariants as comparison
-use Rattle.vh_nodes.specs.declared.expr.Logic.{Logic}
-use Rattle.vh_nodes.specs.declared.expr.Logic.TheVariants as logic
-use Rattle.vh_nodes.specs.declared.expr.Link.{Link}
-use Rattle.vh_nodes.specs.declared.expr.ExprKind.{ExprKind}
-use Rattle.vh_nodes.specs.declared.expr.ExprKind.TheVariants as kind
-use Rattle.vh_nodes.specs.declared.expr.ExprNode.{ExprNode}
-use Rattle.vh_nodes.specs.declared.object.ObjectInfo.{ObjectInfo}
-use Rattle.vh_nodes.specs.Widths.{kind_width, kind_signed}
-use Rattle.vh_nodes.specs.Fits.{is_width, fits_node}
+use Rattle.vh_design_nodes.specs.declared.expr.Unary.{Unary}
+use Rattle.vh_design_nodes.specs.declared.expr.Unary.TheVariants as to
+use Rattle.vh_design_nodes.specs.declared.expr.Arithmetic.{Arithmetic}
+use Rattle.vh_design_nodes.specs.declared.expr.Arithmetic.TheVariants as arithmetic
+use Rattle.vh_design_nodes.specs.declared.expr.Shift.{Shift}
+use Rattle.vh_design_nodes.specs.declared.expr.Shift.TheVariants as shift
+use Rattle.vh_design_nodes.specs.declared.expr.Comparison.{Comparison}
+use Rattle.vh_design_nodes.specs.declared.expr.Comparison.TheVariants as comparison
+use Rattle.vh_design_nodes.specs.declared.expr.Logic.{Logic}
+use Rattle.vh_design_nodes.specs.declared.expr.Logic.TheVariants as logic
+use Rattle.vh_design_nodes.specs.declared.expr.Link.{Link}
+use Rattle.vh_design_nodes.specs.declared.expr.ExprKind.{ExprKind}
+use Rattle.vh_design_nodes.specs.declared.expr.ExprKind.TheVariants as kind
+use Rattle.vh_design_nodes.specs.declared.expr.ExprNode.{ExprNode}
+use Rattle.vh_design_nodes.specs.declared.object.ObjectInfo.{ObjectInfo}
+use Rattle.vh_design_nodes.specs.Widths.{kind_width, kind_signed}
+use Rattle.vh_design_nodes.specs.Fits.{is_width, fits_node}
 use Rattle.vh_design.specs.Validity.{AllFit}
 use Rattle.vh_ast.specs.declared.operator.Unary.{Unary as Sign}
 use Rattle.vh_ast.specs.declared.operator.Unary.TheVariants as sign

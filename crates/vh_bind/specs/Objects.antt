@@ -4,22 +4,22 @@ use Rattle.std.specs.Option.{option_map, option_and_then}
 use Rattle.vh_logic.specs.Vector.{Vector}
 use Rattle.vh_ast.specs.declared.routine.TaskDirection.{TaskDirection}
 use Rattle.vh_ast.specs.declared.routine.TaskDirection.TheVariants as goes
-use Rattle.vh_nodes.specs.declared.expr.Chosen.{Chosen}
-use Rattle.vh_nodes.specs.declared.expr.ExprNode.{ExprNode}
-use Rattle.vh_nodes.specs.declared.expr.Range.{Range}
-use Rattle.vh_nodes.specs.declared.expr.Select.{Select}
-use Rattle.vh_nodes.specs.declared.expr.Select.TheVariants as select
-use Rattle.vh_nodes.specs.declared.object.Detail.{Detail}
-use Rattle.vh_nodes.specs.declared.object.Kind.{Kind}
-use Rattle.vh_nodes.specs.declared.object.Kind.TheVariants as of
-use Rattle.vh_nodes.specs.declared.object.ObjectInfo.{ObjectInfo}
-use Rattle.vh_nodes.specs.Kinds.{is_function, is_variable}
-use Rattle.vh_nodes.specs.Fits.{has_kind, body_number}
+use Rattle.vh_design_nodes.specs.declared.expr.Chosen.{Chosen}
+use Rattle.vh_design_nodes.specs.declared.expr.ExprNode.{ExprNode}
+use Rattle.vh_design_nodes.specs.declared.expr.Range.{Range}
+use Rattle.vh_design_nodes.specs.declared.expr.Select.{Select}
+use Rattle.vh_design_nodes.specs.declared.expr.Select.TheVariants as select
+use Rattle.vh_design_nodes.specs.declared.object.Detail.{Detail}
+use Rattle.vh_design_nodes.specs.declared.object.Kind.{Kind}
+use Rattle.vh_design_nodes.specs.declared.object.Kind.TheVariants as of
+use Rattle.vh_design_nodes.specs.declared.object.ObjectInfo.{ObjectInfo}
+use Rattle.vh_design_nodes.specs.Kinds.{is_function, is_variable}
+use Rattle.vh_design_nodes.specs.Fits.{has_kind, body_number}
 use Rattle.vh_store.specs.Opening.{constant_in}
-use Rattle.vh_scope.specs.declared.names.Meaning.{Meaning}
-use Rattle.vh_scope.specs.declared.names.Meaning.TheVariants as means
-use Rattle.vh_scope.specs.declared.look_up.Declaration.{Declaration}
-use Rattle.vh_scope.specs.LookUp.{found, object_meant}
+use Rattle.vh_bind_scope.specs.declared.names.Meaning.{Meaning}
+use Rattle.vh_bind_scope.specs.declared.names.Meaning.TheVariants as means
+use Rattle.vh_bind_scope.specs.declared.look_up.Declaration.{Declaration}
+use Rattle.vh_bind_scope.specs.LookUp.{found, object_meant}
 use Rattle.vh_bind.specs.declared.readable.Readable.{Readable}
 use Rattle.vh_bind.specs.declared.readable.Readable.TheVariants as it
 use Rattle.vh_bind.specs.declared.readable.Function.{Function}

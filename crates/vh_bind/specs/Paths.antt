@@ -4,10 +4,10 @@ use Rattle.vh_base.specs.declared.faults.DesignFault.TheVariants.{N1}
 use Rattle.vh_base.specs.declared.place.Place.{Place}
 use Rattle.vh_logic.specs.Vector.{Vector}
 use Rattle.vh_logic.specs.Number.{integer_of}
-use Rattle.vh_scope.specs.declared.names.Meaning.{Meaning}
-use Rattle.vh_scope.specs.declared.names.Meaning.TheVariants as means
-use Rattle.vh_scope.specs.declared.look_up.Declaration.{Declaration}
-use Rattle.vh_scope.specs.LookUp.{found, scope_found, indexed}
+use Rattle.vh_bind_scope.specs.declared.names.Meaning.{Meaning}
+use Rattle.vh_bind_scope.specs.declared.names.Meaning.TheVariants as means
+use Rattle.vh_bind_scope.specs.declared.look_up.Declaration.{Declaration}
+use Rattle.vh_bind_scope.specs.LookUp.{found, scope_found, indexed}
 use Rattle.vh_ast.specs.declared.token.Id.{Id}
 use Rattle.vh_bind.specs.Scopes.{Scope}
 use Rattle.vh_bind.specs.Selects.{Outcome, with_ok, with_some}

@@ -3,18 +3,18 @@ use Rattle.std.specs.Prelude.{ℕ, List, [], ◌∷◌, if◌then◌else◌, ◌
 use Rattle.vh_base.specs.declared.faults.DesignFault.{DesignFault}
 use Rattle.vh_base.specs.declared.faults.DesignFault.TheVariants.{N1, N4}
 use Rattle.vh_logic.specs.Vector.{Vector}
-use Rattle.vh_nodes.specs.declared.expr.ExprNode.{ExprNode}
-use Rattle.vh_nodes.specs.declared.expr.Range.{Range}
-use Rattle.vh_nodes.specs.declared.object.Detail.{Detail}
-use Rattle.vh_nodes.specs.declared.object.Kind.{Kind}
-use Rattle.vh_nodes.specs.declared.object.Kind.TheVariants as of
-use Rattle.vh_nodes.specs.declared.object.ObjectInfo.{ObjectInfo}
+use Rattle.vh_design_nodes.specs.declared.expr.ExprNode.{ExprNode}
+use Rattle.vh_design_nodes.specs.declared.expr.Range.{Range}
+use Rattle.vh_design_nodes.specs.declared.object.Detail.{Detail}
+use Rattle.vh_design_nodes.specs.declared.object.Kind.{Kind}
+use Rattle.vh_design_nodes.specs.declared.object.Kind.TheVariants as of
+use Rattle.vh_design_nodes.specs.declared.object.ObjectInfo.{ObjectInfo}
 use Rattle.vh_store.specs.Opening.{constant_in}
-use Rattle.vh_scope.specs.declared.names.Meaning.{Meaning}
-use Rattle.vh_scope.specs.declared.names.Meaning.TheVariants as means
-use Rattle.vh_scope.specs.declared.look_up.Declaration.{Declaration}
-use Rattle.vh_scope.specs.Names.{Names}
-use Rattle.vh_scope.specs.LookUp.{found}
+use Rattle.vh_bind_scope.specs.declared.names.Meaning.{Meaning}
+use Rattle.vh_bind_scope.specs.declared.names.Meaning.TheVariants as means
+use Rattle.vh_bind_scope.specs.declared.look_up.Declaration.{Declaration}
+use Rattle.vh_bind_scope.specs.Names.{Names}
+use Rattle.vh_bind_scope.specs.LookUp.{found}
 use Rattle.vh_bind.specs.declared.named.Named.{Named}
 use Rattle.vh_bind.specs.declared.named.Named.TheVariants as it
 use Rattle.vh_bind.specs.declared.scope.Genvar.{Genvar}

@@ -5,9 +5,9 @@ use Rattle.vh_base.specs.declared.place.Place.{Place}
 use Rattle.vh_logic.specs.declared.vector.TheConstants.{MAX_WIDTH}
 use Rattle.vh_logic.specs.Vector.{Vector}
 use Rattle.vh_logic.specs.Number.{integer_of}
-use Rattle.vh_nodes.specs.declared.expr.Range.{Range}
-use Rattle.vh_nodes.specs.declared.expr.Select.{Select}
-use Rattle.vh_nodes.specs.declared.expr.Select.TheVariants as select
+use Rattle.vh_design_nodes.specs.declared.expr.Range.{Range}
+use Rattle.vh_design_nodes.specs.declared.expr.Select.{Select}
+use Rattle.vh_design_nodes.specs.declared.expr.Select.TheVariants as select
 use Rattle.vh_eval.specs.Selects.{digits_from, place_of, selected}
 use Rattle.vh_bind.specs.Steps.{Fault}
 

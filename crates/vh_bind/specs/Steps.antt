@@ -2,8 +2,8 @@
 use Rattle.std.specs.Prelude.{◌≡◌, List, [], Bool, true, false, Option, Some, None, Result, Ok, Err}
 use Rattle.vh_base.specs.declared.faults.DesignFault.{DesignFault}
 use Rattle.vh_base.specs.declared.place.Place.{Place}
-use Rattle.vh_nodes.specs.declared.expr.ExprNode.{ExprNode}
-use Rattle.vh_least.specs.Least.{lesser}
+use Rattle.vh_design_nodes.specs.declared.expr.ExprNode.{ExprNode}
+use Rattle.vh_bind_least.specs.Least.{lesser}
 use Rattle.vh_bind.specs.declared.fault.ElabFault.{ElabFault}
 use Rattle.vh_bind.specs.declared.fault.ElabFault.TheVariants as faults
 

@@ -1,6 +1,6 @@
 ghost use Rattle.std.specs.Prelude.{◌≡◌, ◌<◌, ◌≤◌, [], Some, true, length, map, IfOk, IfSome, OnOk};
 ghost use Rattle.vh_logic.specs.declared.vector.TheConstants.{MAX_WIDTH};
-ghost use Rattle.vh_nodes.specs.Fits.{all_before};
+ghost use Rattle.vh_design_nodes.specs.Fits.{all_before};
 ghost use Rattle.vh_ast.specs.Expressions;
 ghost use Rattle.vh_ast.specs.Expressions.{exprs};
 ghost use Rattle.vh_ast.specs.Views.{expr_tree, link_tree, name_tree, sel_tree};
@@ -24,8 +24,8 @@ use sqlite_items::{Boxed, Items};
 use std::alloc::Global;
 use vh_ast::{Expr, ExprForm, Id, Link, Name, Part, Primary, Sel};
 use vh_base::{DesignFault, ExprId, Place};
+use vh_design_nodes::ExprKind;
 use vh_logic::Vec4;
-use vh_nodes::ExprKind;
 
 /// The value of a constant expression in its own width or in `least`, the greater of the two, with its
 /// own sign (IEEE 1364-2005, 4.10 and 5.4.1); none where it needs a parameter that has no value yet. An

@@ -6,7 +6,7 @@
 //! nodes, literals standing for parameters and genvars, and has `vh_eval` work them out. [`meaning`]
 //! answers what a name or a path stands for, as `specs/Paths.antt` says.
 //!
-//! It stands on `vh_ast` for the trees, on `vh_scope` for names, and on `vh_design`, `vh_store` and
+//! It stands on `vh_ast` for the trees, on `vh_bind_scope` for names, and on `vh_design`, `vh_store` and
 //! `vh_eval` for nodes and their values.
 #![tactic(auto)]
 

@@ -5,9 +5,9 @@ ghost use Rattle.vh_bind.specs.Views.{scope_seen};
 
 use crate::scope::{Genvar, Scope};
 use vh_base::{DesignFault, ExprId, ObjId};
+use vh_bind_scope::{Meaning, found};
+use vh_design_nodes::{Detail, ExprKind, ExprNode, Kind, ObjectInfo, Range};
 use vh_logic::Vec4;
-use vh_nodes::{Detail, ExprKind, ExprNode, Kind, ObjectInfo, Range};
-use vh_scope::{Meaning, found};
 
 // What a name stands for where a constant is needed.
 #[derive(Clone, Copy)]

@@ -1,5 +1,5 @@
 ghost use Rattle.std.specs.Prelude.{◌≡◌, ◌<◌, ◌≤◌, ◌++◌, ◌∷◌, [], true, false, length, IfOk, IfSome, OnOk};
-ghost use Rattle.vh_nodes.specs.Fits.{fits_kind, all_before};
+ghost use Rattle.vh_design_nodes.specs.Fits.{fits_kind, all_before};
 ghost use Rattle.vh_bind.specs.Steps.{Steps};
 ghost use Rattle.vh_bind.specs.Nodes.{pushed, chained, chain_kind, joined, repeated, byte_value, text_value, text_pushed, IsSound};
 ghost use Rattle.vh_logic.specs.Vector.{width_of};
@@ -11,8 +11,8 @@ use crate::operators::{Operator, links_of};
 use crate::scope::{Mode, Scope};
 use std::alloc::Global;
 use vh_base::{DesignFault, ExprId, NoMemory, Place, Sequence};
+use vh_design_nodes::{ExprIds, ExprKind, ExprNode, ObjectInfo, is_width, kind_signed, kind_width};
 use vh_logic::{Digit, MAX_WIDTH, Vec4, concat};
-use vh_nodes::{ExprIds, ExprKind, ExprNode, ObjectInfo, is_width, kind_signed, kind_width};
 
 /// Nodes of expressions, each under its place as its number.
 pub type Nodes = Vec<ExprNode>;

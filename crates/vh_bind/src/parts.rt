@@ -1,5 +1,5 @@
 ghost use Rattle.std.specs.Prelude.{◌≡◌, ◌<◌, ◌≤◌, true, length, map, IfOk, IfSome, OnOk};
-ghost use Rattle.vh_nodes.specs.Fits.{all_before};
+ghost use Rattle.vh_design_nodes.specs.Fits.{all_before};
 ghost use Rattle.vh_ast.specs.Expressions;
 ghost use Rattle.vh_ast.specs.Views.{expr_tree, link_tree};
 ghost use Rattle.vh_bind.specs.Steps.{Steps};
@@ -14,8 +14,8 @@ use crate::scope::{Mode, Scope};
 use std::alloc::Global;
 use vh_ast::{Expr, ExprForm, Link, Primary, Unary};
 use vh_base::{ExprId, NoMemory, Place, Sequence};
+use vh_design_nodes::{ExprIds, ExprKind};
 use vh_logic::Vec4;
-use vh_nodes::{ExprIds, ExprKind};
 
 /// How `$signed` or `$unsigned` marks its argument.
 pub fn mark_of(name: &[u8]) -> Option<bool>

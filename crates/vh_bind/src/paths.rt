@@ -12,8 +12,8 @@ use crate::scope::Scope;
 use std::alloc::Global;
 use vh_ast::{Expr, Id, Name, Step};
 use vh_base::{DesignFault, Place};
+use vh_bind_scope::{Declaration, Meaning, found, found_first, found_inside, found_scope, indexed};
 use vh_eval::integer;
-use vh_scope::{Declaration, Meaning, found, found_first, found_inside, found_scope, indexed};
 
 // Whether it is the name of a loop of generate blocks.
 fn is_blocks(meaning: Meaning) -> bool

@@ -5,9 +5,9 @@ ghost use Rattle.vh_bind.specs.Views.{scope_seen};
 use crate::named::{constant_in, genvar_value};
 use crate::scope::Scope;
 use vh_base::ObjId;
+use vh_bind_scope::{Meaning, found};
+use vh_design_nodes::{ExprNode, Kind, ObjectInfo, Range};
 use vh_logic::Vec4;
-use vh_nodes::{ExprNode, Kind, ObjectInfo, Range};
-use vh_scope::{Meaning, found};
 
 /// What a name stands for where a value is wanted (IEEE 1364-2005, 5.2).
 #[derive(Clone, Copy)]

@@ -1,8 +1,8 @@
 use vh_ast::TaskDirection;
 use vh_base::{ObjId, Sequence};
+use vh_bind_scope::{Names, Top};
+use vh_design_nodes::{ExprNode, Name, ObjectInfo};
 use vh_logic::Vec4;
-use vh_nodes::{ExprNode, Name, ObjectInfo};
-use vh_scope::{Names, Top};
 
 /// A genvar that has a value: the scope that declares it, and its name.
 #[derive(Drop)]

@@ -3,12 +3,12 @@ use Rattle.std.proofs.Common.{◌≡◌, ◌∙◌, ◌<◌, ◌≤◌, ◌+◌,
 use Rattle.std.specs.Prelude.{map, is_some, if◌then◌else◌, nat_lt, IfSome}
 use Rattle.std.proofs.lemmas.List.{at_drop_more}
 use Rattle.std.specs.Cmp.Derive.{both_true}
-use Rattle.vh_nodes.proofs.FitsLemmas.{and_left, and_right}
+use Rattle.vh_design_nodes.proofs.FitsLemmas.{and_left, and_right}
 use Rattle.vh_base.specs.declared.faults.DesignFault.TheVariants.{N10}
 use Rattle.vh_base.specs.declared.place.Place.{Place}
 use Rattle.vh_ast.specs.declared.routine.TaskDirection.{TaskDirection}
 use Rattle.vh_ast.specs.declared.token.Id.{Id}
-use Rattle.vh_nodes.specs.Fits.{all_before}
+use Rattle.vh_design_nodes.specs.Fits.{all_before}
 use Rattle.vh_bind_expr.specs.declared.functions.Side.{Side}
 use Rattle.vh_bind_expr.specs.declared.functions.Side.TheVariants as side
 use Rattle.vh_bind_expr.specs.Rows.{argument_bound, is_on, side_bound}

@@ -5,19 +5,19 @@ use Rattle.std.specs.Option.{option_and_then}
 use Rattle.vh_base.specs.declared.place.Place.{Place}
 use Rattle.vh_base.specs.declared.faults.DesignFault.TheVariants.{N7}
 use Rattle.vh_logic.specs.Vector.{Vector}
-use Rattle.vh_nodes.specs.declared.expr.ExprNode.{ExprNode}
-use Rattle.vh_nodes.specs.declared.expr.Range.{Range}
-use Rattle.vh_nodes.specs.declared.object.Detail.{Detail}
-use Rattle.vh_nodes.specs.declared.object.Kind.{Kind}
-use Rattle.vh_nodes.specs.declared.object.Kind.TheVariants as of
-use Rattle.vh_nodes.specs.declared.object.ObjectInfo.{ObjectInfo}
-use Rattle.vh_nodes.specs.Kinds.{is_vector, is_memory, is_function, is_variable}
-use Rattle.vh_nodes.specs.Fits.{has_kind}
+use Rattle.vh_design_nodes.specs.declared.expr.ExprNode.{ExprNode}
+use Rattle.vh_design_nodes.specs.declared.expr.Range.{Range}
+use Rattle.vh_design_nodes.specs.declared.object.Detail.{Detail}
+use Rattle.vh_design_nodes.specs.declared.object.Kind.{Kind}
+use Rattle.vh_design_nodes.specs.declared.object.Kind.TheVariants as of
+use Rattle.vh_design_nodes.specs.declared.object.ObjectInfo.{ObjectInfo}
+use Rattle.vh_design_nodes.specs.Kinds.{is_vector, is_memory, is_function, is_variable}
+use Rattle.vh_design_nodes.specs.Fits.{has_kind}
 use Rattle.vh_store.specs.Opening.{constant_in}
-use Rattle.vh_scope.specs.declared.names.Meaning.{Meaning}
-use Rattle.vh_scope.specs.declared.names.Meaning.TheVariants as means
-use Rattle.vh_scope.specs.declared.look_up.Declaration.{Declaration}
-use Rattle.vh_scope.specs.LookUp.{found}
+use Rattle.vh_bind_scope.specs.declared.names.Meaning.{Meaning}
+use Rattle.vh_bind_scope.specs.declared.names.Meaning.TheVariants as means
+use Rattle.vh_bind_scope.specs.declared.look_up.Declaration.{Declaration}
+use Rattle.vh_bind_scope.specs.LookUp.{found}
 use Rattle.vh_bind.specs.declared.readable.Function.{Function}
 use Rattle.vh_bind.specs.declared.fault.ElabFault.{ElabFault}
 use Rattle.vh_bind.specs.declared.scope.Routine.{Routine}

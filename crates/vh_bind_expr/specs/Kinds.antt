@@ -1,9 +1,9 @@
 -- What is known of what a name stands for: its object is there, and of such a kind. (IEEE
 -- 1364-2005, 5.2 and 10.4)
 use Rattle.std.specs.Prelude.{◌≡◌, true, List, Option, Some, None}
-use Rattle.vh_nodes.specs.declared.object.ObjectInfo.{ObjectInfo}
-use Rattle.vh_nodes.specs.Kinds.{is_vector, is_memory, is_function, is_variable}
-use Rattle.vh_nodes.specs.Fits.{has_kind}
+use Rattle.vh_design_nodes.specs.declared.object.ObjectInfo.{ObjectInfo}
+use Rattle.vh_design_nodes.specs.Kinds.{is_vector, is_memory, is_function, is_variable}
+use Rattle.vh_design_nodes.specs.Fits.{has_kind}
 use Rattle.vh_bind.specs.declared.readable.Readable.{Readable}
 use Rattle.vh_bind.specs.declared.readable.Readable.TheVariants as it
 use Rattle.vh_bind.specs.declared.readable.Function.{Function}

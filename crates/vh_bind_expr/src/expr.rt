@@ -1,6 +1,6 @@
 ghost use Rattle.std.specs.Prelude.{◌≡◌, ◌<◌, ◌≤◌, [], Some, true, length, map, IfOk, IfSome, OnOk};
-ghost use Rattle.vh_nodes.specs.Kinds.{is_vector, is_memory};
-ghost use Rattle.vh_nodes.specs.Fits.{all_before, fits_select, has_kind, is_unit};
+ghost use Rattle.vh_design_nodes.specs.Kinds.{is_vector, is_memory};
+ghost use Rattle.vh_design_nodes.specs.Fits.{all_before, fits_select, has_kind, is_unit};
 ghost use Rattle.vh_ast.specs.Expressions;
 ghost use Rattle.vh_ast.specs.Expressions.{exprs};
 ghost use Rattle.vh_ast.specs.Views.{expr_tree, link_tree, name_tree, part_by, sel_tree};
@@ -30,8 +30,8 @@ use vh_bind::{
     mark_of, push, push_choice, push_concat, push_literal, push_prefixed, push_text, sequence,
     with_number,
 };
-use vh_least::lesser;
-use vh_nodes::{ExprKind, Range, Select, is_variable_at};
+use vh_bind_least::lesser;
+use vh_design_nodes::{ExprKind, Range, Select, is_variable_at};
 
 /// Adds the nodes of an expression over the objects of a design to the design's expressions, and
 /// answers the number of the last one (IEEE 1364-2005, clause 5). None where it needs a parameter

@@ -1,8 +1,8 @@
 ghost use Rattle.std.specs.Prelude.{◌≡◌};
 ghost use Rattle.std.specs.List.{list_any};
 ghost use Rattle.std.specs.Option.{option_copied};
-ghost use Rattle.vh_nodes.specs.Kinds.{is_function};
-ghost use Rattle.vh_nodes.specs.Fits.{has_kind};
+ghost use Rattle.vh_design_nodes.specs.Kinds.{is_function};
+ghost use Rattle.vh_design_nodes.specs.Fits.{has_kind};
 ghost use Rattle.vh_bind.specs.Objects.{with_result, routine_of, directions_of, is_given, is_taken, goes_so, function_at, function_meant};
 ghost use Rattle.vh_bind.specs.Views.{scope_seen};
 ghost use Rattle.vh_bind_expr.specs.Rows.{is_on};
@@ -10,8 +10,8 @@ ghost use Rattle.vh_bind_expr.specs.Rows.{is_on};
 use vh_ast::TaskDirection;
 use vh_base::ObjId;
 use vh_bind::{Function, Routine, Scope};
-use vh_nodes::{body_number, is_variable_at};
-use vh_scope::Meaning;
+use vh_bind_scope::Meaning;
+use vh_design_nodes::{body_number, is_variable_at};
 
 // A function with its result, which is a variable.
 fn with_result(scope: &Scope, id: ObjId, variable: Option<ObjId>) -> Option<Function>

@@ -17,9 +17,9 @@ use vh_bind::{
     Bounded, ElabFault, Function, Readable, Scope, alone_read, constant, meaning, path_read,
     sel_value,
 };
+use vh_bind_scope::Top;
+use vh_design_nodes::{ExprNode, Range};
 use vh_logic::Vec4;
-use vh_nodes::{ExprNode, Range};
-use vh_scope::Top;
 
 /// A constant in an expression, in its own width: parameters have their values in `nodes`.
 pub fn constant_at(

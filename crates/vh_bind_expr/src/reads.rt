@@ -1,7 +1,7 @@
 ghost use Rattle.std.specs.Prelude.{◌≡◌, ◌<◌, ◌≤◌, ◌++◌, ◌∷◌, [], true, length, map, IfOk, IfSome, OnOk};
 ghost use Rattle.vh_logic.specs.declared.vector.TheConstants.{MAX_WIDTH};
-ghost use Rattle.vh_nodes.specs.declared.expr.Access.TheVariants as access;
-ghost use Rattle.vh_nodes.specs.Fits.{all_before, fits_select, fits_word, is_unit};
+ghost use Rattle.vh_design_nodes.specs.declared.expr.Access.TheVariants as access;
+ghost use Rattle.vh_design_nodes.specs.Fits.{all_before, fits_select, fits_word, is_unit};
 ghost use Rattle.vh_ast.specs.Expressions.{exprs};
 ghost use Rattle.vh_ast.specs.Views.{expr_tree};
 ghost use Rattle.vh_bind.specs.declared.scope.Mode.TheVariants as mode;
@@ -17,7 +17,7 @@ use std::alloc::Global;
 use vh_ast::{Expr, Id};
 use vh_base::{Boxed, DesignFault, ExprId, NoMemory, ObjId, Place, Sequence};
 use vh_bind::{ElabFault, Function, Mode, Scope, push};
-use vh_nodes::{Chosen, ExprIds, ExprKind, ExprNode, Range, Select, Selected};
+use vh_design_nodes::{Chosen, ExprIds, ExprKind, ExprNode, Range, Select, Selected};
 
 /// A whole object.
 pub fn whole_of(object: ObjId) -> Option<Chosen>

@@ -1,6 +1,6 @@
 ghost use Rattle.std.specs.Prelude.{ℕ, ◌≡◌, ◌<◌, ◌≤◌, true, length, map, IfOk, IfSome, OnOk};
 ghost use Rattle.vh_logic.specs.declared.vector.TheConstants.{MAX_WIDTH};
-ghost use Rattle.vh_nodes.specs.Fits.{all_before, fits_select};
+ghost use Rattle.vh_design_nodes.specs.Fits.{all_before, fits_select};
 ghost use Rattle.vh_ast.specs.Expressions;
 ghost use Rattle.vh_ast.specs.Views.{expr_tree, link_tree, sel_tree};
 ghost use Rattle.vh_bind.specs.declared.scope.Mode.TheVariants as mode;
@@ -19,8 +19,8 @@ use vh_bind::{
     ElabFault, Mode, Scope, chain_operators, number_in, part_select, push_concat, push_links,
     push_literal, push_times,
 };
+use vh_design_nodes::{ExprIds, ExprNode, Range, Select};
 use vh_logic::{MAX_WIDTH, Vec4};
-use vh_nodes::{ExprIds, ExprNode, Range, Select};
 
 // How many times something is repeated: a constant.
 pub(crate) fn count_at(

@@ -1,11 +1,11 @@
 -- Lemmas on `specs/Calls.antt`: the first of some expressions, and those behind it.
 use Rattle.std.proofs.Common.{◌≡◌, ◌∙◌, ◌<◌, ◌≤◌, ◌+◌, ◌-◌, ◌++◌, ◌∷◌, [], ℕ, suc, List, length, slice_get, refl, sym, ap, arith}
 use Rattle.std.specs.Option.{option_map}
-use Rattle.vh_code.specs.declared.operation.Operation.{Operation}
-use Rattle.vh_code.specs.declared.wait.Term.{Term}
-use Rattle.vh_nodes.specs.declared.expr.ExprKind.{ExprKind}
-use Rattle.vh_nodes.specs.declared.expr.ExprKind.TheVariants as kind
-use Rattle.vh_nodes.specs.declared.expr.Selected.{Selected}
+use Rattle.vh_design_code.specs.declared.operation.Operation.{Operation}
+use Rattle.vh_design_code.specs.declared.wait.Term.{Term}
+use Rattle.vh_design_nodes.specs.declared.expr.ExprKind.{ExprKind}
+use Rattle.vh_design_nodes.specs.declared.expr.ExprKind.TheVariants as kind
+use Rattle.vh_design_nodes.specs.declared.expr.Selected.{Selected}
 use Rattle.vh_sense.specs.Reads.{object_in}
 use Rattle.vh_bind.specs.Steps.{Nodes}
 use Rattle.vh_bind_stmt.specs.Calls.{Surroundings, calls_at, calls_of, reads_at, reads_of, selected_in}

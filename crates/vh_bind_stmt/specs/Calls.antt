@@ -4,19 +4,19 @@
 use Rattle.std.specs.Prelude.{ℕ, zero, suc, ◌+◌, ◌==◌, Bool, List, [], ◌∷◌, ◌++◌, length, drop, if◌then◌else◌, Option, Some, None, slice_get, unwrap_or}
 use Rattle.std.specs.List.{flat_map}
 use Rattle.std.specs.Option.{option_and_then, option_map}
-use Rattle.vh_nodes.specs.declared.expr.ExprKind.{ExprKind}
-use Rattle.vh_nodes.specs.declared.expr.ExprKind.TheVariants as kind
-use Rattle.vh_nodes.specs.declared.expr.ExprNode.{ExprNode}
-use Rattle.vh_nodes.specs.declared.expr.Selected.{Selected}
-use Rattle.vh_nodes.specs.Fits.{body_number}
-use Rattle.vh_code.specs.declared.operation.Leave.{Leave}
-use Rattle.vh_code.specs.declared.operation.Returned.{Returned}
-use Rattle.vh_code.specs.declared.operation.Operation.{Operation}
-use Rattle.vh_code.specs.declared.operation.Operation.TheVariants as op
-use Rattle.vh_code.specs.declared.target.Input.{Input}
-use Rattle.vh_code.specs.declared.target.Output.{Output}
-use Rattle.vh_code.specs.declared.wait.Term.{Term}
-use Rattle.vh_code.specs.declared.wait.Term.TheVariants as term
+use Rattle.vh_design_nodes.specs.declared.expr.ExprKind.{ExprKind}
+use Rattle.vh_design_nodes.specs.declared.expr.ExprKind.TheVariants as kind
+use Rattle.vh_design_nodes.specs.declared.expr.ExprNode.{ExprNode}
+use Rattle.vh_design_nodes.specs.declared.expr.Selected.{Selected}
+use Rattle.vh_design_nodes.specs.Fits.{body_number}
+use Rattle.vh_design_code.specs.declared.operation.Leave.{Leave}
+use Rattle.vh_design_code.specs.declared.operation.Returned.{Returned}
+use Rattle.vh_design_code.specs.declared.operation.Operation.{Operation}
+use Rattle.vh_design_code.specs.declared.operation.Operation.TheVariants as op
+use Rattle.vh_design_code.specs.declared.target.Input.{Input}
+use Rattle.vh_design_code.specs.declared.target.Output.{Output}
+use Rattle.vh_design_code.specs.declared.wait.Term.{Term}
+use Rattle.vh_design_code.specs.declared.wait.Term.TheVariants as term
 use Rattle.vh_sense.specs.Reads.{object_in}
 use Rattle.vh_bind.specs.Steps.{Nodes}
 use Rattle.vh_bind.specs.Scopes.{Scope}

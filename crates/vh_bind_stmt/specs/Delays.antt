@@ -2,8 +2,8 @@
 use Rattle.std.specs.Prelude.{ℕ, Option, Some, None}
 use Rattle.std.specs.Option.{option_map}
 use Rattle.vh_base.specs.declared.place.Place.{Place}
-use Rattle.vh_nodes.specs.declared.expr.ExprKind.TheVariants as kind
-use Rattle.vh_code.specs.declared.target.Delay.{Delay}
+use Rattle.vh_design_nodes.specs.declared.expr.ExprKind.TheVariants as kind
+use Rattle.vh_design_code.specs.declared.target.Delay.{Delay}
 use Rattle.vh_ast.specs.Expressions.{named, name, no_index, no_step, no_sel}
 use Rattle.vh_ast.specs.Statements.{DelayValueTree, delay_number, delay_id, delay_expr, DelayTree}
 use Rattle.vh_bind.specs.declared.scope.Mode.TheVariants as mode

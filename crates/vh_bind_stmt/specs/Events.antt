@@ -9,18 +9,18 @@ use Rattle.vh_base.specs.declared.place.Place.{Place}
 use Rattle.vh_logic.specs.declared.vector.TheConstants.{MAX_WIDTH}
 use Rattle.vh_logic.specs.Number.{integer_of}
 use Rattle.vh_logic.specs.Vector.{Vector}
-use Rattle.vh_nodes.specs.declared.expr.Range.{Range}
-use Rattle.vh_nodes.specs.declared.expr.Select.{Select}
-use Rattle.vh_nodes.specs.declared.expr.Select.TheVariants as select
-use Rattle.vh_nodes.specs.Kinds.{is_event}
-use Rattle.vh_nodes.specs.Fits.{has_kind}
-use Rattle.vh_code.specs.declared.wait.Edge.{Edge}
-use Rattle.vh_code.specs.declared.wait.Edge.TheVariants as edge
-use Rattle.vh_code.specs.declared.wait.Term.{Term}
-use Rattle.vh_code.specs.declared.wait.Term.TheVariants as term
+use Rattle.vh_design_nodes.specs.declared.expr.Range.{Range}
+use Rattle.vh_design_nodes.specs.declared.expr.Select.{Select}
+use Rattle.vh_design_nodes.specs.declared.expr.Select.TheVariants as select
+use Rattle.vh_design_nodes.specs.Kinds.{is_event}
+use Rattle.vh_design_nodes.specs.Fits.{has_kind}
+use Rattle.vh_design_code.specs.declared.wait.Edge.{Edge}
+use Rattle.vh_design_code.specs.declared.wait.Edge.TheVariants as edge
+use Rattle.vh_design_code.specs.declared.wait.Term.{Term}
+use Rattle.vh_design_code.specs.declared.wait.Term.TheVariants as term
 use Rattle.vh_eval.specs.Selects.{place_of, lowest_index}
-use Rattle.vh_scope.specs.declared.names.Meaning.{Meaning}
-use Rattle.vh_scope.specs.LookUp.{object_meant}
+use Rattle.vh_bind_scope.specs.declared.names.Meaning.{Meaning}
+use Rattle.vh_bind_scope.specs.LookUp.{object_meant}
 use Rattle.vh_ast.specs.declared.timing.Edge.{Edge as Word}
 use Rattle.vh_ast.specs.declared.timing.Edge.TheVariants as word
 use Rattle.vh_ast.specs.Expressions.{ExprTree, expr, ExprFormTree, number, text, named, call, system, paren, concat, repeat, unary, chain, choice, NameTree, start_of, SelTree, no_sel, index_sel, both_sel, part_sel, PartTree, at, range, up, down}

@@ -6,10 +6,10 @@ use Rattle.vh_base.specs.declared.place.Place.{Place}
 use Rattle.vh_bind_stmt.specs.declared.shows.Places.{Places}
 use Rattle.vh_bind_stmt.specs.declared.shows.Places.TheVariants as places
 use Rattle.vh_bind_stmt.specs.declared.shows.Scanned.{Scanned}
-use Rattle.vh_code.specs.declared.show.ShowArg.{ShowArg}
-use Rattle.vh_code.specs.declared.show.ShowArg.TheVariants as arg
-use Rattle.vh_code.specs.declared.show.ShowTask.{ShowTask}
-use Rattle.vh_code.specs.declared.show.ShowTask.TheVariants as task
+use Rattle.vh_design_code.specs.declared.show.ShowArg.{ShowArg}
+use Rattle.vh_design_code.specs.declared.show.ShowArg.TheVariants as arg
+use Rattle.vh_design_code.specs.declared.show.ShowTask.{ShowTask}
+use Rattle.vh_design_code.specs.declared.show.ShowTask.TheVariants as task
 use Rattle.vh_ast.specs.Expressions.{ExprTree, expr, ExprFormTree, number, text, named, call, system, paren, concat, repeat, unary, chain, choice}
 use Rattle.vh_bind.specs.declared.scope.Mode.TheVariants as mode
 use Rattle.vh_bind.specs.Steps.{Step, ◌>>=◌, pure, needing}

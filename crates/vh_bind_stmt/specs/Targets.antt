@@ -2,14 +2,14 @@
 use Rattle.std.specs.Prelude.{ℕ, List, [], ◌∷◌, ◌++◌, if◌then◌else◌, Option, Some, None, Ok, Err}
 use Rattle.vh_base.specs.declared.faults.DesignFault.TheVariants.{N1, N3, N5}
 use Rattle.vh_base.specs.declared.place.Place.{Place}
-use Rattle.vh_nodes.specs.declared.expr.Chosen.{Chosen}
-use Rattle.vh_nodes.specs.declared.expr.Range.{Range}
-use Rattle.vh_nodes.specs.declared.expr.Select.{Select}
-use Rattle.vh_nodes.specs.declared.expr.Select.TheVariants as select
-use Rattle.vh_nodes.specs.declared.expr.Selected.{Selected}
-use Rattle.vh_nodes.specs.Kinds.{is_variable}
-use Rattle.vh_nodes.specs.Fits.{has_kind, is_width}
-use Rattle.vh_code.specs.Targets.{targets_width}
+use Rattle.vh_design_nodes.specs.declared.expr.Chosen.{Chosen}
+use Rattle.vh_design_nodes.specs.declared.expr.Range.{Range}
+use Rattle.vh_design_nodes.specs.declared.expr.Select.{Select}
+use Rattle.vh_design_nodes.specs.declared.expr.Select.TheVariants as select
+use Rattle.vh_design_nodes.specs.declared.expr.Selected.{Selected}
+use Rattle.vh_design_nodes.specs.Kinds.{is_variable}
+use Rattle.vh_design_nodes.specs.Fits.{has_kind, is_width}
+use Rattle.vh_design_code.specs.Targets.{targets_width}
 use Rattle.vh_ast.specs.Expressions.{ExprTree, expr, ExprFormTree, number, text, named, call, system, paren, concat, repeat, unary, chain, choice, Exprs, no_expr, one_expr, place_of, NameTree, start_of, SelTree, no_sel, index_sel, both_sel, part_sel}
 use Rattle.vh_ast.specs.Statements.{LvPartTree, opened, target, closed, LvTree}
 use Rattle.vh_bind.specs.declared.readable.Readable.{Readable}

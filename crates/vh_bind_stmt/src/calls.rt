@@ -10,8 +10,10 @@ use sqlite_items::at;
 use std::alloc::Global;
 use vh_base::{Boxed, ExprId, NoMemory, ObjId, Sequence};
 use vh_bind_expr::{is_given, is_taken};
-use vh_code::{Input, Inputs, Leave, Operation, Output, Outputs, Returned, Targets, Term, Terms};
-use vh_nodes::{Chosen, ExprKind, ExprNode, Select, Selected, body_number};
+use vh_design_code::{
+    Input, Inputs, Leave, Operation, Output, Outputs, Returned, Targets, Term, Terms,
+};
+use vh_design_nodes::{Chosen, ExprKind, ExprNode, Select, Selected, body_number};
 
 /// The arguments of a task or function, in order.
 pub fn arguments_of<'s>(around: &Surroundings<'s, '_, '_>, routine: ObjId) -> &'s [Argument]

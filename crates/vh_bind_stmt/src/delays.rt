@@ -1,5 +1,5 @@
 ghost use Rattle.std.specs.Prelude.{◌≡◌, true, OnOk};
-ghost use Rattle.vh_nodes.specs.Fits.{is_unit};
+ghost use Rattle.vh_design_nodes.specs.Fits.{is_unit};
 ghost use Rattle.vh_ast.specs.Expressions;
 ghost use Rattle.vh_ast.specs.Expressions.{no_index, no_sel, no_step};
 ghost use Rattle.vh_ast.specs.Views.{delay_tree, delay_value_tree};
@@ -17,8 +17,8 @@ use vh_ast::{Delay, DelayValue, Id};
 use vh_base::{DesignFault, ExprId, Place};
 use vh_bind::{ElabFault, Mode, Readable, Scope, alone_read, push, push_literal};
 use vh_bind_expr::{bind_expr, push_selected, whole_of};
-use vh_code::Delay as Wait;
-use vh_nodes::{ExprKind, ExprNode, Select};
+use vh_design_code::Delay as Wait;
+use vh_design_nodes::{ExprKind, ExprNode, Select};
 
 // What a name stands for.
 fn name_alone(scope: &Scope, id: &Id) -> Readable

@@ -14,11 +14,11 @@ use vh_ast::{Edge as Word, Esel, Ev, Expr, ExprForm, Name, Part, Primary, Sel};
 use vh_base::{DesignFault, NoMemory, ObjId, Place, Sequence};
 use vh_bind::{ElabFault, Readable, Scope, constant, meaning, number_in, part_select};
 use vh_bind_expr::name_read;
-use vh_code::{Edge, Term, Terms};
+use vh_bind_scope::Meaning;
+use vh_design_code::{Edge, Term, Terms};
+use vh_design_nodes::{Range, Select, is_event_at};
 use vh_eval::{integer, lowest_index, place_of};
 use vh_logic::{MAX_WIDTH, Vec4};
-use vh_nodes::{Range, Select, is_event_at};
-use vh_scope::Meaning;
 
 // Which change counts.
 fn edge_of(word: Option<Word>) -> Edge

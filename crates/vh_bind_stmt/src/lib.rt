@@ -5,7 +5,7 @@
 //! `specs/Targets.antt` and its neighbours say to a design's expressions, or answer the first fault;
 //! [`add_calls`] gives the labels of the calls in expressions, and [`reads_of`] what they read.
 //!
-//! It stands on `vh_bind_expr` for expressions and names, and on `vh_code` for operations and waits.
+//! It stands on `vh_bind_expr` for expressions and names, and on `vh_design_code` for operations and waits.
 #![tactic(auto)]
 
 mod calls;

@@ -1,9 +1,9 @@
 ghost use Rattle.std.specs.Prelude.{◌≡◌};
 ghost use Rattle.std.specs.Option.{option_and_then};
-ghost use Rattle.vh_scope.specs.LookUp.{object_meant};
+ghost use Rattle.vh_bind_scope.specs.LookUp.{object_meant};
 
 use vh_base::ObjId;
-use vh_scope::Meaning;
+use vh_bind_scope::Meaning;
 
 /// The object that a name stands for, if it stands for one.
 pub fn object_meant(meaning: Meaning) -> Option<ObjId>

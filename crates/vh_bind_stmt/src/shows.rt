@@ -1,6 +1,6 @@
 ghost use Rattle.std.specs.Prelude.{◌≡◌, ◌≤◌, [], map, true, OnOk};
 ghost use Rattle.std.specs.Option.{option_copied, option_map};
-ghost use Rattle.vh_nodes.specs.Fits.{is_unit};
+ghost use Rattle.vh_design_nodes.specs.Fits.{is_unit};
 ghost use Rattle.vh_ast.specs.Views.{expr_tree};
 ghost use Rattle.vh_bind.specs.declared.scope.Mode.TheVariants as mode;
 ghost use Rattle.vh_bind.specs.Steps.{Steps, StepsOn};
@@ -11,10 +11,10 @@ ghost use Rattle.vh_bind_stmt.specs.Shows.{show_task, is_letter, wants_argument,
 use std::alloc::Global;
 use vh_ast::{Expr, ExprForm, Primary};
 use vh_base::{NoMemory, Sequence};
+use vh_base_shared::SharedBytes;
 use vh_bind::{ElabFault, Nodes, Scope};
 use vh_bind_expr::bind_expr;
-use vh_code::{ShowArg, ShowArgs, ShowTask};
-use vh_shared::SharedBytes;
+use vh_design_code::{ShowArg, ShowArgs, ShowTask};
 
 /// The display task of this name (IEEE 1364-2005, 17.1).
 pub fn show_task(name: &[u8]) -> Option<ShowTask>

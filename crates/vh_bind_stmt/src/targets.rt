@@ -1,6 +1,6 @@
 ghost use Rattle.std.specs.Prelude.{◌≡◌, [], ◌∷◌, ◌++◌, true, map, OnOk};
-ghost use Rattle.vh_nodes.specs.Fits.{is_unit};
-ghost use Rattle.vh_code.specs.Targets.{targets_width};
+ghost use Rattle.vh_design_nodes.specs.Fits.{is_unit};
+ghost use Rattle.vh_design_code.specs.Targets.{targets_width};
 ghost use Rattle.vh_ast.specs.Views.{expr_tree, name_tree, sel_tree, lv_tree, lv_part_tree};
 ghost use Rattle.vh_bind.specs.declared.scope.Mode.TheVariants as mode;
 ghost use Rattle.vh_bind.specs.Steps.{Steps, StepsOn, Gives};
@@ -17,8 +17,8 @@ use vh_ast::{Expr, ExprForm, Lv, LvPart, Name, Primary, Sel};
 use vh_base::{DesignFault, ExprId, NoMemory, ObjId, Place, Sequence};
 use vh_bind::{ElabFault, Nodes, Readable, Scope};
 use vh_bind_expr::{bind_expr, bind_part, bit_select, name_read, whole_of, word_of};
-use vh_code::Targets;
-use vh_nodes::{
+use vh_design_code::Targets;
+use vh_design_nodes::{
     Chosen, ObjectInfo, Range, Select, Selected, is_variable_at, is_width, selected_width,
     side_by_side,
 };

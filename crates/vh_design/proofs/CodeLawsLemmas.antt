@@ -5,42 +5,42 @@ use Rattle.std.specs.List.{list_all}
 use Rattle.std.specs.Option.{option_map}
 use Rattle.std.proofs.lemmas.Bool.{eqb-true, leb-true, ltb-true}
 use Rattle.std.proofs.lemmas.List.Sums.{AllPass-from_list_all}
-use Rattle.vh_nodes.specs.declared.driver.DriverInfo.{DriverInfo}
-use Rattle.vh_nodes.specs.declared.expr.Access.TheVariants as access
-use Rattle.vh_nodes.specs.declared.expr.ExprNode.{ExprNode}
-use Rattle.vh_nodes.specs.declared.expr.Selected.{Selected}
-use Rattle.vh_nodes.specs.declared.fits.TheConstants.{MOST_UNIT}
-use Rattle.vh_nodes.specs.declared.object.Kind.{Kind}
-use Rattle.vh_nodes.specs.declared.object.ObjectInfo.{ObjectInfo}
-use Rattle.vh_nodes.specs.Fits.{has_kind, has_body, is_width, is_unit, same_sign, before, fits_selected}
-use Rattle.vh_nodes.specs.Kinds.{is_vector, is_variable, is_memory, is_forcible, is_event, is_disable_target, is_routine, is_system_task, is_system_function, is_scope}
-use Rattle.vh_nodes.specs.Widths.{width_of, signed_of, widest, all_signed, selected_width}
-use Rattle.vh_nodes.proofs.FitsLemmas.{and_left, and_right, only, of_kind, same, width_least, width_most}
-use Rattle.vh_code.specs.declared.code.Code.{Code}
-use Rattle.vh_code.specs.declared.code.Goes.{Goes}
-use Rattle.vh_code.specs.declared.code.Goes.TheVariants as goes
-use Rattle.vh_code.specs.declared.code.Instruction.{Instruction}
-use Rattle.vh_code.specs.declared.codes.Limits.{Limits}
-use Rattle.vh_code.specs.declared.operation.Arm.{Arm}
-use Rattle.vh_code.specs.declared.operation.CaseTest.{CaseTest}
-use Rattle.vh_code.specs.declared.operation.Leave.{Leave}
-use Rattle.vh_code.specs.declared.operation.Loop.{Loop}
-use Rattle.vh_code.specs.declared.operation.Loop.TheVariants as turn
-use Rattle.vh_code.specs.declared.operation.Operation.{Operation}
-use Rattle.vh_code.specs.declared.operation.Operation.TheVariants as op
-use Rattle.vh_code.specs.declared.operation.Pause.{Pause}
-use Rattle.vh_code.specs.declared.operation.Pause.TheVariants as pause
-use Rattle.vh_code.specs.declared.operation.Returned.{Returned}
-use Rattle.vh_code.specs.declared.operation.Single.{Single}
-use Rattle.vh_code.specs.declared.operation.Single.TheVariants as single
-use Rattle.vh_code.specs.declared.target.Delay.{Delay}
-use Rattle.vh_code.specs.declared.target.Input.{Input}
-use Rattle.vh_code.specs.declared.target.Output.{Output}
-use Rattle.vh_code.specs.declared.wait.Term.{Term}
-use Rattle.vh_code.specs.declared.wait.Term.TheVariants as term
-use Rattle.vh_code.specs.Codes.{fits_instruction, fits_blocks, fits_term, fits_arg}
-use Rattle.vh_code.specs.Operations.{fits_goes, fits_delayed, fits_pause, labels, fits_arm, fits_case, fits_loop, fits_result, fits_leave, fits_single, fits_operation}
-use Rattle.vh_code.specs.Targets.{targets_width, fits_target, fits_targets, fits_drivers, fits_delay, fits_input, fits_output}
+use Rattle.vh_design_nodes.specs.declared.driver.DriverInfo.{DriverInfo}
+use Rattle.vh_design_nodes.specs.declared.expr.Access.TheVariants as access
+use Rattle.vh_design_nodes.specs.declared.expr.ExprNode.{ExprNode}
+use Rattle.vh_design_nodes.specs.declared.expr.Selected.{Selected}
+use Rattle.vh_design_nodes.specs.declared.fits.TheConstants.{MOST_UNIT}
+use Rattle.vh_design_nodes.specs.declared.object.Kind.{Kind}
+use Rattle.vh_design_nodes.specs.declared.object.ObjectInfo.{ObjectInfo}
+use Rattle.vh_design_nodes.specs.Fits.{has_kind, has_body, is_width, is_unit, same_sign, before, fits_selected}
+use Rattle.vh_design_nodes.specs.Kinds.{is_vector, is_variable, is_memory, is_forcible, is_event, is_disable_target, is_routine, is_system_task, is_system_function, is_scope}
+use Rattle.vh_design_nodes.specs.Widths.{width_of, signed_of, widest, all_signed, selected_width}
+use Rattle.vh_design_nodes.proofs.FitsLemmas.{and_left, and_right, only, of_kind, same, width_least, width_most}
+use Rattle.vh_design_code.specs.declared.code.Code.{Code}
+use Rattle.vh_design_code.specs.declared.code.Goes.{Goes}
+use Rattle.vh_design_code.specs.declared.code.Goes.TheVariants as goes
+use Rattle.vh_design_code.specs.declared.code.Instruction.{Instruction}
+use Rattle.vh_design_code.specs.declared.codes.Limits.{Limits}
+use Rattle.vh_design_code.specs.declared.operation.Arm.{Arm}
+use Rattle.vh_design_code.specs.declared.operation.CaseTest.{CaseTest}
+use Rattle.vh_design_code.specs.declared.operation.Leave.{Leave}
+use Rattle.vh_design_code.specs.declared.operation.Loop.{Loop}
+use Rattle.vh_design_code.specs.declared.operation.Loop.TheVariants as turn
+use Rattle.vh_design_code.specs.declared.operation.Operation.{Operation}
+use Rattle.vh_design_code.specs.declared.operation.Operation.TheVariants as op
+use Rattle.vh_design_code.specs.declared.operation.Pause.{Pause}
+use Rattle.vh_design_code.specs.declared.operation.Pause.TheVariants as pause
+use Rattle.vh_design_code.specs.declared.operation.Returned.{Returned}
+use Rattle.vh_design_code.specs.declared.operation.Single.{Single}
+use Rattle.vh_design_code.specs.declared.operation.Single.TheVariants as single
+use Rattle.vh_design_code.specs.declared.target.Delay.{Delay}
+use Rattle.vh_design_code.specs.declared.target.Input.{Input}
+use Rattle.vh_design_code.specs.declared.target.Output.{Output}
+use Rattle.vh_design_code.specs.declared.wait.Term.{Term}
+use Rattle.vh_design_code.specs.declared.wait.Term.TheVariants as term
+use Rattle.vh_design_code.specs.Codes.{fits_instruction, fits_blocks, fits_term, fits_arg}
+use Rattle.vh_design_code.specs.Operations.{fits_goes, fits_delayed, fits_pause, labels, fits_arm, fits_case, fits_loop, fits_result, fits_leave, fits_single, fits_operation}
+use Rattle.vh_design_code.specs.Targets.{targets_width, fits_target, fits_targets, fits_drivers, fits_delay, fits_input, fits_output}
 use Rattle.vh_design.specs.CodeLaws.{loop_goes, goes_of, IsPlace, change_of, single_changes, result_reads, changes_of, delay_units, pause_units, units_of, delay_exprs, pause_exprs, loop_exprs, single_exprs, result_exprs, exprs_of, term_read, IsUnit, CodesMayStand, BodiesMayStand, PlacesAreThere, ExpressionsAreThere, ChangesFit, DelaysFit, CasesAreMeasured, WaitsFit, ShowsFit, StatementsFit}
 use Rattle.vh_design.specs.Laws.{selected_exprs, read}
 use Rattle.vh_design.specs.Shape.{Shape}

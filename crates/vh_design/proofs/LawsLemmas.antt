@@ -4,20 +4,20 @@ use Rattle.std.specs.Cmp.Derive.{both_true}
 use Rattle.std.specs.List.{list_all}
 use Rattle.std.proofs.lemmas.Bool.{leb-true, ltb-true}
 use Rattle.std.proofs.lemmas.List.Sums.{AllPass-from_list_all}
-use Rattle.vh_nodes.specs.declared.expr.Access.{Access}
-use Rattle.vh_nodes.specs.declared.expr.Access.TheVariants as access
-use Rattle.vh_nodes.specs.declared.expr.ExprKind.{ExprKind}
-use Rattle.vh_nodes.specs.declared.expr.ExprKind.TheVariants as kind
-use Rattle.vh_nodes.specs.declared.expr.Select.{Select}
-use Rattle.vh_nodes.specs.declared.expr.Select.TheVariants as select
-use Rattle.vh_nodes.specs.declared.expr.Selected.{Selected}
-use Rattle.vh_nodes.specs.declared.fits.TheConstants.{MOST_UNIT}
-use Rattle.vh_nodes.specs.declared.object.ObjectInfo.{ObjectInfo}
-use Rattle.vh_nodes.specs.Kinds.{is_variable, is_memory, is_function, is_system_function}
+use Rattle.vh_design_nodes.specs.declared.expr.Access.{Access}
+use Rattle.vh_design_nodes.specs.declared.expr.Access.TheVariants as access
+use Rattle.vh_design_nodes.specs.declared.expr.ExprKind.{ExprKind}
+use Rattle.vh_design_nodes.specs.declared.expr.ExprKind.TheVariants as kind
+use Rattle.vh_design_nodes.specs.declared.expr.Select.{Select}
+use Rattle.vh_design_nodes.specs.declared.expr.Select.TheVariants as select
+use Rattle.vh_design_nodes.specs.declared.expr.Selected.{Selected}
+use Rattle.vh_design_nodes.specs.declared.fits.TheConstants.{MOST_UNIT}
+use Rattle.vh_design_nodes.specs.declared.object.ObjectInfo.{ObjectInfo}
+use Rattle.vh_design_nodes.specs.Kinds.{is_variable, is_memory, is_function, is_system_function}
 use Rattle.vh_design.specs.Laws.{with_address, select_exprs, selected_exprs, parts_of, Read, read_word, read_selected, reads_of, PartsComeBefore, ReadsFit, NodesAreMeasured, UnitsFit, ScopesComeBefore, DriversAreOfNets, PrecisionFits}
-use Rattle.vh_nodes.proofs.FitsLemmas.{and_left, and_right, only, of_kind}
+use Rattle.vh_design_nodes.proofs.FitsLemmas.{and_left, and_right, only, of_kind}
 use Rattle.vh_design.proofs.ValidityLemmas.{node_kind, node_measured, object_scope, driver_net}
-use Rattle.vh_nodes.specs.Fits.{has_kind, is_unit, all_before, fits_word, fits_select, fits_selected, fits_kind}
+use Rattle.vh_design_nodes.specs.Fits.{has_kind, is_unit, all_before, fits_word, fits_select, fits_selected, fits_kind}
 
 -- The expressions by which something is read or assigned to come before.
 address_before : (os : List ObjectInfo) (e : ℕ) (access : Access) (o : ℕ) (word : Option ℕ) (parts : List ℕ)

@@ -5,20 +5,20 @@ use Rattle.std.specs.Option.{option_and_then}
 use Rattle.std.proofs.lemmas.Bool.{eqb-true, ltb-true}
 use Rattle.std.proofs.lemmas.Option.{slice_get_read, slice_get_within}
 use Rattle.vh_logic.specs.declared.vector.TheConstants.{MAX_WIDTH}
-use Rattle.vh_nodes.specs.declared.driver.DriverInfo.{DriverInfo}
-use Rattle.vh_nodes.specs.declared.expr.ExprNode.{ExprNode}
-use Rattle.vh_nodes.specs.declared.object.Detail.{Detail}
-use Rattle.vh_nodes.specs.declared.object.Detail.TheVariants as detail
-use Rattle.vh_nodes.specs.declared.object.ObjectInfo.{ObjectInfo}
-use Rattle.vh_code.specs.declared.code.Code.{Code}
-use Rattle.vh_code.specs.declared.statement.StmtInfo.{StmtInfo}
-use Rattle.vh_code.specs.Codes.{fits_statement}
-use Rattle.vh_nodes.specs.Kinds.{is_net, is_scope}
+use Rattle.vh_design_nodes.specs.declared.driver.DriverInfo.{DriverInfo}
+use Rattle.vh_design_nodes.specs.declared.expr.ExprNode.{ExprNode}
+use Rattle.vh_design_nodes.specs.declared.object.Detail.{Detail}
+use Rattle.vh_design_nodes.specs.declared.object.Detail.TheVariants as detail
+use Rattle.vh_design_nodes.specs.declared.object.ObjectInfo.{ObjectInfo}
+use Rattle.vh_design_code.specs.declared.code.Code.{Code}
+use Rattle.vh_design_code.specs.declared.statement.StmtInfo.{StmtInfo}
+use Rattle.vh_design_code.specs.Codes.{fits_statement}
+use Rattle.vh_design_nodes.specs.Kinds.{is_net, is_scope}
 use Rattle.vh_design.specs.Shape.{Shape}
-use Rattle.vh_nodes.specs.Fits.{body_of, body_number, has_kind, is_width, before, same_sign, fits_kind, fits_node, fits_detail, fits_object, fits_driver, IsOfKind}
-use Rattle.vh_nodes.proofs.FitsLemmas.{and_left, and_right, width_least, width_most, same, of_kind}
+use Rattle.vh_design_nodes.specs.Fits.{body_of, body_number, has_kind, is_width, before, same_sign, fits_kind, fits_node, fits_detail, fits_object, fits_driver, IsOfKind}
+use Rattle.vh_design_nodes.proofs.FitsLemmas.{and_left, and_right, width_least, width_most, same, of_kind}
 use Rattle.vh_design.specs.Validity.{body_at, AllFit, IsValid, IsMeasured}
-use Rattle.vh_nodes.specs.Widths.{kind_width, kind_signed}
+use Rattle.vh_design_nodes.specs.Widths.{kind_width, kind_signed}
 
 -- Each element below a number passes.
 abbrev pub FitBelow : {T : Type 0} → (ℕ → T → Bool) → List T → ℕ → Type 0

@@ -1,33 +1,33 @@
 -- What the rules mean for the codes, waits, display calls and statements of a design, rule by rule. (own)
 use Rattle.std.specs.Prelude.{◌≡◌, ◌<◌, ◌≤◌, ℕ, List, [], ◌∷◌, ◌++◌, map, flat_map, All, Option, Some, None, ⊤, length, slice_get, ◌||◌, ◌&&◌}
 use Rattle.vh_logic.specs.declared.vector.TheConstants.{MAX_WIDTH}
-use Rattle.vh_nodes.specs.declared.expr.Access.TheVariants as access
-use Rattle.vh_nodes.specs.declared.expr.Selected.{Selected}
-use Rattle.vh_nodes.specs.declared.fits.TheConstants.{MOST_UNIT}
-use Rattle.vh_nodes.specs.Fits.{IsOfKind}
-use Rattle.vh_nodes.specs.Kinds.{is_vector, is_variable, is_memory, is_forcible, is_event, is_disable_target, is_routine, is_system_task, is_system_function, is_scope}
-use Rattle.vh_nodes.specs.Widths.{width_of, signed_of, widest, all_signed}
-use Rattle.vh_code.specs.declared.code.Code.{Code}
-use Rattle.vh_code.specs.declared.code.Goes.{Goes}
-use Rattle.vh_code.specs.declared.code.Goes.TheVariants as goes
-use Rattle.vh_code.specs.declared.code.Instruction.{Instruction}
-use Rattle.vh_code.specs.declared.operation.CaseTest.{CaseTest}
-use Rattle.vh_code.specs.declared.operation.Loop.{Loop}
-use Rattle.vh_code.specs.declared.operation.Loop.TheVariants as turn
-use Rattle.vh_code.specs.declared.operation.Operation.{Operation}
-use Rattle.vh_code.specs.declared.operation.Operation.TheVariants as op
-use Rattle.vh_code.specs.declared.operation.Pause.{Pause}
-use Rattle.vh_code.specs.declared.operation.Pause.TheVariants as pause
-use Rattle.vh_code.specs.declared.operation.Returned.{Returned}
-use Rattle.vh_code.specs.declared.operation.Single.{Single}
-use Rattle.vh_code.specs.declared.operation.Single.TheVariants as single
-use Rattle.vh_code.specs.declared.show.ShowCall.{ShowCall}
-use Rattle.vh_code.specs.declared.statement.StmtInfo.{StmtInfo}
-use Rattle.vh_code.specs.declared.target.Delay.{Delay}
-use Rattle.vh_code.specs.declared.wait.Term.{Term}
-use Rattle.vh_code.specs.declared.wait.Term.TheVariants as term
-use Rattle.vh_code.specs.declared.wait.WaitInfo.{WaitInfo}
-use Rattle.vh_code.specs.Operations.{labels}
+use Rattle.vh_design_nodes.specs.declared.expr.Access.TheVariants as access
+use Rattle.vh_design_nodes.specs.declared.expr.Selected.{Selected}
+use Rattle.vh_design_nodes.specs.declared.fits.TheConstants.{MOST_UNIT}
+use Rattle.vh_design_nodes.specs.Fits.{IsOfKind}
+use Rattle.vh_design_nodes.specs.Kinds.{is_vector, is_variable, is_memory, is_forcible, is_event, is_disable_target, is_routine, is_system_task, is_system_function, is_scope}
+use Rattle.vh_design_nodes.specs.Widths.{width_of, signed_of, widest, all_signed}
+use Rattle.vh_design_code.specs.declared.code.Code.{Code}
+use Rattle.vh_design_code.specs.declared.code.Goes.{Goes}
+use Rattle.vh_design_code.specs.declared.code.Goes.TheVariants as goes
+use Rattle.vh_design_code.specs.declared.code.Instruction.{Instruction}
+use Rattle.vh_design_code.specs.declared.operation.CaseTest.{CaseTest}
+use Rattle.vh_design_code.specs.declared.operation.Loop.{Loop}
+use Rattle.vh_design_code.specs.declared.operation.Loop.TheVariants as turn
+use Rattle.vh_design_code.specs.declared.operation.Operation.{Operation}
+use Rattle.vh_design_code.specs.declared.operation.Operation.TheVariants as op
+use Rattle.vh_design_code.specs.declared.operation.Pause.{Pause}
+use Rattle.vh_design_code.specs.declared.operation.Pause.TheVariants as pause
+use Rattle.vh_design_code.specs.declared.operation.Returned.{Returned}
+use Rattle.vh_design_code.specs.declared.operation.Single.{Single}
+use Rattle.vh_design_code.specs.declared.operation.Single.TheVariants as single
+use Rattle.vh_design_code.specs.declared.show.ShowCall.{ShowCall}
+use Rattle.vh_design_code.specs.declared.statement.StmtInfo.{StmtInfo}
+use Rattle.vh_design_code.specs.declared.target.Delay.{Delay}
+use Rattle.vh_design_code.specs.declared.wait.Term.{Term}
+use Rattle.vh_design_code.specs.declared.wait.Term.TheVariants as term
+use Rattle.vh_design_code.specs.declared.wait.WaitInfo.{WaitInfo}
+use Rattle.vh_design_code.specs.Operations.{labels}
 use Rattle.vh_design.specs.Laws.{selected_exprs, Read, read, read_selected}
 use Rattle.vh_design.specs.Shape.{Shape}
 use Rattle.vh_design.specs.Validity.{CodeFits, IsValid}

@@ -1,22 +1,22 @@
 -- What the rules mean for the numbers of a design, rule by rule. (own)
 use Rattle.std.specs.Prelude.{◌≡◌, ◌<◌, ◌≤◌, ℕ, Bool, List, [], ◌∷◌, All, IfSome, Option, Some, None, slice_get}
-use Rattle.vh_nodes.specs.declared.driver.DriverInfo.{DriverInfo}
-use Rattle.vh_nodes.specs.declared.expr.Access.{Access}
-use Rattle.vh_nodes.specs.declared.expr.Access.TheVariants as access
-use Rattle.vh_nodes.specs.declared.expr.ExprKind.{ExprKind}
-use Rattle.vh_nodes.specs.declared.expr.ExprKind.TheVariants as kind
-use Rattle.vh_nodes.specs.declared.expr.ExprNode.{ExprNode}
-use Rattle.vh_nodes.specs.declared.expr.Select.{Select}
-use Rattle.vh_nodes.specs.declared.expr.Select.TheVariants as select
-use Rattle.vh_nodes.specs.declared.expr.Selected.{Selected}
-use Rattle.vh_nodes.specs.declared.fits.TheConstants.{MOST_UNIT}
-use Rattle.vh_nodes.specs.declared.object.Kind.{Kind}
-use Rattle.vh_nodes.specs.declared.object.ObjectInfo.{ObjectInfo}
-use Rattle.vh_nodes.specs.Kinds.{is_variable, is_memory, is_function, is_system_function, is_net}
+use Rattle.vh_design_nodes.specs.declared.driver.DriverInfo.{DriverInfo}
+use Rattle.vh_design_nodes.specs.declared.expr.Access.{Access}
+use Rattle.vh_design_nodes.specs.declared.expr.Access.TheVariants as access
+use Rattle.vh_design_nodes.specs.declared.expr.ExprKind.{ExprKind}
+use Rattle.vh_design_nodes.specs.declared.expr.ExprKind.TheVariants as kind
+use Rattle.vh_design_nodes.specs.declared.expr.ExprNode.{ExprNode}
+use Rattle.vh_design_nodes.specs.declared.expr.Select.{Select}
+use Rattle.vh_design_nodes.specs.declared.expr.Select.TheVariants as select
+use Rattle.vh_design_nodes.specs.declared.expr.Selected.{Selected}
+use Rattle.vh_design_nodes.specs.declared.fits.TheConstants.{MOST_UNIT}
+use Rattle.vh_design_nodes.specs.declared.object.Kind.{Kind}
+use Rattle.vh_design_nodes.specs.declared.object.ObjectInfo.{ObjectInfo}
+use Rattle.vh_design_nodes.specs.Kinds.{is_variable, is_memory, is_function, is_system_function, is_net}
 use Rattle.vh_design.specs.Shape.{Shape}
-use Rattle.vh_nodes.specs.Fits.{IsOfKind, may_be}
+use Rattle.vh_design_nodes.specs.Fits.{IsOfKind, may_be}
 use Rattle.vh_design.specs.Validity.{IsMeasured, IsValid}
-use Rattle.vh_nodes.specs.Widths.{operands}
+use Rattle.vh_design_nodes.specs.Widths.{operands}
 
 -- Some expressions, with that of a word's address where there is one.
 abbrev pub with_address : Option ℕ → List ℕ → List ℕ

@@ -1,12 +1,12 @@
 -- What contracts see of a design. (own)
 use Rattle.std.specs.Prelude.{ℕ, List}
-use Rattle.vh_nodes.specs.declared.driver.DriverInfo.{DriverInfo}
-use Rattle.vh_nodes.specs.declared.expr.ExprNode.{ExprNode}
-use Rattle.vh_nodes.specs.declared.object.ObjectInfo.{ObjectInfo}
-use Rattle.vh_code.specs.declared.code.Code.{Code}
-use Rattle.vh_code.specs.declared.show.ShowCall.{ShowCall}
-use Rattle.vh_code.specs.declared.statement.StmtInfo.{StmtInfo}
-use Rattle.vh_code.specs.declared.wait.WaitInfo.{WaitInfo}
+use Rattle.vh_design_nodes.specs.declared.driver.DriverInfo.{DriverInfo}
+use Rattle.vh_design_nodes.specs.declared.expr.ExprNode.{ExprNode}
+use Rattle.vh_design_nodes.specs.declared.object.ObjectInfo.{ObjectInfo}
+use Rattle.vh_design_code.specs.declared.code.Code.{Code}
+use Rattle.vh_design_code.specs.declared.show.ShowCall.{ShowCall}
+use Rattle.vh_design_code.specs.declared.statement.StmtInfo.{StmtInfo}
+use Rattle.vh_design_code.specs.declared.wait.WaitInfo.{WaitInfo}
 
 -- Its objects, expressions and drivers, the codes of its processes and the bodies of its tasks and functions, its
 -- waits, display calls and statements, each at its number, and the simulation's precision, from 0 for 1 fs to 17

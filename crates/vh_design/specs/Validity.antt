@@ -2,15 +2,15 @@
 use Rattle.std.specs.Prelude.{◌≡◌, ◌<◌, ◌≤◌, ◌^◌, ℕ, List, Bool, true, length, nat_le, Option, Some, slice_get}
 use Rattle.std.specs.Option.{option_and_then}
 use Rattle.vh_logic.specs.declared.vector.TheConstants.{MAX_WIDTH}
-use Rattle.vh_nodes.specs.declared.expr.ExprNode.{ExprNode}
-use Rattle.vh_nodes.specs.declared.object.Detail.{Detail}
-use Rattle.vh_nodes.specs.declared.fits.TheConstants.{MOST_UNIT}
-use Rattle.vh_nodes.specs.Fits.{body_number, fits_detail, fits_object, fits_node, fits_driver}
-use Rattle.vh_nodes.specs.Widths.{kind_width, kind_signed}
-use Rattle.vh_code.specs.declared.code.Code.{Code}
-use Rattle.vh_code.specs.declared.codes.Limits.{Limits}
-use Rattle.vh_code.specs.declared.show.ShowCall.{ShowCall}
-use Rattle.vh_code.specs.Codes.{fits_code, fits_wait, fits_show, fits_statement}
+use Rattle.vh_design_nodes.specs.declared.expr.ExprNode.{ExprNode}
+use Rattle.vh_design_nodes.specs.declared.object.Detail.{Detail}
+use Rattle.vh_design_nodes.specs.declared.fits.TheConstants.{MOST_UNIT}
+use Rattle.vh_design_nodes.specs.Fits.{body_number, fits_detail, fits_object, fits_node, fits_driver}
+use Rattle.vh_design_nodes.specs.Widths.{kind_width, kind_signed}
+use Rattle.vh_design_code.specs.declared.code.Code.{Code}
+use Rattle.vh_design_code.specs.declared.codes.Limits.{Limits}
+use Rattle.vh_design_code.specs.declared.show.ShowCall.{ShowCall}
+use Rattle.vh_design_code.specs.Codes.{fits_code, fits_wait, fits_show, fits_statement}
 use Rattle.vh_design.specs.Shape.{Shape}
 
 -- Each element passes a test of its number and itself.

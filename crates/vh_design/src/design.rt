@@ -1,9 +1,9 @@
 ghost use Rattle.std.specs.Prelude.{◌≡◌, ◌<◌, ◌≤◌, length, slice_get, Some, true, IfSome, SomeIff};
 ghost use Rattle.vh_logic.specs.declared.vector.TheConstants.{MAX_WIDTH};
-ghost use Rattle.vh_nodes.specs.Fits.{has_body, fits_kind, IsOfKind};
-ghost use Rattle.vh_nodes.specs.Kinds.{is_net, is_scope};
-ghost use Rattle.vh_nodes.specs.Widths.{width_of, signed_of};
-ghost use Rattle.vh_code.specs.Codes.{fits_wait};
+ghost use Rattle.vh_design_nodes.specs.Fits.{has_body, fits_kind, IsOfKind};
+ghost use Rattle.vh_design_nodes.specs.Kinds.{is_net, is_scope};
+ghost use Rattle.vh_design_nodes.specs.Widths.{width_of, signed_of};
+ghost use Rattle.vh_design_code.specs.Codes.{fits_wait};
 ghost use Rattle.vh_design.specs.Handed.{shape_of};
 ghost use Rattle.vh_design.specs.Validity.{body_at, CodeFits, CallFits, IsValid, IsCounted, IsMeasured, IsThere};
 
@@ -11,9 +11,9 @@ use crate::fitting::is_valid;
 use crate::parts::Parts;
 use std::marker::Model;
 use vh_base::{DriverId, ExprId, ObjId, ProcId, ShowId, WaitId};
-use vh_code::{Code, ShowCall, StmtInfo, WaitInfo};
+use vh_design_code::{Code, ShowCall, StmtInfo, WaitInfo};
+use vh_design_nodes::{DriverInfo, ExprNode, MOST_UNIT, ObjectInfo, body_number};
 use vh_logic::MAX_WIDTH;
-use vh_nodes::{DriverInfo, ExprNode, MOST_UNIT, ObjectInfo, body_number};
 
 /// A design that is valid by its type: contracts see the lists of its parts, each part at its
 /// number, and the simulation's precision.

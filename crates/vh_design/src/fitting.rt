@@ -1,14 +1,16 @@
 ghost use Rattle.std.specs.Prelude.{◌≡◌, ◌↔◌, length, IsTrue};
-ghost use Rattle.vh_nodes.specs.Fits.{fits_object, fits_node, fits_driver};
-ghost use Rattle.vh_code.specs.Codes.{fits_code, fits_wait, fits_show, fits_statement};
+ghost use Rattle.vh_design_nodes.specs.Fits.{fits_object, fits_node, fits_driver};
+ghost use Rattle.vh_design_code.specs.Codes.{fits_code, fits_wait, fits_show, fits_statement};
 ghost use Rattle.vh_design.specs.Handed.{shape_of};
 ghost use Rattle.vh_design.specs.Validity.{AllFit, CodesFit, CallsFit, NodesFit, NamesFit, IsValid, limits_of};
 
 use crate::parts::Parts;
-use vh_code::{
+use vh_design_code::{
     Code, Limits, ShowCall, StmtInfo, WaitInfo, fits_code, fits_show, fits_statement, fits_wait,
 };
-use vh_nodes::{DriverInfo, ExprNode, MOST_UNIT, ObjectInfo, fits_driver, fits_node, fits_object};
+use vh_design_nodes::{
+    DriverInfo, ExprNode, MOST_UNIT, ObjectInfo, fits_driver, fits_node, fits_object,
+};
 
 // Whether each object fits.
 fn objects_fit(exprs: usize, bodies: usize, objects: &[ObjectInfo]) -> bool

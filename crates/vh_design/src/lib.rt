@@ -12,7 +12,7 @@
 //! which of them its answer keeps, so that nothing above checks them again. [`design_laws`] says
 //! what the rules mean.
 //!
-//! It stands on `vh_base` for the numbers of things, and on `vh_nodes` and `vh_code` for the parts,
+//! It stands on `vh_base` for the numbers of things, and on `vh_design_nodes` and `vh_design_code` for the parts,
 //! which it hands on.
 #![tactic(auto)]
 
@@ -24,13 +24,13 @@ mod parts;
 pub use design::{Counts, Design};
 pub use laws::design_laws;
 pub use parts::Parts;
-pub use vh_code::{
+pub use vh_design_code::{
     Arm, Arms, Block, Blocks, CaseKind, CaseTest, Change, Code, Delay, Drive, DriverIds, Edge,
     Goes, Input, Inputs, Instruction, Instructions, Layer, Leave, Loop, Made, Operation, Output,
     Outputs, Pause, Places, Returned, Schedule, ShowArg, ShowArgs, ShowCall, ShowTask, Single,
     StmtInfo, StmtKind, Targets, Term, Terms, WaitInfo,
 };
-pub use vh_nodes::{
+pub use vh_design_nodes::{
     Access, Args, Arithmetic, Chosen, Comparison, Detail, DriverInfo, ExprIds, ExprKind, ExprNode,
     Kind, Link, Links, Logic, MOST_UNIT, Name, NetType, ObjectInfo, Range, Select, Selected, Shift,
     Unary, lowest_of,

@@ -1,5 +1,5 @@
-use vh_code::{Code, ShowCall, StmtInfo, WaitInfo};
-use vh_nodes::{DriverInfo, ExprNode, ObjectInfo};
+use vh_design_code::{Code, ShowCall, StmtInfo, WaitInfo};
+use vh_design_nodes::{DriverInfo, ExprNode, ObjectInfo};
 
 /// What a design is made of, each at its number: objects, expressions and drivers; the codes of
 /// its processes and the bodies of its tasks and functions; waits, display calls and statements;

@@ -1,7 +1,7 @@
 -- Lemmas on `specs/Calls.antt`: the text of a call, argument by argument.
 use Rattle.std.proofs.Common.{◌≡◌, ◌∙◌, ◌<◌, ◌≤◌, ◌+◌, ◌++◌, ℕ, List, length, get_or, drop, Option, sym, ap, append_assoc}
 use Rattle.std.proofs.lemmas.List.{at_drop_more, drop_all}
-use Rattle.vh_code.specs.declared.show.ShowArg.{ShowArg}
+use Rattle.vh_design_code.specs.declared.show.ShowArg.{ShowArg}
 use Rattle.vh_display.specs.declared.conversion.Conversion.{Conversion}
 use Rattle.vh_display.specs.declared.format.Mode.TheVariants as mode
 use Rattle.vh_display.specs.Formats.{front}

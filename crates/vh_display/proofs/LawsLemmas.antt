@@ -2,7 +2,7 @@
 use Rattle.std.proofs.Common.{◌≡◌, ◌∙◌, ℕ, ◌++◌, List, [], ◌∷◌, ◌==◌, if◌then◌else◌, Bool, not, true, false, Option, Some, None, refl, sym, ap}
 use Rattle.std.specs.List.{fold, list_all}
 use Rattle.std.proofs.lemmas.List.{append-nil}
-use Rattle.vh_nodes.proofs.FitsLemmas.{and_left, and_right}
+use Rattle.vh_design_nodes.proofs.FitsLemmas.{and_left, and_right}
 use Rattle.vh_display.specs.declared.conversion.Letter.{Letter}
 use Rattle.vh_display.specs.declared.conversion.Letter.TheVariants as letter
 use Rattle.vh_display.specs.declared.format.Mode.{Mode}

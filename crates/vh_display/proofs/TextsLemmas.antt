@@ -8,7 +8,7 @@ use Rattle.std.proofs.Math.Pow.{pow_mono}
 use Rattle.vh_logic.specs.declared.digits.Digit.{Digit}
 use Rattle.vh_logic.specs.declared.vector.TheConstants.{MAX_WIDTH}
 use Rattle.vh_logic.specs.Number.{number_of, digit_value}
-use Rattle.vh_nodes.proofs.FitsLemmas.{and_left, and_right}
+use Rattle.vh_design_nodes.proofs.FitsLemmas.{and_left, and_right}
 use Rattle.vh_eval.proofs.SelectsLemmas.{number_below, value_most}
 
 -- A test of each number below one, and what it says of each.

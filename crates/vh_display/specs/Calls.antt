@@ -2,17 +2,17 @@
 use Rattle.std.specs.Prelude.{ℕ, ◌-◌, ◌^◌, ◌++◌, List, [], ◌∷◌, Bool, false, Option, Some, None, slice_get}
 use Rattle.std.specs.List.{list_any}
 use Rattle.vh_text.specs.declared.radix.Radix.TheVariants as radix
-use Rattle.vh_code.specs.declared.show.ShowArg.{ShowArg}
-use Rattle.vh_code.specs.declared.show.ShowArg.TheVariants as arg
-use Rattle.vh_code.specs.declared.show.ShowCall.{ShowCall}
-use Rattle.vh_code.specs.declared.show.ShowTask.{ShowTask}
-use Rattle.vh_code.specs.declared.show.ShowTask.TheVariants as task
-use Rattle.vh_nodes.specs.declared.expr.ExprNode.{ExprNode}
+use Rattle.vh_design_code.specs.declared.show.ShowArg.{ShowArg}
+use Rattle.vh_design_code.specs.declared.show.ShowArg.TheVariants as arg
+use Rattle.vh_design_code.specs.declared.show.ShowCall.{ShowCall}
+use Rattle.vh_design_code.specs.declared.show.ShowTask.{ShowTask}
+use Rattle.vh_design_code.specs.declared.show.ShowTask.TheVariants as task
+use Rattle.vh_design_nodes.specs.declared.expr.ExprNode.{ExprNode}
 use Rattle.vh_design.specs.Shape.{Shape}
 use Rattle.vh_sense.specs.Reads.{reads}
 use Rattle.vh_store.specs.Contents.{Contents}
 use Rattle.vh_eval.specs.Value.{value_of, alone}
-use Rattle.vh_names.specs.Names.{full_name}
+use Rattle.vh_design_names.specs.Names.{full_name}
 use Rattle.vh_display.specs.declared.conversion.Conversion.{Conversion}
 use Rattle.vh_display.specs.declared.conversion.Form.TheVariants as form
 use Rattle.vh_display.specs.declared.format.Mode.TheVariants as mode

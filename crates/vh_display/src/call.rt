@@ -1,8 +1,8 @@
 ghost use Rattle.std.specs.Prelude.{◌≡◌, ◌<◌, ◌≤◌, ◌++◌, ◌^◌, ◌-◌, [], ℕ, List, true, length, IfOk, OnOk};
 ghost use Rattle.std.specs.List.{list_all, list_any};
 ghost use Rattle.std.specs.Option.{option_map};
-ghost use Rattle.vh_code.specs.Codes.{fits_arg};
-ghost use Rattle.vh_nodes.specs.declared.fits.TheConstants.{MOST_UNIT};
+ghost use Rattle.vh_design_code.specs.Codes.{fits_arg};
+ghost use Rattle.vh_design_nodes.specs.declared.fits.TheConstants.{MOST_UNIT};
 ghost use Rattle.vh_display.specs.Calls.{shown_text, arguments_text, with_argument, converted, line_end, argument_reads, call_reads};
 
 use crate::conversion::{Conversion, Form};
@@ -11,8 +11,8 @@ use crate::texts::push_value;
 use std::alloc::Global;
 use vh_base::{Bytes, ExprId, NoMemory, ObjId, ShowId};
 use vh_design::{Design, ShowArg, ShowTask};
+use vh_design_names::full_name;
 use vh_eval::eval;
-use vh_names::full_name;
 use vh_store::Store;
 use vh_text::Radix;
 

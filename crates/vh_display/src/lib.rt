@@ -5,7 +5,7 @@
 //! them, other arguments as `%d`, and the end of the line. [`reads`] tells whether an argument reads
 //! an object; [`display_laws`] says what the reading of formats means. Want of memory is the one free answer.
 //!
-//! It stands on `vh_eval` for values, on `vh_text` for numbers, on `vh_names` for `%m`,
+//! It stands on `vh_eval` for values, on `vh_text` for numbers, on `vh_design_names` for `%m`,
 //! and on `vh_sense` for what an expression reads.
 #![tactic(auto)]
 

@@ -4,8 +4,8 @@ use Rattle.std.specs.Prelude.{slice_get, if◌then◌else◌}
 use Rattle.std.specs.List.{list_any}
 use Rattle.vh_design.specs.Shape.{Shape}
 use Rattle.vh_design.specs.Validity.{AllFit, IsValid}
-use Rattle.vh_nodes.specs.declared.expr.ExprNode.{ExprNode}
-use Rattle.vh_nodes.specs.declared.object.ObjectInfo.{ObjectInfo}
+use Rattle.vh_design_nodes.specs.declared.expr.ExprNode.{ExprNode}
+use Rattle.vh_design_nodes.specs.declared.object.ObjectInfo.{ObjectInfo}
 use Rattle.vh_bind.specs.declared.nodes.TheConstants.{MOST_EXPRS}
 use Rattle.vh_bind.specs.Nodes.{AreSound}
 use Rattle.vh_elab.specs.Fitting.{all_fit, exprs_fit, is_design}

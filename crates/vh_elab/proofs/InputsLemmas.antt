@@ -2,8 +2,8 @@
 use Rattle.std.proofs.Common.{◌≡◌, ◌<◌, ◌≤◌, ℕ, true, List, length, Option, Some, None, Result, Ok, Err, sym, ap, subst}
 use Rattle.std.specs.Prelude.{IfOk, IfSome, OnOk}
 use Rattle.std.specs.Option.{option_map}
-use Rattle.vh_code.specs.declared.operation.Operation.{Operation}
-use Rattle.vh_nodes.specs.Fits.{all_before}
+use Rattle.vh_design_code.specs.declared.operation.Operation.{Operation}
+use Rattle.vh_design_nodes.specs.Fits.{all_before}
 use Rattle.vh_bind.proofs.FoldsLemmas.{numbers-below}
 use Rattle.vh_lower.specs.declared.fault.LowerFault.{LowerFault}
 use Rattle.vh_lower.specs.declared.fault.LowerFault.TheVariants as low

@@ -4,9 +4,9 @@ use Rattle.std.specs.Prelude.{slice_get}
 use Rattle.vh_base.specs.declared.faults.NoMemory.{NoMemory}
 use Rattle.vh_base.specs.declared.place.Place.{Place}
 use Rattle.vh_ast.specs.Items.{ModuleTree, SourceTree}
-use Rattle.vh_least.specs.Least.{Fault}
-use Rattle.vh_modules.specs.Modules.{top_of}
-use Rattle.vh_modules.specs.Views.{IsTop}
+use Rattle.vh_bind_least.specs.Least.{Fault}
+use Rattle.vh_elab_modules.specs.Modules.{top_of}
+use Rattle.vh_elab_modules.specs.Views.{IsTop}
 use Rattle.vh_elab.specs.declared.design.Elaboration.{Elaboration}
 use Rattle.vh_elab.specs.Elaborated.{elaborated, from_top, refused_or}
 use Rattle.vh_elab.specs.Views.{Elaborates}

@@ -3,35 +3,35 @@
 use Rattle.std.specs.Prelude.{ℕ, ◌+◌, ◌-◌, Bool, true, List, [], ◌∷◌, ◌++◌, length, if◌then◌else◌, ◌==◌, nat_lt, Option, Some, None, Result, Ok, Err, drop}
 use Rattle.vh_base.specs.declared.faults.DesignFault.TheVariants.{N7, N11}
 use Rattle.vh_base.specs.declared.place.Place.{Place}
-use Rattle.vh_nodes.specs.declared.expr.ExprKind.{ExprKind}
-use Rattle.vh_nodes.specs.declared.expr.ExprKind.TheVariants as kind
-use Rattle.vh_nodes.specs.declared.object.ObjectInfo.{ObjectInfo}
-use Rattle.vh_code.specs.declared.code.Code.{Code}
-use Rattle.vh_code.specs.declared.operation.Operation.{Operation}
-use Rattle.vh_code.specs.declared.target.Delay.{Delay}
+use Rattle.vh_design_nodes.specs.declared.expr.ExprKind.{ExprKind}
+use Rattle.vh_design_nodes.specs.declared.expr.ExprKind.TheVariants as kind
+use Rattle.vh_design_nodes.specs.declared.object.ObjectInfo.{ObjectInfo}
+use Rattle.vh_design_code.specs.declared.code.Code.{Code}
+use Rattle.vh_design_code.specs.declared.operation.Operation.{Operation}
+use Rattle.vh_design_code.specs.declared.target.Delay.{Delay}
 use Rattle.vh_ast.specs.declared.instance.GateType.{GateType}
 use Rattle.vh_ast.specs.Expressions.{ExprTree}
 use Rattle.vh_ast.specs.Items.{GateTree}
 use Rattle.vh_ast.specs.Statements.{DelayTree, StmtTree}
-use Rattle.vh_scope.specs.Names.{Names}
+use Rattle.vh_bind_scope.specs.Names.{Names}
 use Rattle.vh_bind.specs.Constants.{with_number}
 use Rattle.vh_bind.specs.Scopes.{Scope, here}
 use Rattle.vh_bind.specs.Selects.{Outcome, with_ok, with_some}
 use Rattle.vh_bind.specs.Steps.{Nodes}
 use Rattle.vh_bind_stmt.specs.Calls.{Surroundings}
-use Rattle.vh_flow.specs.declared.code_kind.CodeKind.{CodeKind}
-use Rattle.vh_flow.specs.declared.code_kind.CodeKind.TheVariants as code_of
+use Rattle.vh_lower_flow.specs.declared.code_kind.CodeKind.{CodeKind}
+use Rattle.vh_lower_flow.specs.declared.code_kind.CodeKind.TheVariants as code_of
 use Rattle.vh_lower.specs.Making.{Added, Making}
 use Rattle.vh_lower.specs.Processes.{initial_code, drive_code}
 use Rattle.vh_lower.specs.Statements.{lowered}
-use Rattle.vh_least.specs.Least.{Fault, fault_if, least}
-use Rattle.vh_sites.specs.declared.site.CodeWord.{CodeWord}
-use Rattle.vh_sites.specs.declared.site.CodeWord.TheVariants as word
-use Rattle.vh_sites.specs.Sites.{Driven, net_of, target_of}
-use Rattle.vh_declare.specs.Objects.{around_in}
-use Rattle.vh_declare.specs.Constants.{Genvars, genvars_in}
-use Rattle.vh_drives.specs.Nets.{Drivers, driver, drivers_sum, output_drivers, target_drivers, width_at}
-use Rattle.vh_drives.specs.Gates.{gate_code, gate_delay, has_terminals, input_of}
+use Rattle.vh_bind_least.specs.Least.{Fault, fault_if, least}
+use Rattle.vh_elab_sites.specs.declared.site.CodeWord.{CodeWord}
+use Rattle.vh_elab_sites.specs.declared.site.CodeWord.TheVariants as word
+use Rattle.vh_elab_sites.specs.Sites.{Driven, net_of, target_of}
+use Rattle.vh_elab_declare.specs.Objects.{around_in}
+use Rattle.vh_elab_declare.specs.Constants.{Genvars, genvars_in}
+use Rattle.vh_elab_drives.specs.Nets.{Drivers, driver, drivers_sum, output_drivers, target_drivers, width_at}
+use Rattle.vh_elab_drives.specs.Gates.{gate_code, gate_delay, has_terminals, input_of}
 use Rattle.vh_elab.specs.declared.counts.TheConstants.{MOST_COUNTED}
 use Rattle.vh_elab.specs.Routines.{Routines}
 

@@ -10,18 +10,18 @@ use Rattle.vh_ast.specs.declared.port.Direction.{Direction}
 use Rattle.vh_ast.specs.declared.port.Direction.TheVariants as goes
 use Rattle.vh_ast.specs.Expressions.{ExprTree, place_of}
 use Rattle.vh_ast.specs.Items.{ConnTree, ordered, by_name, InstTree, ModuleTree}
-use Rattle.vh_nodes.specs.Kinds.{is_net, is_vector}
-use Rattle.vh_nodes.specs.Fits.{has_kind}
-use Rattle.vh_scope.specs.Names.{meaning_in}
-use Rattle.vh_scope.specs.LookUp.{object_meant}
+use Rattle.vh_design_nodes.specs.Kinds.{is_net, is_vector}
+use Rattle.vh_design_nodes.specs.Fits.{has_kind}
+use Rattle.vh_bind_scope.specs.Names.{meaning_in}
+use Rattle.vh_bind_scope.specs.LookUp.{object_meant}
 use Rattle.vh_bind.specs.Scopes.{here}
 use Rattle.vh_bind_stmt.specs.Calls.{Surroundings}
-use Rattle.vh_index.specs.First.{first_named}
-use Rattle.vh_least.specs.Least.{Fault, least, fault_if}
-use Rattle.vh_ports.specs.Ports.{Directed, header_ids, is_first, port_at, port_index}
-use Rattle.vh_walk.specs.Overrides.{is_by_name, is_ordered}
-use Rattle.vh_drives.specs.Nets.{output_drivers}
-use Rattle.vh_drives.specs.Gates.{port_code}
+use Rattle.vh_elab_index.specs.First.{first_named}
+use Rattle.vh_bind_least.specs.Least.{Fault, least, fault_if}
+use Rattle.vh_elab_ports.specs.Ports.{Directed, header_ids, is_first, port_at, port_index}
+use Rattle.vh_elab_walk.specs.Overrides.{is_by_name, is_ordered}
+use Rattle.vh_elab_drives.specs.Nets.{output_drivers}
+use Rattle.vh_elab_drives.specs.Gates.{port_code}
 use Rattle.vh_elab.specs.Coded.{Coding, Ready, drive_coded, looked_by, tried, whole_driver, with_code, with_drivers, with_fault}
 
 -- What is connected to a port: an expression, and where the entry begins.

@@ -7,22 +7,22 @@ use Rattle.vh_ast.specs.Items.{InstTree, ModuleTree, SourceTree}
 use Rattle.vh_ast.specs.declared.token.Id.{Id}
 use Rattle.std.specs.Option.{option_and_then}
 use Rattle.vh_logic.specs.Vector.{Vector}
-use Rattle.vh_nodes.specs.declared.expr.ExprKind.{ExprKind}
-use Rattle.vh_nodes.specs.declared.expr.ExprKind.TheVariants as kind
-use Rattle.vh_nodes.specs.declared.object.ObjectInfo.{ObjectInfo}
-use Rattle.vh_nodes.specs.Fits.{is_unit}
+use Rattle.vh_design_nodes.specs.declared.expr.ExprKind.{ExprKind}
+use Rattle.vh_design_nodes.specs.declared.expr.ExprKind.TheVariants as kind
+use Rattle.vh_design_nodes.specs.declared.object.ObjectInfo.{ObjectInfo}
+use Rattle.vh_design_nodes.specs.Fits.{is_unit}
 use Rattle.vh_design.specs.Shape.{Shape}
 use Rattle.vh_bind.specs.Steps.{Nodes}
 use Rattle.vh_bind_stmt.specs.Calls.{Surroundings}
-use Rattle.vh_least.specs.Least.{Fault}
-use Rattle.vh_sites.specs.declared.site.CodeWord.{CodeWord}
-use Rattle.vh_sites.specs.declared.site.CodeWord.TheVariants as word
-use Rattle.vh_sites.specs.Sites as S
-use Rattle.vh_sites.specs.Sites.{Declared, SiteTree, variable, words, named_event, code, named_block, result, argument, net, wire, port, drives, gate, genvar, gen_block, loop_name, child}
-use Rattle.vh_modules.specs.Modules.{module_named, modules_fault, top_of}
-use Rattle.vh_walk.specs.Order.{Placed, Walk, Walked, instances_of, least_precision}
-use Rattle.vh_walk.specs.Order as W
-use Rattle.vh_declare.specs.Constants.{literal_node}
+use Rattle.vh_bind_least.specs.Least.{Fault}
+use Rattle.vh_elab_sites.specs.declared.site.CodeWord.{CodeWord}
+use Rattle.vh_elab_sites.specs.declared.site.CodeWord.TheVariants as word
+use Rattle.vh_elab_sites.specs.Sites as S
+use Rattle.vh_elab_sites.specs.Sites.{Declared, SiteTree, variable, words, named_event, code, named_block, result, argument, net, wire, port, drives, gate, genvar, gen_block, loop_name, child}
+use Rattle.vh_elab_modules.specs.Modules.{module_named, modules_fault, top_of}
+use Rattle.vh_elab_walk.specs.Order.{Placed, Walk, Walked, instances_of, least_precision}
+use Rattle.vh_elab_walk.specs.Order as W
+use Rattle.vh_elab_declare.specs.Constants.{literal_node}
 use Rattle.vh_elab.specs.Routines.{routines_of}
 use Rattle.vh_elab.specs.Coded.{Coding, Ready, assignment_coded, counted, gate_coded, is_full, only_values, statement_coded, surroundings_at, value_coded}
 use Rattle.vh_elab.specs.Connected.{connected, object_at}

@@ -1,11 +1,11 @@
 -- Do parts make a design? The rules of `vh_design` as a test. (own)
 use Rattle.std.specs.Prelude.{ℕ, ◌+◌, Bool, true, false, ◌&&◌, if◌then◌else◌, List, [], ◌∷◌, length, nat_le, nat_lt}
-use Rattle.vh_nodes.specs.declared.expr.ExprNode.{ExprNode}
-use Rattle.vh_nodes.specs.declared.object.ObjectInfo.{ObjectInfo}
-use Rattle.vh_nodes.specs.declared.fits.TheConstants.{MOST_UNIT}
-use Rattle.vh_nodes.specs.Fits.{fits_object, fits_node, fits_driver}
-use Rattle.vh_code.specs.declared.code.Code.{Code}
-use Rattle.vh_code.specs.Codes.{fits_code, fits_wait, fits_show, fits_statement}
+use Rattle.vh_design_nodes.specs.declared.expr.ExprNode.{ExprNode}
+use Rattle.vh_design_nodes.specs.declared.object.ObjectInfo.{ObjectInfo}
+use Rattle.vh_design_nodes.specs.declared.fits.TheConstants.{MOST_UNIT}
+use Rattle.vh_design_nodes.specs.Fits.{fits_object, fits_node, fits_driver}
+use Rattle.vh_design_code.specs.declared.code.Code.{Code}
+use Rattle.vh_design_code.specs.Codes.{fits_code, fits_wait, fits_show, fits_statement}
 use Rattle.vh_design.specs.Shape.{Shape}
 use Rattle.vh_bind.specs.declared.nodes.TheConstants.{MOST_EXPRS}
 use Rattle.vh_design.specs.Validity.{limits_of}

@@ -1,7 +1,7 @@
 -- How contracts see what the code holds.
 use Rattle.std.specs.Prelude.{◌≡◌, ℕ, true, List, Vec, map, IfOk, OnOk, Option, Some, None, Result, Ok, Err}
 use Rattle.vh_base.specs.declared.faults.NoMemory.{NoMemory}
-use Rattle.vh_nodes.specs.Fits.{is_unit}
+use Rattle.vh_design_nodes.specs.Fits.{is_unit}
 use Rattle.vh_bind.specs.declared.scope.Mode.TheVariants as mode
 use Rattle.vh_bind.specs.Nodes.{AreSound, IsSound}
 use Rattle.vh_bind.specs.Steps.{Nodes}
@@ -14,9 +14,9 @@ use Rattle.vh_lower.specs.declared.fault.LowerFault.{LowerFault}
 use Rattle.vh_lower.specs.declared.fault.LowerFault.TheVariants as low
 use Rattle.vh_logic.specs.Vector.{Vector}
 use Rattle.vh_lower.specs.Views.{added_seen}
-use Rattle.vh_code.specs.declared.code.Code.{Code}
-use Rattle.vh_code.specs.declared.operation.Operation.{Operation}
-use Rattle.vh_code.specs.declared.target.Delay.{Delay}
+use Rattle.vh_design_code.specs.declared.code.Code.{Code}
+use Rattle.vh_design_code.specs.declared.operation.Operation.{Operation}
+use Rattle.vh_design_code.specs.declared.target.Delay.{Delay}
 use Rattle.vh_elab.specs.declared.coding.Coding as codes
 use Rattle.vh_elab.specs.declared.coding.Coder as code
 use Rattle.vh_elab.specs.declared.gates.Inputs as gates
@@ -24,7 +24,7 @@ use Rattle.vh_elab.specs.declared.coding.Ready as instances
 use Rattle.vh_elab.specs.declared.connected.Outer as outer
 use Rattle.vh_ast.specs.Items.{SourceTree}
 use Rattle.vh_ast.specs.Views.{expr_tree}
-use Rattle.vh_walk.specs.Views.{IsSource, source_seen}
+use Rattle.vh_elab_walk.specs.Views.{IsSource, source_seen}
 use Rattle.vh_elab.specs.declared.routines.Routines as calls
 use Rattle.vh_elab.specs.declared.second_pass.Pass as all
 use Rattle.vh_elab.specs.declared.design.Elaboration.{Elaboration}
@@ -32,9 +32,9 @@ use Rattle.vh_elab.specs.declared.design.Elaboration.TheVariants as it
 use Rattle.vh_elab.specs.Routines.{Routines}
 use Rattle.vh_elab.specs.Coded.{Coding, Inputs, Ready, looked_by, tried_by, with_drivers}
 use Rattle.vh_elab.specs.Connected.{Outer}
-use Rattle.vh_drives.specs.Nets.{Drivers}
+use Rattle.vh_elab_drives.specs.Nets.{Drivers}
 use Rattle.vh_elab.specs.Elaborated.{Elaborated, made, refused, later}
-use Rattle.vh_declare.specs.Constants.{literal_node}
+use Rattle.vh_elab_declare.specs.Constants.{literal_node}
 
 abbrev pub routines_seen : calls.Routines → Routines
 routines_seen r = record { routines = r.routines.items; arguments = r.arguments.items }

@@ -4,7 +4,7 @@ ghost use Rattle.vh_ast.specs.Views.{delay_tree, expr_tree, stmt_tree};
 ghost use Rattle.vh_bind.specs.Steps.{Gives};
 ghost use Rattle.vh_bind.specs.Views.{scope_seen};
 ghost use Rattle.vh_lower.specs.Views.{added_seen};
-ghost use Rattle.vh_sites.specs.Views.{driven_seen};
+ghost use Rattle.vh_elab_sites.specs.Views.{driven_seen};
 ghost use Rattle.vh_elab.specs.Coded;
 ghost use Rattle.vh_elab.specs.Views.{Becomes, Codes, DrivesBy, Looks, Puts, Stands, Tries, coding_seen, ready_seen};
 
@@ -14,17 +14,17 @@ use std::alloc::Global;
 use vh_ast::{Delay, Expr, Stmt};
 use vh_base::{DesignFault, DriverId, NoMemory, ObjId, Place, Sequence};
 use vh_bind::{ElabFault, Scope};
+use vh_bind_least::{Fault, least};
+use vh_bind_scope::Names;
 use vh_bind_stmt::Surroundings;
-use vh_code::{Code, DriverIds};
-use vh_declare::Genvars;
-use vh_drives::{Drivers, Driving, object_width, target_drivers};
-use vh_flow::CodeKind;
-use vh_least::{Fault, least};
+use vh_design_code::{Code, DriverIds};
+use vh_design_nodes::{DriverInfo, ExprKind, ExprNode, ObjectInfo};
+use vh_elab_declare::Genvars;
+use vh_elab_drives::{Drivers, Driving, object_width, target_drivers};
+use vh_elab_sites::Driven;
 use vh_logic::Vec4;
 use vh_lower::{Added, LowerFault, Maker, drive_code, initial_code, lower};
-use vh_nodes::{DriverInfo, ExprKind, ExprNode, ObjectInfo};
-use vh_scope::Names;
-use vh_sites::Driven;
+use vh_lower_flow::CodeKind;
 
 // The instances, of which all constants are known.
 #[derive(Clone, Copy)]

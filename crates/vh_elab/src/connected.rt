@@ -2,12 +2,12 @@ ghost use Rattle.std.specs.Prelude.{◌≡◌, map, true, None, IfOk};
 ghost use Rattle.std.specs.List.{list_any};
 ghost use Rattle.std.specs.Option.{option_map};
 ghost use Rattle.vh_ast.specs.Items.{by_name, ordered};
-ghost use Rattle.vh_nodes.specs.Fits.{has_kind};
-ghost use Rattle.vh_nodes.specs.Kinds;
+ghost use Rattle.vh_design_nodes.specs.Fits.{has_kind};
+ghost use Rattle.vh_design_nodes.specs.Kinds;
 ghost use Rattle.vh_ast.specs.Views.{conn_tree, expr_tree, inst_tree, module_tree};
-ghost use Rattle.vh_ports.specs.Ports.{is_first, port_at};
-ghost use Rattle.vh_ports.specs.Views.{ids_seen};
-ghost use Rattle.vh_walk.specs.Overrides;
+ghost use Rattle.vh_elab_ports.specs.Ports.{is_first, port_at};
+ghost use Rattle.vh_elab_ports.specs.Views.{ids_seen};
+ghost use Rattle.vh_elab_walk.specs.Overrides;
 ghost use Rattle.vh_elab.specs.Connected;
 ghost use Rattle.vh_elab.specs.Views.{Becomes, Codes, HasObjects, Stands, outer_seen, ready_of, ready_seen};
 
@@ -15,14 +15,14 @@ use crate::coding::{Coder, Ready, code_input_value, put_code, put_drivers, take_
 use std::alloc::Global;
 use vh_ast::{Conn, Direction, Expr, Id, Inst};
 use vh_base::{DesignFault, NoMemory, ObjId, Place};
+use vh_bind_least::{Fault, fault_if, least};
 use vh_bind_stmt::object_of;
-use vh_code::DriverIds;
-use vh_drives::{is_net_at, output_drivers, port_code};
-use vh_index::Index;
-use vh_least::{Fault, fault_if, least};
+use vh_design_code::DriverIds;
+use vh_design_nodes::is_vector_at;
+use vh_elab_drives::{is_net_at, output_drivers, port_code};
+use vh_elab_index::Index;
+use vh_elab_ports::Ports;
 use vh_lower::Maker;
-use vh_nodes::is_vector_at;
-use vh_ports::Ports;
 
 // What is connected to a port, and where its entry begins.
 #[derive(Clone, Copy)]

@@ -4,8 +4,8 @@ ghost use Rattle.vh_ast.specs.Views.{module_tree, source_tree};
 ghost use Rattle.vh_bind.specs.Nodes.{AreSound};
 ghost use Rattle.vh_design.specs.Handed;
 ghost use Rattle.vh_design.specs.Validity.{IsCounted};
-ghost use Rattle.vh_walk.specs.Order;
-ghost use Rattle.vh_walk.specs.Views.{IsSource, placed_seen, source_seen, walk_seen, walked_seen};
+ghost use Rattle.vh_elab_walk.specs.Order;
+ghost use Rattle.vh_elab_walk.specs.Views.{IsSource, placed_seen, source_seen, walk_seen, walked_seen};
 ghost use Rattle.vh_elab.specs.Elaborated;
 ghost use Rattle.vh_elab.specs.Fitting;
 ghost use Rattle.vh_elab.specs.Views.{Elaborates, GoesOn, GoesTo, coding_seen, ready_seen, values_seen};
@@ -17,14 +17,14 @@ use std::alloc::Global;
 use vh_ast::{Module, Source};
 use vh_base::{DesignFault, NoMemory, Place};
 use vh_bind::MOST_EXPRS;
-use vh_declare::Known;
 use vh_design::{Design, Parts};
-use vh_index::Index;
+use vh_design_nodes::{ExprKind, ExprNode, ObjectInfo, fits_node, is_unit};
+use vh_elab_declare::Known;
+use vh_elab_index::Index;
+use vh_elab_modules::{named, top_of};
+use vh_elab_ports::{Ports, ports_of};
+use vh_elab_walk::{Modules, Placed, Walk, Walked, instances_of};
 use vh_logic::Vec4;
-use vh_modules::{named, top_of};
-use vh_nodes::{ExprKind, ExprNode, ObjectInfo, fits_node, is_unit};
-use vh_ports::{Ports, ports_of};
-use vh_walk::{Modules, Placed, Walk, Walked, instances_of};
 
 /// What comes of a source.
 #[derive(Drop)]

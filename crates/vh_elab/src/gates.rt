@@ -1,12 +1,12 @@
 ghost use Rattle.std.specs.Prelude.{◌≡◌, ◌<◌, ◌∷◌, length, map, true, Some, IfOk, IfSome};
 ghost use Rattle.std.specs.Option.{option_map};
-ghost use Rattle.vh_nodes.specs.Fits.{all_before};
+ghost use Rattle.vh_design_nodes.specs.Fits.{all_before};
 ghost use Rattle.vh_ast.specs.Views.{delay_tree, expr_tree, gate_tree};
 ghost use Rattle.vh_bind.specs.Scopes.{here};
 ghost use Rattle.vh_bind.specs.Steps.{Gives};
 ghost use Rattle.vh_bind.specs.Views.{numbers_of, scope_seen};
-ghost use Rattle.vh_drives.specs.Gates;
-ghost use Rattle.vh_drives.specs.Nets;
+ghost use Rattle.vh_elab_drives.specs.Gates;
+ghost use Rattle.vh_elab_drives.specs.Nets;
 ghost use Rattle.vh_elab.specs.Coded;
 ghost use Rattle.vh_elab.specs.Views.{Becomes, BecomesWith, Codes, Stands, coding_of, delay_made, inputs_seen};
 
@@ -16,12 +16,12 @@ use std::alloc::Global;
 use vh_ast::{Delay, Expr, Gate, GateType};
 use vh_base::{DesignFault, ExprId, NoMemory, Place, Sequence};
 use vh_bind::{ElabFault, Scope, with_number};
-use vh_code::{Delay as Wait, DriverIds, Operation};
-use vh_drives::{
+use vh_design_code::{Delay as Wait, DriverIds, Operation};
+use vh_design_nodes::{ExprIds, ExprNode};
+use vh_elab_drives::{
     Driving, drivers_sum, gate_code, gate_delay, gate_input, has_terminals, output_drivers,
 };
 use vh_lower::Maker;
-use vh_nodes::{ExprIds, ExprNode};
 
 // The output of a gate has one digit.
 fn output_one(alloc: Global, scope: &Scope, nodes: &[ExprNode], place: Place, e: &Expr) -> Driving

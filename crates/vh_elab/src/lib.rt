@@ -4,8 +4,8 @@
 //! the source's tree: the design, whose parts the rules of `vh_design` hold for; or the least
 //! fault; or that the source has what comes later.
 //!
-//! It stands on `vh_modules` for the top, on `vh_walk` for the instances and the first pass, on
-//! `vh_drives` for continuous assignments, gates and ports, and on `vh_lower` for the codes of
+//! It stands on `vh_elab_modules` for the top, on `vh_elab_walk` for the instances and the first pass, on
+//! `vh_elab_drives` for continuous assignments, gates and ports, and on `vh_lower` for the codes of
 //! statements.
 #![tactic(auto)]
 

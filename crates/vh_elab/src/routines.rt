@@ -1,17 +1,17 @@
 ghost use Rattle.std.specs.Prelude.{◌≡◌, ◌++◌, ◌∷◌, [], map, IfOk, OnOk};
 ghost use Rattle.vh_bind_stmt.specs.declared.surroundings.Argument.{Argument};
-ghost use Rattle.vh_sites.specs.Views.{all_seen, declared_seen, site_seen};
+ghost use Rattle.vh_elab_sites.specs.Views.{all_seen, declared_seen, site_seen};
 ghost use Rattle.vh_elab.specs.Routines as spec;
-ghost use Rattle.vh_walk.specs.Views.{placed_seen};
+ghost use Rattle.vh_elab_walk.specs.Views.{placed_seen};
 ghost use Rattle.vh_elab.specs.Views.{routines_seen};
 
 use std::alloc::Global;
 use vh_base::{NoMemory, ObjId, Sequence};
 use vh_bind::{Directions, Routine};
 use vh_bind_stmt::{Argument, Arguments};
-use vh_declare::is_routine;
-use vh_sites::{CodeWord, Declared, Site, Thing};
-use vh_walk::Placed;
+use vh_elab_declare::is_routine;
+use vh_elab_sites::{CodeWord, Declared, Site, Thing};
+use vh_elab_walk::Placed;
 
 // What is known of all tasks and functions, by the numbers of their bodies.
 #[derive(Drop)]

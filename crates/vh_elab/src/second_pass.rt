@@ -1,13 +1,13 @@
 ghost use Rattle.std.specs.Prelude.{◌≡◌, true, OnOk};
 ghost use Rattle.std.specs.Option.{option_map};
-ghost use Rattle.vh_nodes.specs.Fits.{is_unit};
+ghost use Rattle.vh_design_nodes.specs.Fits.{is_unit};
 ghost use Rattle.vh_ast.specs.Views.{inst_tree, module_tree, stmt_tree};
 ghost use Rattle.vh_bind.specs.declared.scope.Mode.TheVariants as mode;
 ghost use Rattle.vh_bind.specs.Nodes.{IsSound};
 ghost use Rattle.vh_bind_stmt.specs.Views.{surroundings_seen};
-ghost use Rattle.vh_modules.specs.Modules.{module_named};
-ghost use Rattle.vh_sites.specs.Views.{all_seen, declared_seen, site_seen};
-ghost use Rattle.vh_walk.specs.Views.{IsSource, source_seen};
+ghost use Rattle.vh_elab_modules.specs.Modules.{module_named};
+ghost use Rattle.vh_elab_sites.specs.Views.{all_seen, declared_seen, site_seen};
+ghost use Rattle.vh_elab_walk.specs.Views.{IsSource, source_seen};
 ghost use Rattle.vh_elab.specs.Coded;
 ghost use Rattle.vh_elab.specs.Elaborated;
 ghost use Rattle.vh_elab.specs.Views.{Becomes, Codes, GoesOn, GoesTo, HasObjects, Stands, coding_seen, ready_seen};
@@ -20,14 +20,14 @@ use std::alloc::Global;
 use vh_ast::{Id, Inst, Stmt};
 use vh_base::{NoMemory, ObjId};
 use vh_bind::Scope;
+use vh_bind_scope::Top;
 use vh_bind_stmt::Surroundings;
-use vh_declare::{around, genvars_in};
-use vh_flow::CodeKind;
-use vh_nodes::ExprNode;
-use vh_ports::Ports;
-use vh_scope::Top;
-use vh_sites::{CodeWord, Declared, Site, Thing};
-use vh_walk::Modules;
+use vh_design_nodes::ExprNode;
+use vh_elab_declare::{around, genvars_in};
+use vh_elab_ports::Ports;
+use vh_elab_sites::{CodeWord, Declared, Site, Thing};
+use vh_elab_walk::Modules;
+use vh_lower_flow::CodeKind;
 
 // What the second pass reads: the modules, the instances, and the values of parameters as
 // expressions.

@@ -7,22 +7,22 @@ use Rattle.vh_logic.specs.Vector.{Vector}
 use Rattle.vh_logic.specs.Number.{integer_of}
 use Rattle.vh_logic.specs.Parts.{resized, concatenation}
 use Rattle.vh_logic.specs.Reduce.{truth_of}
-use Rattle.vh_nodes.specs.declared.expr.Arithmetic.{Arithmetic}
-use Rattle.vh_nodes.specs.declared.expr.Access.TheVariants as access
-use Rattle.vh_nodes.specs.declared.expr.Comparison.{Comparison}
-use Rattle.vh_nodes.specs.declared.expr.ExprKind.{ExprKind}
-use Rattle.vh_nodes.specs.declared.expr.ExprKind.TheVariants as kind
-use Rattle.vh_nodes.specs.declared.expr.ExprNode.{ExprNode}
-use Rattle.vh_nodes.specs.declared.expr.Link.{Link}
-use Rattle.vh_nodes.specs.declared.expr.Logic.{Logic}
-use Rattle.vh_nodes.specs.declared.expr.Select.{Select}
-use Rattle.vh_nodes.specs.declared.expr.Select.TheVariants as select
-use Rattle.vh_nodes.specs.declared.expr.Selected.{Selected}
-use Rattle.vh_nodes.specs.declared.expr.Shift.{Shift}
-use Rattle.vh_nodes.specs.Fits.{all_before, fits_word, fits_select, fits_selected, fits_kind, has_kind}
-use Rattle.vh_nodes.specs.Kinds.{is_memory}
-use Rattle.vh_nodes.specs.Widths.{width_of, signed_of, operands, is_reduction}
-use Rattle.vh_nodes.proofs.FitsLemmas.{and_left, and_right}
+use Rattle.vh_design_nodes.specs.declared.expr.Arithmetic.{Arithmetic}
+use Rattle.vh_design_nodes.specs.declared.expr.Access.TheVariants as access
+use Rattle.vh_design_nodes.specs.declared.expr.Comparison.{Comparison}
+use Rattle.vh_design_nodes.specs.declared.expr.ExprKind.{ExprKind}
+use Rattle.vh_design_nodes.specs.declared.expr.ExprKind.TheVariants as kind
+use Rattle.vh_design_nodes.specs.declared.expr.ExprNode.{ExprNode}
+use Rattle.vh_design_nodes.specs.declared.expr.Link.{Link}
+use Rattle.vh_design_nodes.specs.declared.expr.Logic.{Logic}
+use Rattle.vh_design_nodes.specs.declared.expr.Select.{Select}
+use Rattle.vh_design_nodes.specs.declared.expr.Select.TheVariants as select
+use Rattle.vh_design_nodes.specs.declared.expr.Selected.{Selected}
+use Rattle.vh_design_nodes.specs.declared.expr.Shift.{Shift}
+use Rattle.vh_design_nodes.specs.Fits.{all_before, fits_word, fits_select, fits_selected, fits_kind, has_kind}
+use Rattle.vh_design_nodes.specs.Kinds.{is_memory}
+use Rattle.vh_design_nodes.specs.Widths.{width_of, signed_of, operands, is_reduction}
+use Rattle.vh_design_nodes.proofs.FitsLemmas.{and_left, and_right}
 use Rattle.vh_design.specs.Shape.{Shape}
 use Rattle.vh_design.proofs.ValidityLemmas.{node_kind}
 use Rattle.vh_store.specs.Contents.{Contents}

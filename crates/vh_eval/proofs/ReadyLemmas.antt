@@ -9,16 +9,16 @@ use Rattle.vh_logic.specs.declared.vector.TheConstants.{MAX_WIDTH}
 use Rattle.vh_logic.specs.Vector.{Vector}
 use Rattle.vh_logic.specs.Parts.{resized, concatenation}
 use Rattle.vh_logic.specs.Reduce.{truth_of}
-use Rattle.vh_nodes.specs.declared.expr.Arithmetic.{Arithmetic}
-use Rattle.vh_nodes.specs.declared.expr.Comparison.{Comparison}
-use Rattle.vh_nodes.specs.declared.expr.ExprNode.{ExprNode}
-use Rattle.vh_nodes.specs.declared.expr.Link.{Link}
-use Rattle.vh_nodes.specs.declared.expr.Logic.{Logic}
-use Rattle.vh_nodes.specs.declared.expr.Shift.{Shift}
-use Rattle.vh_nodes.specs.Fits.{all_before}
-use Rattle.vh_nodes.specs.Widths.{width_of, operands, summed, widest}
-use Rattle.vh_nodes.proofs.FitsLemmas.{and_left, and_right}
-use Rattle.vh_nodes.proofs.WidthsLemmas.{widest-each}
+use Rattle.vh_design_nodes.specs.declared.expr.Arithmetic.{Arithmetic}
+use Rattle.vh_design_nodes.specs.declared.expr.Comparison.{Comparison}
+use Rattle.vh_design_nodes.specs.declared.expr.ExprNode.{ExprNode}
+use Rattle.vh_design_nodes.specs.declared.expr.Link.{Link}
+use Rattle.vh_design_nodes.specs.declared.expr.Logic.{Logic}
+use Rattle.vh_design_nodes.specs.declared.expr.Shift.{Shift}
+use Rattle.vh_design_nodes.specs.Fits.{all_before}
+use Rattle.vh_design_nodes.specs.Widths.{width_of, operands, summed, widest}
+use Rattle.vh_design_nodes.proofs.FitsLemmas.{and_left, and_right}
+use Rattle.vh_design_nodes.proofs.WidthsLemmas.{widest-each}
 use Rattle.vh_eval.specs.Operators.{of_digit, arithmetic_of, shift_of, comparison_of, logic_of}
 use Rattle.vh_eval.specs.Ready.{AreBefore, AreReady}
 use Rattle.vh_eval.specs.Value.{Valuation, alone, arithmetic_chain, shift_chain, comparison_chain, compared, compared_all, logic_chain, joined}

@@ -1,6 +1,6 @@
 -- What the definition means: each expression has the value that its row gives it of the values of its parts.
 use Rattle.std.specs.Prelude.{◌≡◌, ℕ, Bool, Some, slice_get}
-use Rattle.vh_nodes.specs.declared.expr.ExprNode.{ExprNode}
+use Rattle.vh_design_nodes.specs.declared.expr.ExprNode.{ExprNode}
 use Rattle.vh_design.specs.Shape.{Shape}
 use Rattle.vh_design.specs.Validity.{IsValid}
 use Rattle.vh_store.specs.Contents.{Contents}

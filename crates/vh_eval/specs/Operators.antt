@@ -10,16 +10,16 @@ use Rattle.vh_logic.specs.Bitwise.{bitwise_not, bitwise_and, bitwise_or, bitwise
 use Rattle.vh_logic.specs.Compare.{equality, case_equality, ordering}
 use Rattle.vh_logic.specs.Reduce.{reduction_and, reduction_or, reduction_xor, truth_of}
 use Rattle.vh_logic.specs.Shift.{shifted_left, shifted_right, shifted_right_signed}
-use Rattle.vh_nodes.specs.declared.expr.Unary.{Unary}
-use Rattle.vh_nodes.specs.declared.expr.Unary.TheVariants as unary
-use Rattle.vh_nodes.specs.declared.expr.Arithmetic.{Arithmetic}
-use Rattle.vh_nodes.specs.declared.expr.Arithmetic.TheVariants as arithmetic
-use Rattle.vh_nodes.specs.declared.expr.Shift.{Shift}
-use Rattle.vh_nodes.specs.declared.expr.Shift.TheVariants as shift
-use Rattle.vh_nodes.specs.declared.expr.Comparison.{Comparison}
-use Rattle.vh_nodes.specs.declared.expr.Comparison.TheVariants as comparison
-use Rattle.vh_nodes.specs.declared.expr.Logic.{Logic}
-use Rattle.vh_nodes.specs.declared.expr.Logic.TheVariants as logic
+use Rattle.vh_design_nodes.specs.declared.expr.Unary.{Unary}
+use Rattle.vh_design_nodes.specs.declared.expr.Unary.TheVariants as unary
+use Rattle.vh_design_nodes.specs.declared.expr.Arithmetic.{Arithmetic}
+use Rattle.vh_design_nodes.specs.declared.expr.Arithmetic.TheVariants as arithmetic
+use Rattle.vh_design_nodes.specs.declared.expr.Shift.{Shift}
+use Rattle.vh_design_nodes.specs.declared.expr.Shift.TheVariants as shift
+use Rattle.vh_design_nodes.specs.declared.expr.Comparison.{Comparison}
+use Rattle.vh_design_nodes.specs.declared.expr.Comparison.TheVariants as comparison
+use Rattle.vh_design_nodes.specs.declared.expr.Logic.{Logic}
+use Rattle.vh_design_nodes.specs.declared.expr.Logic.TheVariants as logic
 
 -- A value of one digit, without a sign.
 abbrev pub of_digit : Digit → Vector

@@ -2,10 +2,10 @@
 use Rattle.std.specs.Prelude.{◌≡◌, ◌<◌, ◌≤◌, ℕ, List, length, true, Some, slice_get}
 use Rattle.vh_design.specs.Shape.{Shape}
 use Rattle.vh_logic.specs.declared.vector.TheConstants.{MAX_WIDTH}
-use Rattle.vh_nodes.specs.declared.expr.ExprKind.{ExprKind}
-use Rattle.vh_nodes.specs.declared.expr.ExprNode.{ExprNode}
-use Rattle.vh_nodes.specs.Fits.{fits_kind}
-use Rattle.vh_nodes.specs.Widths.{kind_width, width_of}
+use Rattle.vh_design_nodes.specs.declared.expr.ExprKind.{ExprKind}
+use Rattle.vh_design_nodes.specs.declared.expr.ExprNode.{ExprNode}
+use Rattle.vh_design_nodes.specs.Fits.{fits_kind}
+use Rattle.vh_design_nodes.specs.Widths.{kind_width, width_of}
 
 -- Each has a number below that of the expression.
 abbrev pub AreBefore : ℕ → List ℕ → Type 0

@@ -3,7 +3,7 @@ use Rattle.std.specs.Prelude.{ℕ, ◌-◌, List, ◌++◌, take, drop, replicat
 use Rattle.vh_logic.specs.declared.digits.Digit.{Digit}
 use Rattle.vh_logic.specs.declared.digits.Digit.TheVariants.{X}
 use Rattle.vh_logic.specs.Vector.{Vector}
-use Rattle.vh_nodes.specs.declared.expr.Range.{Range}
+use Rattle.vh_design_nodes.specs.declared.expr.Range.{Range}
 
 -- So many digits from a place of a value on, and from so many places below its lowest: x at each that it hasn't.
 abbrev pub digits_above : List Digit → ℕ → ℕ → List Digit

@@ -7,20 +7,20 @@ use Rattle.vh_logic.specs.Vector.{Vector, filled}
 use Rattle.vh_logic.specs.Number.{integer_of}
 use Rattle.vh_logic.specs.Parts.{resized, concatenation}
 use Rattle.vh_logic.specs.Reduce.{truth_of}
-use Rattle.vh_nodes.specs.declared.expr.Unary.{Unary}
-use Rattle.vh_nodes.specs.declared.expr.Arithmetic.{Arithmetic}
-use Rattle.vh_nodes.specs.declared.expr.Shift.{Shift}
-use Rattle.vh_nodes.specs.declared.expr.Comparison.{Comparison}
-use Rattle.vh_nodes.specs.declared.expr.Logic.{Logic}
-use Rattle.vh_nodes.specs.declared.expr.Link.{Link}
-use Rattle.vh_nodes.specs.declared.expr.ExprKind.{ExprKind}
-use Rattle.vh_nodes.specs.declared.expr.ExprKind.TheVariants as kind
-use Rattle.vh_nodes.specs.declared.expr.ExprNode.{ExprNode}
-use Rattle.vh_nodes.specs.declared.expr.Select.{Select}
-use Rattle.vh_nodes.specs.declared.expr.Select.TheVariants as select
-use Rattle.vh_nodes.specs.declared.expr.Selected.{Selected}
-use Rattle.vh_nodes.specs.declared.object.ObjectInfo.{ObjectInfo}
-use Rattle.vh_nodes.specs.Widths.{width_of, signed_of, object_width, object_signed, is_reduction}
+use Rattle.vh_design_nodes.specs.declared.expr.Unary.{Unary}
+use Rattle.vh_design_nodes.specs.declared.expr.Arithmetic.{Arithmetic}
+use Rattle.vh_design_nodes.specs.declared.expr.Shift.{Shift}
+use Rattle.vh_design_nodes.specs.declared.expr.Comparison.{Comparison}
+use Rattle.vh_design_nodes.specs.declared.expr.Logic.{Logic}
+use Rattle.vh_design_nodes.specs.declared.expr.Link.{Link}
+use Rattle.vh_design_nodes.specs.declared.expr.ExprKind.{ExprKind}
+use Rattle.vh_design_nodes.specs.declared.expr.ExprKind.TheVariants as kind
+use Rattle.vh_design_nodes.specs.declared.expr.ExprNode.{ExprNode}
+use Rattle.vh_design_nodes.specs.declared.expr.Select.{Select}
+use Rattle.vh_design_nodes.specs.declared.expr.Select.TheVariants as select
+use Rattle.vh_design_nodes.specs.declared.expr.Selected.{Selected}
+use Rattle.vh_design_nodes.specs.declared.object.ObjectInfo.{ObjectInfo}
+use Rattle.vh_design_nodes.specs.Widths.{width_of, signed_of, object_width, object_signed, is_reduction}
 use Rattle.vh_design.specs.Shape.{Shape}
 use Rattle.vh_store.specs.Contents.{Contents, found, shown, result_of}
 use Rattle.vh_eval.specs.Operators.{of_digit, reduction, signed_of as sign_changed, arithmetic_of, shift_of, comparison_of, logic_of, choice_of, times, time_in}

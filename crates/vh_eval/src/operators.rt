@@ -2,7 +2,7 @@ ghost use Rattle.std.specs.Prelude.{◌≡◌, ◌≤◌, ◌*◌, false};
 ghost use Rattle.vh_logic.specs.Vector.{width_of};
 ghost use Rattle.vh_logic.specs.declared.vector.TheConstants.{MAX_WIDTH};
 ghost use Rattle.vh_logic.specs.Digit.{digit_not, digit_and, digit_or};
-ghost use Rattle.vh_nodes.specs.Widths.{is_reduction};
+ghost use Rattle.vh_design_nodes.specs.Widths.{is_reduction};
 ghost use Rattle.vh_eval.specs.Operators.{of_digit, reduction, signed_of, arithmetic_of, shift_of, comparison_of, logic_of, choice_of, times, time_in};
 
 use vh_design::{Arithmetic, Comparison, Logic, Shift, Unary};

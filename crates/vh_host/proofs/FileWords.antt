@@ -4,7 +4,7 @@ use Rattle.std.specs.declared.alloc.Global.{Global}
 use Rattle.std.specs.List.{slice_get}
 use Rattle.std.specs.Option.{option_map}
 use Rattle.std.proofs.lemmas.Option.{slice_get-map}
-use Rattle.vh_words.specs.Words.{texts, numbered}
+use Rattle.vh_host_words.specs.Words.{texts, numbered}
 
 -- The word of a number
 pub numbered-texts : (files : List (String Global)) (n i : ℕ) → n ≡ i + 1 → numbered (texts files) n ≡ option_map string_bytes (slice_get files i)

@@ -6,15 +6,15 @@ use Rattle.vh_app.specs.Script.{ScriptData}
 use Rattle.vh_app.specs.Reading.{app_of}
 use Rattle.vh_base.specs.declared.faults.AppFault.{AppFault}
 use Rattle.vh_base.specs.declared.place.Place.{Place}
-use Rattle.vh_choice.specs.declared.chooser.Chooser.{Chooser}
+use Rattle.vh_kernel_choice.specs.declared.chooser.Chooser.{Chooser}
 use Rattle.vh_kernel.specs.Settle.{Opens}
 use Rattle.vh_kernel.specs.State.{State}
-use Rattle.vh_laws.proofs.LawsLemmas.{runs-keep-laws, opens-fresh}
+use Rattle.vh_kernel_laws.proofs.LawsLemmas.{runs-keep-laws, opens-fresh}
 use Rattle.vh_host.specs.declared.status.Status.{Status}
 use Rattle.vh_host.specs.declared.status.Status.TheVariants as status
 use Rattle.vh_host.specs.declared.judging.Refusal.{Refusal}
 use Rattle.vh_host.specs.declared.judging.Refusal.TheVariants as refusal
-use Rattle.vh_words.specs.Words.{Reading, reading, files_of, order_of, budget_of, file_words, is_script_word}
+use Rattle.vh_host_words.specs.Words.{Reading, reading, files_of, order_of, budget_of, file_words, is_script_word}
 use Rattle.vh_host.specs.Acceptance.{Verdict, accepts, refuses, by_reading, by_files, by_length, by_texts, by_design, by_scripts, names_of, script_in, script_then, scripts_of, DesignRefusal, design_answer, verdict, File, files_with, first_too_long}
 use Rattle.vh_host.specs.Transcript.{WroteOf, WroteFromOpening}
 use Rattle.vh_host.specs.Headline.{Holds, FailsBefore, AnswersWith, Accounts, Transcribes, Refuses, WereAnswered, Tells}

@@ -3,8 +3,8 @@ use Rattle.std.proofs.Common.{◌≡◌, ℕ, suc, ◌+◌, ◌-◌, ◌<◌, Li
 use Rattle.vh_kernel.specs.declared.label.Label.{Label}
 use Rattle.vh_kernel.specs.State.{State}
 use Rattle.vh_kernel.specs.Outcome.{Move}
-use Rattle.vh_choice.specs.declared.chooser.Chooser.{Chooser}
-use Rattle.vh_choice.specs.Choices.{chooser_after}
+use Rattle.vh_kernel_choice.specs.declared.chooser.Chooser.{Chooser}
+use Rattle.vh_kernel_choice.specs.Choices.{chooser_after}
 use Rattle.vh_kernel.specs.Step.{is_end, choices_of}
 use Rattle.vh_kernel.specs.Run.{next_move, moves_of, text_of, line_of_move}
 

@@ -9,15 +9,15 @@ use Rattle.std.specs.Ordering.{nat_cmp}
 use Rattle.vh_app.specs.Script.{ScriptData}
 use Rattle.vh_callbacks.proofs.CallbacksLemmas.{at_apart, at_same}
 use Rattle.vh_logic.specs.Vector.{Vector}
-use Rattle.vh_nodes.specs.declared.expr.ExprNode.{ExprNode}
+use Rattle.vh_design_nodes.specs.declared.expr.ExprNode.{ExprNode}
 use Rattle.vh_design.specs.Shape.{Shape}
 use Rattle.vh_kernel.specs.declared.phase.Phase.TheVariants as phase
 use Rattle.vh_kernel.specs.Settle.{Opens, settled}
 use Rattle.vh_kernel.specs.State.{State, IsBeforeAll, opening_agenda, world_before}
 use Rattle.vh_sense.specs.Follows.{followers}
 use Rattle.vh_sense.specs.Sensitivity.{Sensitivity, IsOpening as IsOpeningSense}
-use Rattle.vh_simulation.specs.Activity.{Activity, IsOpening, activity, first_entries, no_monitor}
-use Rattle.vh_simulation.specs.Follows.{no_serials}
+use Rattle.vh_proc_simulation.specs.Activity.{Activity, IsOpening, activity, first_entries, no_monitor}
+use Rattle.vh_proc_simulation.specs.Follows.{no_serials}
 use Rattle.vh_store.specs.Contents.{Contents}
 use Rattle.vh_store.specs.Opening.{IsOpening as IsOpeningStore, opening_wired, first_result, result_at}
 

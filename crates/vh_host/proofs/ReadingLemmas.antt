@@ -10,9 +10,9 @@ use Rattle.std.specs.Prelude.{String, string_bytes}
 use Rattle.std.specs.declared.alloc.Global.{Global}
 use Rattle.vh_base.specs.Outside.{IsAnswered}
 use Rattle.vh_host.specs.Acceptance.{File, limit_of, files_with, is_too_long, first_too_long, by_files, by_length, by_texts, by_reading, verdict}
-use Rattle.vh_words.specs.Words.{Reading, reading, texts, numbered}
+use Rattle.vh_host_words.specs.Words.{Reading, reading, texts, numbered}
 use Rattle.vh_host.specs.declared.file.TextFile.{TextFile}
-use Rattle.vh_choice.specs.declared.chooser.Chooser.{Chooser}
+use Rattle.vh_kernel_choice.specs.declared.chooser.Chooser.{Chooser}
 use Rattle.vh_host.specs.Headline.{Holds, WereAnswered, Tells, IsTextBy}
 use Rattle.vh_host.specs.Reading.{words_of, contents_of, MeetsLong, MeetsNoneLong, file_seen, files_seen}
 

@@ -12,7 +12,7 @@ use Rattle.vh_lex.specs.declared.token.Token.{Token}
 use Rattle.vh_lex.specs.Lexed.{Lexed, reading, refused, exhausted, file_read, files_after, answer_of, closed_by, end_of}
 use Rattle.vh_lex.specs.Lexed as lexed
 use Rattle.vh_host.specs.declared.file.TextFile.{TextFile}
-use Rattle.vh_words.specs.Words.{is_design_word, is_script_word}
+use Rattle.vh_host_words.specs.Words.{is_design_word, is_script_word}
 use Rattle.vh_design.specs.Shape.{Shape}
 use Rattle.vh_host.specs.Acceptance.{DesignRefusal, closed_answer, lexed_answer, File, limit_of, is_too_long, first_too_long, design_files}
 use Rattle.vh_host.specs.declared.judging.Refusal.{Refusal}

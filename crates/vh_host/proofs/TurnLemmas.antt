@@ -8,11 +8,11 @@ use Rattle.vh_kernel.specs.declared.label.Label.{Label}
 use Rattle.vh_kernel.specs.declared.label.Label.TheVariants as label
 use Rattle.vh_kernel.specs.State.{State}
 use Rattle.vh_kernel.specs.Outcome.{Move}
-use Rattle.vh_choice.specs.declared.chooser.Chooser.{Chooser}
-use Rattle.vh_choice.specs.Choices.{chosen, chooser_after}
+use Rattle.vh_kernel_choice.specs.declared.chooser.Chooser.{Chooser}
+use Rattle.vh_kernel_choice.specs.Choices.{chosen, chooser_after}
 use Rattle.vh_kernel.specs.Step.{is_end, choices_of}
 use Rattle.vh_kernel.specs.Run.{IsMove, IsRun, line_of_move, text_of}
-use Rattle.vh_laws.specs.Laws.{Lawful}
+use Rattle.vh_kernel_laws.specs.Laws.{Lawful}
 use Rattle.vh_host.specs.declared.status.Status.{Status}
 use Rattle.vh_host.specs.declared.status.Status.TheVariants as status
 use Rattle.vh_host.specs.Turn.{Turned, TurnsTo, IsCut}

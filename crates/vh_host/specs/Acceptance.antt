@@ -10,7 +10,7 @@ use Rattle.vh_lex.specs.declared.conditional.Conditional.{Conditional}
 use Rattle.vh_lex.specs.declared.token.Token as lexed
 use Rattle.vh_lex.specs.Lexed as lexed_files
 use Rattle.vh_lex.specs.Lexed.{Lexed, reading, refused, exhausted, files_read}
-use Rattle.vh_syntax.specs.Tokens.{token_seen}
+use Rattle.vh_parse_syntax.specs.Tokens.{token_seen}
 use Rattle.vh_parse_expr.specs.Answers.{placed}
 use Rattle.vh_parse_items.specs.Answers.{source_answer}
 use Rattle.vh_elab.specs.Elaborated.{Elaborated, made, later, elaborated}
@@ -19,8 +19,8 @@ use Rattle.vh_app.specs.Script.{ScriptData}
 use Rattle.vh_app.specs.Reading.{app_of}
 use Rattle.vh_host.specs.declared.status.Status.{Status}
 use Rattle.vh_host.specs.declared.status.Status.TheVariants as status
-use Rattle.vh_words.specs.Words as words
-use Rattle.vh_words.specs.Words.{Reading, is_design_word, is_script_word}
+use Rattle.vh_host_words.specs.Words as words
+use Rattle.vh_host_words.specs.Words.{Reading, is_design_word, is_script_word}
 
 pub data Verdict : Type 0 where
   accepts : Shape → List ScriptData → Verdict

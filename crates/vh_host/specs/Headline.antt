@@ -3,11 +3,11 @@ use Rattle.std.specs.Prelude.{◌≡◌, ◌≤◌, ℕ, ◌++◌, List, [], map
 use Rattle.std.specs.List.{AllZip}
 use Rattle.vh_base.specs.Outside.{IsAnswered, appended}
 use Rattle.vh_design.specs.Shape.{Shape}
-use Rattle.vh_choice.specs.declared.chooser.Chooser.{Chooser}
+use Rattle.vh_kernel_choice.specs.declared.chooser.Chooser.{Chooser}
 use Rattle.vh_app.specs.Script.{ScriptData}
 use Rattle.vh_host.specs.declared.status.Status.{Status}
 use Rattle.vh_host.specs.declared.status.Status.TheVariants as status
-use Rattle.vh_words.specs.Words.{file_words, order_word, budget_word}
+use Rattle.vh_host_words.specs.Words.{file_words, order_word, budget_word}
 use Rattle.vh_host.specs.Acceptance.{Verdict, accepts, refuses, verdict, limit_of}
 use Rattle.vh_host.specs.Transcript.{WroteFromOpening, IsTextFromOpening}
 
@@ -75,7 +75,7 @@ pub record Accounts (words : List (List ℕ)) (holds : Holds) (s : Status) (old 
 -- The headline. For accepted words, texts and scripts, where the source tells the files' contents and the
 -- sink tells its own, the bytes written are exactly the text of a run of the machine from the opening
 -- of the design with its scripts under the order of choice that the words ask for, ending only at its end
--- or at their budget, or a front of that text after want of memory or a failed write.
+-- or at their budget, or a front of that text after want of memory or a failed write, or nothing after a failed read.
 abbrev pub Transcribes : List (List ℕ) → Holds → Status → Option (List ℕ) → Option (List ℕ) → Type 0
 Transcribes words holds s old new =
     (contents : List (List ℕ)) (before : List ℕ) (design : Shape) (scripts : List ScriptData) →

@@ -4,7 +4,7 @@ use Rattle.std.specs.Fmt.{decimal}
 use Rattle.vh_base.specs.Faults.{design_fault_name, app_fault_name, fault_name}
 use Rattle.vh_host.specs.declared.status.Status.{Status}
 use Rattle.vh_host.specs.declared.status.Status.TheVariants as status
-use Rattle.vh_words.specs.Words.{file_word}
+use Rattle.vh_host_words.specs.Words.{file_word}
 
 -- The word of a file by its number, or nothing where the words don't have it.
 abbrev pub name_of_file : List (List ℕ) → ℕ → List ℕ

@@ -9,10 +9,10 @@ use Rattle.vh_kernel.specs.declared.label.Label.TheVariants as label
 use Rattle.vh_kernel.specs.State.{State}
 use Rattle.vh_kernel.specs.Outcome.{Move}
 use Rattle.vh_kernel.specs.Step.{is_end}
-use Rattle.vh_choice.specs.declared.chooser.Chooser.{Chooser}
+use Rattle.vh_kernel_choice.specs.declared.chooser.Chooser.{Chooser}
 use Rattle.vh_kernel.specs.Run.{IsRun, moves_of, text_of}
 use Rattle.vh_kernel.specs.Settle.{Opens}
-use Rattle.vh_laws.specs.Laws.{KeepsLaws}
+use Rattle.vh_kernel_laws.specs.Laws.{KeepsLaws}
 use Rattle.vh_host.specs.declared.status.Status.{Status}
 use Rattle.vh_host.specs.declared.status.Status.TheVariants as status
 

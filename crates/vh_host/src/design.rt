@@ -15,10 +15,10 @@ use vh_ast::Source;
 use vh_base::{DesignFault, Place};
 use vh_design::Design;
 use vh_elab::{Elaboration, elaborate};
+use vh_host_words::is_design_word;
 use vh_lex::{Lexer, Token};
 use vh_parse_expr::ParseFault;
 use vh_parse_items::parse;
-use vh_words::is_design_word;
 
 /// The design of the Verilog files among these, which are read as one source in word order; or
 /// their first fault.

@@ -1,6 +1,6 @@
 ghost use Rattle.std.specs.Prelude.{◌≡◌, ◌≢◌, ◌≤◌, ℕ, List, Some, None, length};
 ghost use Rattle.vh_base.specs.Outside.{Rose};
-ghost use Rattle.vh_words.specs.Words.{reading, file_word, texts};
+ghost use Rattle.vh_host_words.specs.Words.{reading, file_word, texts};
 ghost use Rattle.vh_host.specs.Acceptance.{by_texts, accepts, first_too_long};
 ghost use Rattle.vh_host.specs.Reading.{files_seen};
 ghost use Rattle.vh_host.specs.Headline.{Accounts, AnswersWith, Transcribes, Refuses, Exactly};
@@ -13,10 +13,10 @@ use crate::transcript::transcribe;
 use std::alloc::Global;
 use vh_app::Script;
 use vh_base::{Files, Sink};
-use vh_choice::Chooser;
 use vh_design::Design;
+use vh_host_words::read_words;
 use vh_kernel::Kernel;
-use vh_words::read_words;
+use vh_kernel_choice::Chooser;
 
 /// Runs the Verilog files that the words ask for, as one source, with the script beside them, and
 /// writes the transcript: reads the words, each file once in word order, the Verilog files and the

@@ -12,8 +12,8 @@ use thiserror::Error;
 use vh_app::{Script, ScriptFault, read_app};
 use vh_base::{AppFault, DesignFault, NoMemory, Place, Short};
 use vh_design::Design;
+use vh_host_words::is_script_word;
 use vh_lex::LexFault;
-use vh_words::is_script_word;
 
 /// Why texts can't be run.
 #[derive(Clone, Copy, Debug, PartialEq, Eq, Error)]

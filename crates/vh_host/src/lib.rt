@@ -4,8 +4,8 @@
 //! for accepted words, texts and scripts, which keeps the firing law and the handle law, and
 //! its status says how the run ended, or which input was refused; [`status_line`] and
 //! [`exit_number`] are the table of statuses. Stands on vh_lex and
-//! vh_parse_items for the tree of the Verilog files, on vh_elab for its design, on vh_words for the
-//! words, on vh_app for the scripts, on vh_kernel for the machine, and on vh_laws for what its runs
+//! vh_parse_items for the tree of the Verilog files, on vh_elab for its design, on vh_host_words for the
+//! words, on vh_app for the scripts, on vh_kernel for the machine, and on vh_kernel_laws for what its runs
 //! keep.
 #![tactic(auto)]
 

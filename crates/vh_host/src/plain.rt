@@ -3,7 +3,7 @@ ghost use Rattle.std.specs.List.{list_any};
 ghost use Rattle.vh_kernel.specs.Views.{state_of};
 ghost use Rattle.vh_kernel.specs.Step.{choices_of};
 ghost use Rattle.vh_kernel.specs.Run.{moves_of, text_of, line_of_move};
-ghost use Rattle.vh_words.specs.Words.{texts, order_word};
+ghost use Rattle.vh_host_words.specs.Words.{texts, order_word};
 ghost use Rattle.vh_host.specs.Acceptance.{verdict, by_files, by_texts, files_with, first_too_long, is_too_long};
 ghost use Rattle.vh_host.specs.Reading.{file_seen, files_seen};
 ghost use Rattle.vh_host.specs.Headline.{IsTextBy};
@@ -16,10 +16,10 @@ use crate::transcript::choose;
 use std::alloc::Global;
 use vh_app::Script;
 use vh_base::{Bytes, NoMemory};
-use vh_choice::Chooser;
 use vh_design::Design;
+use vh_host_words::read_words;
 use vh_kernel::{Kernel, Label};
-use vh_words::read_words;
+use vh_kernel_choice::Chooser;
 
 /// The plain program beside the definitions: the text of the run that these words and these
 /// contents of their files, in word order, ask for, of so many labels at most, all of it in

@@ -1,6 +1,6 @@
 ghost use Rattle.std.specs.Prelude.{◌≡◌, ◌≢◌, ◌<◌, ◌≤◌, ℕ, List, Some, None, true, false, length, IfOk};
 ghost use Rattle.vh_base.specs.Outside.{Rose, IsAnswered};
-ghost use Rattle.vh_words.specs.Words.{texts, numbered};
+ghost use Rattle.vh_host_words.specs.Words.{texts, numbered};
 ghost use Rattle.vh_host.specs.Acceptance.{limit_of, first_too_long, is_too_long};
 ghost use Rattle.vh_host.specs.Reading.{file_seen, files_seen, AreRead, MeetsLong, MeetsNoneLong};
 
@@ -8,7 +8,7 @@ use crate::file::TextFile;
 use std::alloc::{AllocFailed, Global};
 use thiserror::Error;
 use vh_base::{FetchFault, Files};
-use vh_words::is_script_word;
+use vh_host_words::is_script_word;
 
 // How many bytes a Verilog file may have.
 const DESIGN_LIMIT: usize = 4_194_304;

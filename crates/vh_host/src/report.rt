@@ -1,14 +1,14 @@
 ghost use Rattle.std.specs.Prelude.{◌≡◌, ◌++◌, codes, string_bytes, IfOk, Some, [], unwrap_or, slice_get};
 ghost use Rattle.std.specs.Option.{option_map};
 ghost use Rattle.std.specs.Fmt.{decimal};
-ghost use Rattle.vh_words.specs.Words.{texts, numbered, files_of};
-ghost use Rattle.vh_words.specs.Views.{asked};
+ghost use Rattle.vh_host_words.specs.Words.{texts, numbered, files_of};
+ghost use Rattle.vh_host_words.specs.Views.{asked};
 ghost use Rattle.vh_host.specs.Report.{line_of_status, exit_of, name_of_file};
 
 use crate::status::Status;
 use std::alloc::{AllocError, Global};
 use vh_base::{NoMemory, Place};
-use vh_words::{Asked, read_words};
+use vh_host_words::{Asked, read_words};
 
 /// The line that is told of a status, without a newline; it is empty for a run that came to
 /// its end. A file goes by its word among `words`, which don't hold the program's name.

@@ -1,10 +1,10 @@
 ghost use Rattle.std.specs.Prelude.{◌≡◌, ◌≢◌, ◌<◌, ◌≤◌, ℕ, List, Some, None, take, OnOk, OnErr};
 ghost use Rattle.vh_base.specs.Outside.{Rose, appended, AppendsFront};
 ghost use Rattle.vh_kernel.specs.Views.{state_of};
-ghost use Rattle.vh_choice.specs.Choices.{chosen, chooser_after};
+ghost use Rattle.vh_kernel_choice.specs.Choices.{chosen, chooser_after};
 ghost use Rattle.vh_kernel.specs.Step.{choices_of};
 ghost use Rattle.vh_kernel.specs.Run.{line_of_move};
-ghost use Rattle.vh_laws.specs.Laws.{Lawful};
+ghost use Rattle.vh_kernel_laws.specs.Laws.{Lawful};
 ghost use Rattle.vh_host.specs.Turn.{Turned, status_after};
 ghost use Rattle.vh_host.specs.Transcript.{Wrote};
 
@@ -12,8 +12,8 @@ use crate::status::Status;
 use crate::write::write_whole;
 use std::alloc::Global;
 use vh_base::{Sink, SinkFault};
-use vh_choice::Chooser;
 use vh_kernel::{Ending, Kernel, Label, push_line};
+use vh_kernel_choice::Chooser;
 
 /// Runs a kernel under an order of choice, and writes the line of each label as it is made, until
 /// the run ends, as many labels as the budget were made, or a fault of the sink or of memory cuts

@@ -1,30 +1,30 @@
 -- What holds of the queue, with what is noted of follow entries, behind each label of a process and each entry that is picked.
 use Rattle.std.proofs.Common.{◌≡◌, ℕ, List, [], ◌∷◌, Bool, true, false, not, cond, Option, Some, None, Result, Ok, Err, slice_get, filter, map, nat_eq, nat_lt, refl, subst}
-use Rattle.vh_assign.specs.declared.piece.Piece.{Piece}
+use Rattle.vh_proc_assign.specs.declared.piece.Piece.{Piece}
 use Rattle.vh_base.specs.Checks.{unless, with_some, with_ok}
-use Rattle.vh_assign.specs.Pieces.{pieces_in}
-use Rattle.vh_assign.specs.Values.{right_side}
+use Rattle.vh_proc_assign.specs.Pieces.{pieces_in}
+use Rattle.vh_proc_assign.specs.Values.{right_side}
 use Rattle.vh_base.specs.declared.faults.Fault.{Fault}
 use Rattle.vh_base.specs.declared.faults.Fault.TheVariants as fault
-use Rattle.vh_code.specs.declared.target.Input.{Input}
-use Rattle.vh_code.specs.declared.change.Change.{Change}
-use Rattle.vh_code.specs.declared.change.Made.{Made}
-use Rattle.vh_code.specs.declared.code.Goes.{Goes}
-use Rattle.vh_code.specs.declared.code.Instruction.{Instruction}
-use Rattle.vh_code.specs.declared.operation.Drive.{Drive}
-use Rattle.vh_code.specs.declared.operation.Operation.{Operation}
-use Rattle.vh_code.specs.declared.operation.Operation.TheVariants as op
-use Rattle.vh_code.specs.declared.operation.Pause.{Pause}
-use Rattle.vh_code.specs.declared.operation.Pause.TheVariants as pause
-use Rattle.vh_code.specs.declared.operation.Single.{Single}
-use Rattle.vh_code.specs.declared.operation.Single.TheVariants as single
-use Rattle.vh_code.specs.declared.show.ShowCall.{ShowCall}
-use Rattle.vh_code.specs.declared.show.ShowTask.{ShowTask}
-use Rattle.vh_code.specs.declared.show.ShowTask.TheVariants as task
-use Rattle.vh_code.specs.declared.target.Delay.{Delay}
+use Rattle.vh_design_code.specs.declared.target.Input.{Input}
+use Rattle.vh_design_code.specs.declared.change.Change.{Change}
+use Rattle.vh_design_code.specs.declared.change.Made.{Made}
+use Rattle.vh_design_code.specs.declared.code.Goes.{Goes}
+use Rattle.vh_design_code.specs.declared.code.Instruction.{Instruction}
+use Rattle.vh_design_code.specs.declared.operation.Drive.{Drive}
+use Rattle.vh_design_code.specs.declared.operation.Operation.{Operation}
+use Rattle.vh_design_code.specs.declared.operation.Operation.TheVariants as op
+use Rattle.vh_design_code.specs.declared.operation.Pause.{Pause}
+use Rattle.vh_design_code.specs.declared.operation.Pause.TheVariants as pause
+use Rattle.vh_design_code.specs.declared.operation.Single.{Single}
+use Rattle.vh_design_code.specs.declared.operation.Single.TheVariants as single
+use Rattle.vh_design_code.specs.declared.show.ShowCall.{ShowCall}
+use Rattle.vh_design_code.specs.declared.show.ShowTask.{ShowTask}
+use Rattle.vh_design_code.specs.declared.show.ShowTask.TheVariants as task
+use Rattle.vh_design_code.specs.declared.target.Delay.{Delay}
 use Rattle.vh_design.specs.Shape.{Shape}
 use Rattle.vh_logic.specs.Vector.{Vector}
-use Rattle.vh_nodes.specs.declared.driver.DriverInfo.{DriverInfo}
+use Rattle.vh_design_nodes.specs.declared.driver.DriverInfo.{DriverInfo}
 use Rattle.vh_proc.specs.Disabled.{Stopped, without_entry, ended_in, left_in, all_ended, all_left, resumed_but, all_resumed, disable_all}
 use Rattle.vh_proc.specs.Processes.{World, Step, Queued, Scheduled, queued, scheduled, process_at, changed, evaluated_now, resumed, branch_begun, branches_begun, joined_in, joined, goes_behind, gone_on, one_less}
 use Rattle.vh_proc.specs.Steps.{own_turn, forked, disabled_by, single_step, step_at, step_in, step_of_process, step_of}
@@ -34,22 +34,22 @@ use Rattle.vh_queue.specs.declared.work.Work.TheVariants as work
 use Rattle.vh_queue.specs.declared.entry.Entry.{Entry}
 use Rattle.vh_queue.specs.declared.region.Region.TheVariants as region
 use Rattle.vh_queue.specs.Events.{Events, is_full, added, cleared}
-use Rattle.vh_simulation.specs.Activity.{Activity}
-use Rattle.vh_simulation.specs.Entries.{Watched, watched, Agenda, woken_one, all_woken, waking, monitor_entered, monitored, list_reads, following, entered, entered_by, all_entered}
-use Rattle.vh_simulation.specs.Follows.{Serials, no_serials, noted, Followed, followed, last_of, is_standing, is_in_place, added_one, follow_entered, one_followed, all_followed}
-use Rattle.vh_simulation.specs.Labels.{Came, Performed, with_entries, agenda_of, with_world, world_in, monitor_of, displayed_by, displayed_at, displayed, performed, with_changes, worked}
+use Rattle.vh_proc_simulation.specs.Activity.{Activity}
+use Rattle.vh_proc_simulation.specs.Entries.{Watched, watched, Agenda, woken_one, all_woken, waking, monitor_entered, monitored, list_reads, following, entered, entered_by, all_entered}
+use Rattle.vh_proc_simulation.specs.Follows.{Serials, no_serials, noted, Followed, followed, last_of, is_standing, is_in_place, added_one, follow_entered, one_followed, all_followed}
+use Rattle.vh_proc_simulation.specs.Labels.{Came, Performed, with_entries, agenda_of, with_world, world_in, monitor_of, displayed_by, displayed_at, displayed, performed, with_changes, worked}
 use Rattle.vh_sense.specs.declared.follow.Follow.{Follow}
 use Rattle.vh_sense.specs.Sensitivity.{woken, readers_of}
 use Rattle.vh_store.specs.Contents.{Contents, driven, same_value}
-use Rattle.vh_thread.specs.Control.{next_of, depth_of, called}
-use Rattle.vh_thread.specs.declared.call.TheConstants.{MOST_CALLS}
-use Rattle.vh_turn.specs.declared.next.Next.{Next}
-use Rattle.vh_turn.specs.declared.next.Next.TheVariants as next
-use Rattle.vh_turn.specs.declared.process.Process.{Process}
-use Rattle.vh_turn.specs.Own.{Own, Turn, with_entry, gone, update_time}
-use Rattle.vh_turn.specs.Drives as drives
-use Rattle.vh_turn.specs.Drives.{Driving, driving, update_at, scheduled_value, has_value, without_update, with_update, one_driven, digits_driven, all_driven}
-use Rattle.vh_turn.specs.Turns.{holding, assigning, resumption, resuming, with_updates, schedule_of, scheduling, pausing, is_true, waiting, entering, single_next, single_turn, driving_all, turn_at}
+use Rattle.vh_proc_thread.specs.Control.{next_of, depth_of, called}
+use Rattle.vh_proc_thread.specs.declared.call.TheConstants.{MOST_CALLS}
+use Rattle.vh_proc_turn.specs.declared.next.Next.{Next}
+use Rattle.vh_proc_turn.specs.declared.next.Next.TheVariants as next
+use Rattle.vh_proc_turn.specs.declared.process.Process.{Process}
+use Rattle.vh_proc_turn.specs.Own.{Own, Turn, with_entry, gone, update_time}
+use Rattle.vh_proc_turn.specs.Drives as drives
+use Rattle.vh_proc_turn.specs.Drives.{Driving, driving, update_at, scheduled_value, has_value, without_update, with_update, one_driven, digits_driven, all_driven}
+use Rattle.vh_proc_turn.specs.Turns.{holding, assigning, resumption, resuming, with_updates, schedule_of, scheduling, pausing, is_true, waiting, entering, single_next, single_turn, driving_all, turn_at}
 
 -- What holds of all that a row of checks may come to.
 abbrev pub AllOk : {X E : Type 0} → (X → Type 0) → Result X E → Type 0

@@ -15,7 +15,7 @@ use Rattle.vh_queue.specs.declared.work.Work.{Work}
 use Rattle.vh_queue.specs.declared.work.Work.TheVariants as work
 use Rattle.vh_queue.specs.Events.{Events, Rises, added}
 use Rattle.vh_queue.proofs.EventsLemmas.{rises-added, rises-filter, rises-map, rises-empty, rises-one}
-use Rattle.vh_simulation.specs.Follows.{Serials, no_serials, last_of, noted, is_standing}
+use Rattle.vh_proc_simulation.specs.Follows.{Serials, no_serials, last_of, noted, is_standing}
 
 -- Keys that are the same, and keys that aren't.
 at-by : (b d : Bool) → (b ≡ true → d ≡ false) → is_eq (cond b Less (cond d Equal Greater)) ≡ d

@@ -27,8 +27,8 @@ use Rattle.vh_dispatch.specs.Frames.{top_set}
 use Rattle.vh_orders.specs.Orders.{Given, Effect, answered, effect_of, with_error, is_pass, is_return}
 use Rattle.vh_orders.specs.World.{World}
 use Rattle.vh_kernel.specs.Outcome.{Outcome, Move, move_of}
-use Rattle.vh_choice.specs.declared.chooser.Chooser.{Chooser}
-use Rattle.vh_choice.specs.Choices.{chooser_after}
+use Rattle.vh_kernel_choice.specs.declared.chooser.Chooser.{Chooser}
+use Rattle.vh_kernel_choice.specs.Choices.{chooser_after}
 use Rattle.vh_kernel.specs.Run.{move_from, moves_with, handle_in, given_in, all_given, OneRun}
 use Rattle.vh_kernel.specs.State.{State, with_queue, with_top, without_top, without_item, with_variables}
 use Rattle.vh_kernel.specs.Step.{FitsAnswer, Fits, IsStep, fire_move, telling_outcome, time_move, region_move, pick_move, agenda_move, idle_move, answer_move, pass_move, order_move, activation_move, item_move, top_move, crowded_move, is_crowded, settled_move, step_of, choices_of, is_end}

@@ -25,15 +25,15 @@ use Rattle.vh_kernel.specs.Outcome.{Made, Outcome, Move, after_made}
 use Rattle.vh_app.specs.Script.{ScriptData}
 use Rattle.vh_design.specs.Shape.{Shape}
 use Rattle.vh_kernel.specs.Settle.{settled, Opens}
-use Rattle.vh_simulation.specs.Follows.{Serials, no_serials}
+use Rattle.vh_proc_simulation.specs.Follows.{Serials, no_serials}
 use Rattle.vh_kernel.specs.State.{State, with_queue, with_top, without_top, without_item, with_frames}
 use Rattle.vh_kernel.specs.Statements.{performed_outcome, worked_outcome, on_control, work_outcome}
 use Rattle.vh_kernel.specs.Step.{called, started, finish_move, telling_outcome, is_end}
 use Rattle.vh_kernel.specs.Table.{IsSound, TellsNext, Acts, Row, Step, StaysSound, OpensSound}
 use Rattle.vh_kernel.proofs.KeepsLemmas.{AllOk, KeepsNotes, CameKeeps, PerformedKeeps, performed-keeps, worked-keeps}
 use Rattle.vh_proc.specs.Processes.{Processes, Queued, queued, opening}
-use Rattle.vh_simulation.specs.Activity.{Activity, evaluations, is_crowded, stopped}
-use Rattle.vh_simulation.specs.Labels.{Came, Performed, performed, worked, at_time}
+use Rattle.vh_proc_simulation.specs.Activity.{Activity, evaluations, is_crowded, stopped}
+use Rattle.vh_proc_simulation.specs.Labels.{Came, Performed, performed, worked, at_time}
 use Rattle.vh_kernel.proofs.StepLemmas.{AllMade, on-control-kept, acts, acts-kept, called-kept, started-kept}
 
 -- It holds of the queue of a state, with what is noted there; and of what outcomes leave.

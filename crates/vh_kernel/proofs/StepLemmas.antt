@@ -5,7 +5,7 @@ use Rattle.vh_base.specs.declared.limits.TheConstants.{MOST_FRAMES, MOST_NUMBERS
 use Rattle.vh_base.specs.declared.faults.Fault.{Fault}
 use Rattle.vh_base.specs.declared.faults.Fault.TheVariants as fault
 use Rattle.vh_design.specs.Shape.{Shape}
-use Rattle.vh_simulation.specs.Labels.{Came, Performed, performed as label_performed, worked}
+use Rattle.vh_proc_simulation.specs.Labels.{Came, Performed, performed as label_performed, worked}
 use Rattle.vh_base.specs.declared.orders.Answer.{Answer}
 use Rattle.vh_base.specs.declared.orders.Order.{Order}
 use Rattle.vh_base.specs.declared.orders.Order.TheVariants as order

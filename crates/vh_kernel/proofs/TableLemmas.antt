@@ -9,7 +9,7 @@ use Rattle.vh_kernel.specs.Activations.{Activation}
 use Rattle.vh_kernel.specs.declared.control.Control.{Control}
 use Rattle.vh_kernel.specs.declared.control.Control.TheVariants as top
 use Rattle.vh_queue.specs.declared.entry.Entry.{Entry}
-use Rattle.vh_simulation.specs.Activity.{stopped}
+use Rattle.vh_proc_simulation.specs.Activity.{stopped}
 use Rattle.vh_kernel.specs.declared.label.Ending.TheVariants as ending
 use Rattle.vh_kernel.specs.declared.label.Label.{Label}
 use Rattle.vh_kernel.specs.declared.label.Label.TheVariants as label

@@ -12,8 +12,8 @@ use Rattle.vh_kernel.specs.declared.label.Ending.TheVariants as ending
 use Rattle.vh_kernel.specs.declared.label.Label.{Label}
 use Rattle.vh_kernel.specs.declared.label.Label.TheVariants as label
 use Rattle.vh_orders.specs.Names.{name_of, with_address}
-use Rattle.vh_lines.specs.OrderText.{order_text, answer_text}
-use Rattle.vh_lines.specs.Quoted.{quoted, plain_text}
+use Rattle.vh_app_lines.specs.OrderText.{order_text, answer_text}
+use Rattle.vh_app_lines.specs.Quoted.{quoted, plain_text}
 use Rattle.vh_kernel.specs.State.{State}
 
 -- The name of an end.

@@ -12,7 +12,7 @@ use Rattle.vh_queue.specs.declared.entry.Entry.{Entry}
 use Rattle.vh_queue.specs.declared.work.Work.{Work}
 use Rattle.vh_queue.specs.declared.work.Work.TheVariants as work
 use Rattle.vh_queue.specs.Events.{Events, Rises}
-use Rattle.vh_simulation.specs.Follows.{Serials, last_of, is_standing}
+use Rattle.vh_proc_simulation.specs.Follows.{Serials, last_of, is_standing}
 
 -- Is it the follow of the force of this object, or of its assign?
 abbrev pub is_layer : Bool → Bool → Bool

@@ -4,14 +4,14 @@ use Rattle.std.specs.Prelude.{ℕ, List, [], ◌∷◌, Bool, true, false, if◌
 use Rattle.vh_base.specs.declared.orders.Object.{Object}
 use Rattle.vh_base.specs.declared.words.Reason.{Reason}
 use Rattle.vh_base.specs.declared.words.Reason.TheVariants as reason
-use Rattle.vh_code.specs.declared.change.Change.{Change}
-use Rattle.vh_code.specs.declared.change.Made.{Made}
+use Rattle.vh_design_code.specs.declared.change.Change.{Change}
+use Rattle.vh_design_code.specs.declared.change.Made.{Made}
 use Rattle.vh_kernel.specs.declared.occurrence.Left.{Left}
 use Rattle.vh_kernel.specs.declared.occurrence.Left.TheVariants as left
 use Rattle.vh_logic.specs.Vector.{Vector}
-use Rattle.vh_nodes.specs.declared.object.ObjectInfo.{ObjectInfo}
-use Rattle.vh_nodes.specs.Fits.{has_kind}
-use Rattle.vh_nodes.specs.Kinds.{is_event}
+use Rattle.vh_design_nodes.specs.declared.object.ObjectInfo.{ObjectInfo}
+use Rattle.vh_design_nodes.specs.Fits.{has_kind}
+use Rattle.vh_design_nodes.specs.Kinds.{is_event}
 use Rattle.vh_orders.specs.Names.{whole}
 use Rattle.vh_text.specs.declared.radix.Radix.TheVariants.{Binary}
 use Rattle.vh_text.specs.Texts.{text}

@@ -9,7 +9,7 @@ use Rattle.vh_kernel.specs.declared.phase.Phase.TheVariants as phase
 use Rattle.vh_kernel.specs.declared.control.Control.TheVariants as top
 use Rattle.vh_kernel.specs.Occurrences.{Occurrence}
 use Rattle.vh_kernel.specs.State.{State}
-use Rattle.vh_simulation.specs.Activity.{stopped}
+use Rattle.vh_proc_simulation.specs.Activity.{stopped}
 
 -- The text that was shown, if one was; the occurrences that were made, in their order; and the state.
 pub record Made : Type 0 where

@@ -1,8 +1,8 @@
 -- Runs of the machine under a chosen order, and their text.
 use Rattle.std.specs.Prelude.{◌≡◌, ℕ, zero, suc, List, [], ◌∷◌, map, true, if◌then◌else◌, unwrap_or}
 use Rattle.std.specs.List.{flat_map}
-use Rattle.vh_choice.specs.declared.chooser.Chooser.{Chooser}
-use Rattle.vh_choice.specs.Choices.{chosen, chooser_after}
+use Rattle.vh_kernel_choice.specs.declared.chooser.Chooser.{Chooser}
+use Rattle.vh_kernel_choice.specs.Choices.{chosen, chooser_after}
 use Rattle.vh_kernel.specs.declared.label.Label.{Label}
 use Rattle.vh_kernel.specs.declared.label.Label.TheVariants as label
 use Rattle.vh_base.specs.declared.orders.Answer.{Answer}

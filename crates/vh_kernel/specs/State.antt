@@ -12,7 +12,7 @@ use Rattle.vh_kernel.specs.declared.phase.Phase.TheVariants as phase
 use Rattle.vh_kernel.specs.declared.control.Control.{Control}
 use Rattle.vh_design.specs.Shape.{Shape}
 use Rattle.vh_queue.specs.Events.{Events}
-use Rattle.vh_simulation.specs.Activity.{Activity, IsOpening as IsOpeningActivity}
+use Rattle.vh_proc_simulation.specs.Activity.{Activity, IsOpening as IsOpeningActivity}
 use Rattle.vh_handles.specs.Handles.{no_handles}
 use Rattle.vh_orders.specs.Names.{full_names}
 use Rattle.vh_orders.specs.World.{World}

@@ -9,9 +9,9 @@ use Rattle.vh_kernel.specs.Outcome.{Made, Outcome, silently}
 use Rattle.vh_kernel.specs.State.{State, with_top}
 use Rattle.vh_queue.specs.declared.work.Work.{Work}
 use Rattle.vh_queue.specs.declared.work.Work.TheVariants as work
-use Rattle.vh_simulation.specs.Labels.{Came, Performed, performed, worked}
-use Rattle.vh_turn.specs.declared.next.Next.{Next}
-use Rattle.vh_turn.specs.declared.next.Next.TheVariants as next
+use Rattle.vh_proc_simulation.specs.Labels.{Came, Performed, performed, worked}
+use Rattle.vh_proc_turn.specs.declared.next.Next.{Next}
+use Rattle.vh_proc_turn.specs.declared.next.Next.TheVariants as next
 
 -- What a label has changed is what occurs, in that order.
 abbrev pub made_by : Came → State → Made

@@ -39,8 +39,8 @@ use Rattle.vh_kernel.specs.Outcome.{Outcome, Move, silently, end_move, fault_mov
 use Rattle.vh_kernel.specs.Settle.{settled}
 use Rattle.vh_kernel.specs.State.{State, with_queue, with_top, without_top, without_item, with_frames, with_variables}
 use Rattle.vh_kernel.specs.Statements.{statement_outcome, work_outcome}
-use Rattle.vh_simulation.specs.Activity.{is_crowded as has_too_many}
-use Rattle.vh_simulation.specs.Labels.{at_time}
+use Rattle.vh_proc_simulation.specs.Activity.{is_crowded as has_too_many}
+use Rattle.vh_proc_simulation.specs.Labels.{at_time}
 
 -- A finish empties control with its frames, the agenda and the queue, and the end of simulation is pending.
 abbrev pub finish_move : Cause → State → Move

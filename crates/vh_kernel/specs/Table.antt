@@ -22,8 +22,8 @@ use Rattle.vh_kernel.specs.declared.occurrence.Agendum.TheVariants as agendum
 use Rattle.vh_kernel.specs.declared.occurrence.Told.{Told}
 use Rattle.vh_kernel.specs.declared.phase.Phase.TheVariants as phase
 use Rattle.vh_design.specs.Shape.{Shape}
-use Rattle.vh_simulation.specs.Activity.{stopped}
-use Rattle.vh_simulation.specs.Labels.{at_time}
+use Rattle.vh_proc_simulation.specs.Activity.{stopped}
+use Rattle.vh_proc_simulation.specs.Labels.{at_time}
 use Rattle.vh_queue.specs.Events.{eligible, without, next_region, activated, least_time, Rises}
 use Rattle.vh_dispatch.specs.Frames.{top_set, without_in_top}
 use Rattle.vh_kernel.specs.Occurrences.{Occurrence, occurrence_of}

@@ -21,7 +21,7 @@ use vh_app::Script;
 use vh_base::{Cause, Fault, MOST_ENTRIES, NoMemory, ObjId, Reason, Seen};
 use vh_design::Design;
 use vh_orders::{Who, World};
-use vh_simulation::Simulation;
+use vh_proc_simulation::Simulation;
 
 /// The machine of one design with its scripts. What it shows is a state; each call of
 /// [`Kernel::step`] takes the logarithm of the entries that stand in the queue, goes over those

@@ -7,7 +7,7 @@
 //! they order next, on `vh_orders`, which performs it on the world, on `vh_queue`, which has the
 //! entries, on `vh_dispatch` and `vh_callbacks`, which have the frames' sets and what was
 //! registered,
-//! and on `vh_lines`, which has the texts of orders.
+//! and on `vh_app_lines`, which has the texts of orders.
 #![tactic(auto)]
 
 mod activation;

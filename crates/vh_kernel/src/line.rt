@@ -4,15 +4,15 @@ ghost use Rattle.std.specs.Fmt.{decimal};
 ghost use Rattle.vh_kernel.specs.Line.{ending_name, stamped, who_text, object_text, script_name, shown_text};
 ghost use Rattle.vh_kernel.specs.Run.{line_of_move};
 ghost use Rattle.vh_base.specs.Words.{reason_text};
-ghost use Rattle.vh_lines.specs.OrderText.{order_text, answer_text};
-ghost use Rattle.vh_lines.specs.Quoted.{plain_text};
+ghost use Rattle.vh_app_lines.specs.OrderText.{order_text, answer_text};
+ghost use Rattle.vh_app_lines.specs.Quoted.{plain_text};
 ghost use Rattle.vh_kernel.specs.Views.{state_of};
 
 use crate::kernel::Kernel;
 use crate::label::{Ending, Label};
 use std::alloc::AllocError;
+use vh_app_lines::{push_answer, push_number, push_order, push_plain, push_quoted};
 use vh_base::{Answer, Bytes, Object, Order, Reason};
-use vh_lines::{push_answer, push_number, push_order, push_plain, push_quoted};
 use vh_orders::Who;
 
 /// Adds the line of a label at the time that the kernel shows, with its newline; nothing for a

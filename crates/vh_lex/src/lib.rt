@@ -8,7 +8,7 @@
 //! (specs/SourceText.antt). Want of memory is the one free answer. [`lex_laws`] and [`text_laws`] say
 //! that files spell at most one list of tokens, and what a text is.
 //!
-//! It stands on `vh_base`, on `vh_logic` and `vh_text` for the values of numbers, on `vh_shared` for
+//! It stands on `vh_base`, on `vh_logic` and `vh_text` for the values of numbers, on `vh_base_shared` for
 //! names that many share, and on `indexmap`, in which macros are looked up.
 #![tactic(auto)]
 

@@ -10,7 +10,7 @@ use crate::token::{Kind, Token};
 use std::alloc::Global;
 use std::marker::Model;
 use vh_base::{DesignFault, NoMemory, Place};
-use vh_shared::SharedBytes;
+use vh_base_shared::SharedBytes;
 
 // The greatest number of tokens.
 const TOKEN_LIMIT: usize = 4_194_304;

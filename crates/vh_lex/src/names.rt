@@ -2,7 +2,7 @@ ghost use Rattle.std.specs.Prelude.{◌≡◌, IfOk};
 
 use std::alloc::Global;
 use vh_base::NoMemory;
-use vh_shared::SharedBytes;
+use vh_base_shared::SharedBytes;
 
 // How many names are remembered.
 const SLOTS: usize = 1024;

@@ -7,7 +7,7 @@ use crate::piece::{Part, Piece};
 use crate::token::Kind;
 use std::alloc::Global;
 use vh_base::{Bytes, DesignFault, NoMemory};
-use vh_shared::SharedBytes;
+use vh_base_shared::SharedBytes;
 
 // The greatest number of bytes of a string, after its escapes.
 const TEXT_LIMIT: usize = 4096;

@@ -2,8 +2,8 @@ use crate::keyword::Keyword;
 use crate::mark::Mark;
 use crate::setting::Setting;
 use vh_base::{Boxed, Place};
+use vh_base_shared::SharedBytes;
 use vh_logic::Vec4;
-use vh_shared::SharedBytes;
 
 /// A number (IEEE 1364-2005, 3.5.1).
 #[derive(Clone, Copy)]

@@ -1,7 +1,7 @@
 -- Lemmas on `specs/Labels.antt`: one label more.
 use Rattle.std.proofs.Common.{◌≡◌, ◌++◌, ◌∷◌, [], ℕ, true, false, List, refl, ap}
-use Rattle.vh_code.specs.declared.operation.Operation.{Operation}
-use Rattle.vh_flow.specs.Trees.{FlowTree}
+use Rattle.vh_design_code.specs.declared.operation.Operation.{Operation}
+use Rattle.vh_lower_flow.specs.Trees.{FlowTree}
 use Rattle.vh_lower.specs.Labels.{label, further, from_first, is_empty}
 
 pub further-more : (n : ℕ) (os : List Operation) (o : Operation) → further n (os ++ o ∷ []) ≡ further n os ++ label n false o ∷ []

@@ -4,21 +4,21 @@ use Rattle.std.proofs.Common.{◌≡◌, ℕ, zero, suc, ◌+◌, ◌-◌, Bool,
 use Rattle.std.specs.Bool.{⊤}
 use Rattle.std.specs.List.{list_all}
 use Rattle.vh_base.specs.declared.place.Place.{Place}
-use Rattle.vh_nodes.specs.declared.expr.ExprKind.{ExprKind}
-use Rattle.vh_nodes.specs.declared.expr.ExprKind.TheVariants as kind
-use Rattle.vh_nodes.specs.declared.expr.ExprNode.{ExprNode}
+use Rattle.vh_design_nodes.specs.declared.expr.ExprKind.{ExprKind}
+use Rattle.vh_design_nodes.specs.declared.expr.ExprKind.TheVariants as kind
+use Rattle.vh_design_nodes.specs.declared.expr.ExprNode.{ExprNode}
 use Rattle.std.specs.Prelude.{slice_get, IfOk, bytes_eq, codes}
-use Rattle.vh_code.specs.declared.code.Code.{Code}
-use Rattle.vh_code.specs.declared.operation.Operation.{Operation}
-use Rattle.vh_code.specs.declared.operation.Operation.TheVariants as op
-use Rattle.vh_code.specs.declared.operation.Pause.TheVariants as pause
-use Rattle.vh_code.specs.declared.operation.Single.{Single}
-use Rattle.vh_code.specs.declared.operation.Single.TheVariants as single
-use Rattle.vh_code.specs.declared.show.ShowTask.{ShowTask}
-use Rattle.vh_code.specs.declared.statement.StmtKind.{StmtKind}
-use Rattle.vh_code.specs.declared.statement.StmtKind.TheVariants as of_kind
-use Rattle.vh_code.specs.declared.target.Delay.{Delay}
-use Rattle.vh_code.specs.Targets.{targets_width}
+use Rattle.vh_design_code.specs.declared.code.Code.{Code}
+use Rattle.vh_design_code.specs.declared.operation.Operation.{Operation}
+use Rattle.vh_design_code.specs.declared.operation.Operation.TheVariants as op
+use Rattle.vh_design_code.specs.declared.operation.Pause.TheVariants as pause
+use Rattle.vh_design_code.specs.declared.operation.Single.{Single}
+use Rattle.vh_design_code.specs.declared.operation.Single.TheVariants as single
+use Rattle.vh_design_code.specs.declared.show.ShowTask.{ShowTask}
+use Rattle.vh_design_code.specs.declared.statement.StmtKind.{StmtKind}
+use Rattle.vh_design_code.specs.declared.statement.StmtKind.TheVariants as of_kind
+use Rattle.vh_design_code.specs.declared.target.Delay.{Delay}
+use Rattle.vh_design_code.specs.Targets.{targets_width}
 use Rattle.vh_ast.specs.declared.routine.TaskDirection.{TaskDirection}
 use Rattle.vh_ast.specs.declared.routine.TaskDirection.TheVariants as goes
 use Rattle.vh_ast.specs.declared.stmt.AssignWord.{AssignWord}
@@ -39,14 +39,14 @@ use Rattle.vh_bind_stmt.specs.Targets.{targets_bound, output_bound}
 use Rattle.vh_bind_stmt.specs.declared.surroundings.Argument.{Argument}
 use Rattle.vh_bind_stmt.specs.Calls.{Surroundings, arguments_of, begin_of, end_of, calls_in, calls_at, calls_of}
 use Rattle.vh_bind_stmt.specs.Shows.{show_task, arguments_fit, arguments_bound, takes_number}
-use Rattle.vh_nodes.specs.Kinds.{is_event, is_disable_target}
-use Rattle.vh_flow.specs.declared.code_kind.CodeKind.{CodeKind}
-use Rattle.vh_flow.specs.declared.code_kind.CodeKind.TheVariants as of
-use Rattle.vh_flow.specs.declared.flow.Gate.{Gate}
-use Rattle.vh_flow.specs.declared.flow.Gate.TheVariants as gate
-use Rattle.vh_flow.specs.Trees.{FlowTree, ItemTree, flows, case_items}
-use Rattle.vh_flow.specs.Places.{is_closed, is_plain, IsMeasured, AllMeasured, ItemsMeasured}
-use Rattle.vh_flow.proofs.PlacesLemmas.{code-closed}
+use Rattle.vh_design_nodes.specs.Kinds.{is_event, is_disable_target}
+use Rattle.vh_lower_flow.specs.declared.code_kind.CodeKind.{CodeKind}
+use Rattle.vh_lower_flow.specs.declared.code_kind.CodeKind.TheVariants as of
+use Rattle.vh_lower_flow.specs.declared.flow.Gate.{Gate}
+use Rattle.vh_lower_flow.specs.declared.flow.Gate.TheVariants as gate
+use Rattle.vh_lower_flow.specs.Trees.{FlowTree, ItemTree, flows, case_items}
+use Rattle.vh_lower_flow.specs.Places.{is_closed, is_plain, IsMeasured, AllMeasured, ItemsMeasured}
+use Rattle.vh_lower_flow.proofs.PlacesLemmas.{code-closed}
 use Rattle.vh_lower.specs.declared.heads.ForHead.{ForHead}
 use Rattle.vh_lower.specs.declared.heads.Front.{Front}
 use Rattle.vh_lower.specs.declared.heads.Head.{Head}

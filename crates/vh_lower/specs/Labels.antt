@@ -1,15 +1,15 @@
 -- The labels of a statement, and the turns of its loops. (IEEE 1364-2005, clause 9; own: a test behind the body of a loop
 -- stands there once more, since it begins no execution of the loop)
 use Rattle.std.specs.Prelude.{ℕ, List, [], ◌∷◌, ◌++◌, map, Bool, true, false, Some}
-use Rattle.vh_nodes.specs.declared.expr.Selected.{Selected}
-use Rattle.vh_nodes.specs.declared.object.ObjectInfo.{ObjectInfo}
-use Rattle.vh_code.specs.declared.operation.Operation.{Operation}
-use Rattle.vh_code.specs.declared.operation.Operation.TheVariants as op
-use Rattle.vh_code.specs.declared.target.Delay.{Delay}
-use Rattle.vh_code.specs.Targets.{targets_width}
-use Rattle.vh_flow.specs.declared.flow.Gate.{Gate}
-use Rattle.vh_flow.specs.declared.flow.Mark.{Mark}
-use Rattle.vh_flow.specs.Trees.{FlowTree, flows, row, step, choice, turns, sized}
+use Rattle.vh_design_nodes.specs.declared.expr.Selected.{Selected}
+use Rattle.vh_design_nodes.specs.declared.object.ObjectInfo.{ObjectInfo}
+use Rattle.vh_design_code.specs.declared.operation.Operation.{Operation}
+use Rattle.vh_design_code.specs.declared.operation.Operation.TheVariants as op
+use Rattle.vh_design_code.specs.declared.target.Delay.{Delay}
+use Rattle.vh_design_code.specs.Targets.{targets_width}
+use Rattle.vh_lower_flow.specs.declared.flow.Gate.{Gate}
+use Rattle.vh_lower_flow.specs.declared.flow.Mark.{Mark}
+use Rattle.vh_lower_flow.specs.Trees.{FlowTree, flows, row, step, choice, turns, sized}
 
 -- The first label of a statement's execution, and any further one.
 abbrev pub marked : ℕ → Bool → Mark

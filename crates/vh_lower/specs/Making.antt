@@ -3,12 +3,12 @@
 use Rattle.std.specs.Prelude.{◌≡◌, ℕ, ◌-◌, List, [], ◌∷◌, ◌++◌, length, Option, Some, None, Result, Ok, Err, slice_get, unwrap_or}
 use Rattle.vh_base.specs.declared.faults.DesignFault.{DesignFault}
 use Rattle.vh_base.specs.declared.place.Place.{Place}
-use Rattle.vh_code.specs.declared.operation.Operation.{Operation}
-use Rattle.vh_code.specs.declared.show.ShowCall.{ShowCall}
-use Rattle.vh_code.specs.declared.statement.StmtInfo.{StmtInfo}
-use Rattle.vh_code.specs.declared.statement.StmtKind.{StmtKind}
-use Rattle.vh_code.specs.declared.wait.Term.{Term}
-use Rattle.vh_code.specs.declared.wait.WaitInfo.{WaitInfo}
+use Rattle.vh_design_code.specs.declared.operation.Operation.{Operation}
+use Rattle.vh_design_code.specs.declared.show.ShowCall.{ShowCall}
+use Rattle.vh_design_code.specs.declared.statement.StmtInfo.{StmtInfo}
+use Rattle.vh_design_code.specs.declared.statement.StmtKind.{StmtKind}
+use Rattle.vh_design_code.specs.declared.wait.Term.{Term}
+use Rattle.vh_design_code.specs.declared.wait.WaitInfo.{WaitInfo}
 use Rattle.vh_bind.specs.Steps.{Fault, Nodes, Step}
 use Rattle.vh_bind_stmt.specs.Calls.{Surroundings, calls_of, reads_of}
 use Rattle.vh_lower.specs.declared.fault.LowerFault.{LowerFault}

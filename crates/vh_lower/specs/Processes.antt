@@ -1,17 +1,17 @@
 -- The codes of processes that no statement makes: of a declared initial value, and of a continuous assignment. Their
 -- labels belong to no statement. (IEEE 1364-2005, 6.1 and 6.2.1)
 use Rattle.std.specs.Prelude.{ℕ, List, [], false, map, Option, Some, None}
-use Rattle.vh_code.specs.declared.code.Code.{Code}
-use Rattle.vh_code.specs.declared.operation.Operation.{Operation}
-use Rattle.vh_code.specs.declared.operation.Operation.TheVariants as op
-use Rattle.vh_code.specs.declared.target.Delay.{Delay}
+use Rattle.vh_design_code.specs.declared.code.Code.{Code}
+use Rattle.vh_design_code.specs.declared.operation.Operation.{Operation}
+use Rattle.vh_design_code.specs.declared.operation.Operation.TheVariants as op
+use Rattle.vh_design_code.specs.declared.target.Delay.{Delay}
 use Rattle.vh_ast.specs.Expressions.{ExprTree}
 use Rattle.vh_ast.specs.Statements.{DelayTree}
 use Rattle.vh_bind_stmt.specs.Calls.{Surroundings}
-use Rattle.vh_flow.specs.declared.code_kind.CodeKind.{CodeKind}
-use Rattle.vh_flow.specs.declared.code_kind.CodeKind.TheVariants as of
-use Rattle.vh_flow.specs.Laid.{code_of}
-use Rattle.vh_flow.specs.Trees.{FlowTree, step, sized}
+use Rattle.vh_lower_flow.specs.declared.code_kind.CodeKind.{CodeKind}
+use Rattle.vh_lower_flow.specs.declared.code_kind.CodeKind.TheVariants as of
+use Rattle.vh_lower_flow.specs.Laid.{code_of}
+use Rattle.vh_lower_flow.specs.Trees.{FlowTree, step, sized}
 use Rattle.vh_lower.specs.Labels.{in_row, with_label}
 use Rattle.vh_lower.specs.Making.{Making, ◌>>=◌, pure, reading_from, mark}
 use Rattle.vh_lower.specs.Statements.{value_of, delay_of}

@@ -5,31 +5,31 @@ use Rattle.std.specs.Option.{option_and_then}
 use Rattle.vh_base.specs.declared.faults.DesignFault.{DesignFault}
 use Rattle.vh_base.specs.declared.faults.DesignFault.TheVariants.{N1, N5, N7, N10}
 use Rattle.vh_base.specs.declared.place.Place.{Place}
-use Rattle.vh_nodes.specs.declared.expr.Selected.{Selected}
-use Rattle.vh_nodes.specs.declared.object.Kind.{Kind}
-use Rattle.vh_nodes.specs.declared.object.Kind.TheVariants as of
-use Rattle.vh_nodes.specs.Kinds.{is_event, is_disable_target, is_named_block, is_forcible, is_variable, rank}
-use Rattle.vh_nodes.specs.Fits.{has_kind}
-use Rattle.vh_nodes.specs.Widths.{width_of, signed_of, widest, all_signed}
-use Rattle.vh_code.specs.declared.operation.CaseKind.{CaseKind}
-use Rattle.vh_code.specs.declared.operation.CaseKind.TheVariants as compares
-use Rattle.vh_code.specs.declared.operation.Operation.{Operation}
-use Rattle.vh_code.specs.declared.operation.Operation.TheVariants as op
-use Rattle.vh_code.specs.declared.operation.Pause.TheVariants as pause
-use Rattle.vh_code.specs.declared.operation.Single.{Single}
-use Rattle.vh_code.specs.declared.operation.Single.TheVariants as single
-use Rattle.vh_code.specs.declared.show.ShowArg.{ShowArg}
-use Rattle.vh_code.specs.declared.show.ShowTask.{ShowTask}
-use Rattle.vh_code.specs.declared.statement.StmtKind.{StmtKind}
-use Rattle.vh_code.specs.declared.statement.StmtKind.TheVariants as a
-use Rattle.vh_code.specs.declared.target.Delay.{Delay}
-use Rattle.vh_code.specs.declared.target.Input.{Input}
-use Rattle.vh_code.specs.declared.target.Output.{Output}
-use Rattle.vh_code.specs.declared.code.Code.{Code}
-use Rattle.vh_code.specs.declared.wait.Term.{Term}
-use Rattle.vh_scope.specs.declared.names.Meaning.{Meaning}
-use Rattle.vh_scope.specs.LookUp.{object_meant}
-use Rattle.vh_scope.specs.Names.{meaning_in}
+use Rattle.vh_design_nodes.specs.declared.expr.Selected.{Selected}
+use Rattle.vh_design_nodes.specs.declared.object.Kind.{Kind}
+use Rattle.vh_design_nodes.specs.declared.object.Kind.TheVariants as of
+use Rattle.vh_design_nodes.specs.Kinds.{is_event, is_disable_target, is_named_block, is_forcible, is_variable, rank}
+use Rattle.vh_design_nodes.specs.Fits.{has_kind}
+use Rattle.vh_design_nodes.specs.Widths.{width_of, signed_of, widest, all_signed}
+use Rattle.vh_design_code.specs.declared.operation.CaseKind.{CaseKind}
+use Rattle.vh_design_code.specs.declared.operation.CaseKind.TheVariants as compares
+use Rattle.vh_design_code.specs.declared.operation.Operation.{Operation}
+use Rattle.vh_design_code.specs.declared.operation.Operation.TheVariants as op
+use Rattle.vh_design_code.specs.declared.operation.Pause.TheVariants as pause
+use Rattle.vh_design_code.specs.declared.operation.Single.{Single}
+use Rattle.vh_design_code.specs.declared.operation.Single.TheVariants as single
+use Rattle.vh_design_code.specs.declared.show.ShowArg.{ShowArg}
+use Rattle.vh_design_code.specs.declared.show.ShowTask.{ShowTask}
+use Rattle.vh_design_code.specs.declared.statement.StmtKind.{StmtKind}
+use Rattle.vh_design_code.specs.declared.statement.StmtKind.TheVariants as a
+use Rattle.vh_design_code.specs.declared.target.Delay.{Delay}
+use Rattle.vh_design_code.specs.declared.target.Input.{Input}
+use Rattle.vh_design_code.specs.declared.target.Output.{Output}
+use Rattle.vh_design_code.specs.declared.code.Code.{Code}
+use Rattle.vh_design_code.specs.declared.wait.Term.{Term}
+use Rattle.vh_bind_scope.specs.declared.names.Meaning.{Meaning}
+use Rattle.vh_bind_scope.specs.LookUp.{object_meant}
+use Rattle.vh_bind_scope.specs.Names.{meaning_in}
 use Rattle.vh_ast.specs.declared.routine.TaskDirection.{TaskDirection}
 use Rattle.vh_ast.specs.declared.routine.TaskDirection.TheVariants as goes
 use Rattle.vh_ast.specs.declared.stmt.AssignWord.{AssignWord}
@@ -60,13 +60,13 @@ use Rattle.vh_bind_stmt.specs.Delays.{delay_bound}
 use Rattle.vh_bind_stmt.specs.Events.{name_terms, all_terms}
 use Rattle.vh_bind_stmt.specs.Shows.{show_task, arguments_fit, arguments_bound, takes_number}
 use Rattle.vh_bind_stmt.specs.Targets.{targets_bound, output_bound}
-use Rattle.vh_flow.specs.declared.code_kind.CodeKind.{CodeKind}
-use Rattle.vh_flow.specs.declared.flow.CaseHead.{CaseHead}
-use Rattle.vh_flow.specs.declared.flow.Gate.{Gate}
-use Rattle.vh_flow.specs.declared.flow.Mark.{Mark}
-use Rattle.vh_flow.specs.declared.flow.Gate.TheVariants as gate
-use Rattle.vh_flow.specs.Trees.{FlowTree, ItemTree, case_items, case_of, block, fork, flows, sized}
-use Rattle.vh_flow.specs.Laid.{code_of}
+use Rattle.vh_lower_flow.specs.declared.code_kind.CodeKind.{CodeKind}
+use Rattle.vh_lower_flow.specs.declared.flow.CaseHead.{CaseHead}
+use Rattle.vh_lower_flow.specs.declared.flow.Gate.{Gate}
+use Rattle.vh_lower_flow.specs.declared.flow.Mark.{Mark}
+use Rattle.vh_lower_flow.specs.declared.flow.Gate.TheVariants as gate
+use Rattle.vh_lower_flow.specs.Trees.{FlowTree, ItemTree, case_items, case_of, block, fork, flows, sized}
+use Rattle.vh_lower_flow.specs.Laid.{code_of}
 use Rattle.vh_lower.specs.declared.heads.ForHead.{ForHead}
 use Rattle.vh_lower.specs.declared.heads.Front.{Front}
 use Rattle.vh_lower.specs.declared.heads.Head.{Head}

@@ -1,15 +1,15 @@
 -- How contracts see what the code holds.
 use Rattle.std.specs.Prelude.{◌≡◌, true, List, map, OnOk, Result, Ok, Err, Option, Some, None}
-use Rattle.vh_code.specs.declared.operation.Operation.{Operation}
-use Rattle.vh_nodes.specs.Fits.{is_unit}
+use Rattle.vh_design_code.specs.declared.operation.Operation.{Operation}
+use Rattle.vh_design_nodes.specs.Fits.{is_unit}
 use Rattle.vh_bind.specs.declared.scope.Mode.TheVariants as mode
 use Rattle.vh_bind.specs.Nodes.{IsSound}
 use Rattle.vh_bind.specs.Steps.{Fault}
 use Rattle.vh_bind_stmt.specs.Calls.{Surroundings}
 use Rattle.vh_bind_stmt.specs.Views.{surroundings_seen}
-use Rattle.vh_flow.specs.declared.flow.Flow.{Flow}
-use Rattle.vh_flow.specs.Trees.{FlowTree}
-use Rattle.vh_flow.specs.Views.{flow_tree, item_tree}
+use Rattle.vh_lower_flow.specs.declared.flow.Flow.{Flow}
+use Rattle.vh_lower_flow.specs.Trees.{FlowTree}
+use Rattle.vh_lower_flow.specs.Views.{flow_tree, item_tree}
 use Rattle.vh_lower.specs.declared.added.Added as design
 use Rattle.vh_lower.specs.declared.added.Maker as code
 use Rattle.vh_lower.specs.declared.fault.LowerFault.{LowerFault}

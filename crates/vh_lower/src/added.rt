@@ -1,7 +1,7 @@
 use std::alloc::Global;
 use vh_bind_stmt::Surroundings;
-use vh_code::{ShowCall, StmtInfo, WaitInfo};
-use vh_nodes::ExprNode;
+use vh_design_code::{ShowCall, StmtInfo, WaitInfo};
+use vh_design_nodes::ExprNode;
 
 /// What statements add to a design, each at its number.
 #[derive(Drop)]

@@ -15,7 +15,7 @@ use std::alloc::Global;
 use vh_ast::{AssignWord, Delay, Expr, Lv, Set};
 use vh_base::{Boxed, ExprId, NoMemory, Sequence};
 use vh_bind_stmt::targets_width;
-use vh_code::{Delay as Wait, Operation, Schedule, Targets};
+use vh_design_code::{Delay as Wait, Operation, Schedule, Targets};
 
 // A label behind others.
 pub(crate) fn with_label(

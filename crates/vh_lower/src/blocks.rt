@@ -1,6 +1,6 @@
 ghost use Rattle.std.specs.Prelude.{◌≡◌, IfOk};
 ghost use Rattle.vh_bind.specs.Steps.{Gives};
-ghost use Rattle.vh_flow.specs.Views.{flow_tree};
+ghost use Rattle.vh_lower_flow.specs.Views.{flow_tree};
 ghost use Rattle.vh_bind_stmt.specs.Views.{surroundings_seen};
 ghost use Rattle.vh_lower.specs.Making.{Makes};
 ghost use Rattle.vh_lower.specs.Statements.{block_number, block_of, block_of_row, block_named, block_scope, joined, named_block};
@@ -17,9 +17,9 @@ use vh_ast::{BlockWord, Id};
 use vh_base::{DesignFault, NoMemory, ObjId, Place};
 use vh_bind::ElabFault;
 use vh_bind_stmt::{Surroundings, object_of};
-use vh_code::StmtKind;
-use vh_flow::{Flow, FlowForm, Mark};
-use vh_nodes::is_named_block_at;
+use vh_design_code::StmtKind;
+use vh_design_nodes::is_named_block_at;
+use vh_lower_flow::{Flow, FlowForm, Mark};
 
 // The number of a `fork`; a `begin` is no statement and has none.
 pub(crate) fn block_number(maker: &mut Maker, word: BlockWord, place: Place) -> Lowered<u32>

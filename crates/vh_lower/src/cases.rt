@@ -1,7 +1,7 @@
 ghost use Rattle.std.specs.Prelude.{◌≡◌, [], ◌∷◌, ◌++◌, map, IfOk, OnOk};
-ghost use Rattle.vh_nodes.specs.Widths.{widest, all_signed};
+ghost use Rattle.vh_design_nodes.specs.Widths.{widest, all_signed};
 ghost use Rattle.vh_ast.specs.Views.{expr_tree};
-ghost use Rattle.vh_flow.specs.Views.{flow_tree, item_tree};
+ghost use Rattle.vh_lower_flow.specs.Views.{flow_tree, item_tree};
 ghost use Rattle.vh_lower.specs.Statements.{case_kind, case_head, case_with, case_tree, no_cases, or_nothing, with_item, with_default, values_of};
 ghost use Rattle.vh_lower.specs.Views.{cases_seen, flows_seen, Performs, Stands, Adds};
 
@@ -13,9 +13,9 @@ use sqlite_items::{Boxed, Items};
 use std::alloc::Global;
 use vh_ast::{CaseWord, Expr};
 use vh_base::{ExprId, NoMemory, Sequence};
-use vh_code::{CaseKind, Operation};
-use vh_flow::{CaseHead, CaseItem, Flow, FlowForm, Mark};
-use vh_nodes::{ExprIds, ExprNode, signed_of, width_of};
+use vh_design_code::{CaseKind, Operation};
+use vh_design_nodes::{ExprIds, ExprNode, signed_of, width_of};
+use vh_lower_flow::{CaseHead, CaseItem, Flow, FlowForm, Mark};
 
 // A `case` so far: the calls that its test makes, all its labels, its statements, and what is done
 // where no label fits.

@@ -15,10 +15,10 @@ use std::alloc::Global;
 use vh_ast::Event;
 use vh_base::{Place, Sequence};
 use vh_bind::{ElabFault, Scope};
+use vh_bind_scope::Top;
 use vh_bind_stmt::{all_terms, name_terms};
-use vh_code::{Pause, StmtKind, Terms};
-use vh_nodes::ExprNode;
-use vh_scope::Top;
+use vh_design_code::{Pause, StmtKind, Terms};
+use vh_design_nodes::ExprNode;
 
 // What an event control other than `@*` waits for.
 fn listed_terms(

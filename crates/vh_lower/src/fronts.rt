@@ -10,7 +10,7 @@ use crate::heads::{ForHead, Front, Head};
 use crate::making::{delay_of, numbered, reading_from, value_of};
 use vh_ast::{Delay, Expr, Set};
 use vh_base::{Place, Sequence};
-use vh_code::{Operation, Pause, StmtKind};
+use vh_design_code::{Operation, Pause, StmtKind};
 
 // A statement's number, with its test and the calls that this makes.
 pub(crate) fn headed(maker: &mut Maker, kind: StmtKind, place: Place, test: &Expr) -> Lowered<Head>

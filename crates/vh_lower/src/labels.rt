@@ -1,13 +1,13 @@
 ghost use Rattle.std.specs.Prelude.{◌≡◌, [], ◌∷◌, ◌++◌, IfOk, OnOk};
-ghost use Rattle.vh_flow.specs.Views.{flow_tree};
+ghost use Rattle.vh_lower_flow.specs.Views.{flow_tree};
 ghost use Rattle.vh_lower.specs.Labels.{label, choice_of, behind_label, in_row, nothing, further, from_first, labels, is_empty, gated, gated_further, again};
 ghost use Rattle.vh_lower.specs.Views.{flows_seen};
 
 use sqlite_items::{Boxed, Items};
 use std::alloc::Global;
 use vh_base::{NoMemory, Sequence};
-use vh_code::Operation;
-use vh_flow::{Flow, FlowForm, Gate, Mark, Step, copied};
+use vh_design_code::Operation;
+use vh_lower_flow::{Flow, FlowForm, Gate, Mark, Step, copied};
 
 // Labels in a row, which contracts see as a list.
 pub(crate) type Operations = Sequence<Operation>;

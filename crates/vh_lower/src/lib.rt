@@ -8,7 +8,7 @@
 //! those of gates, are made by [`value_of`], [`delay_of`], [`with_calls`], [`reading_from`] and
 //! [`driving_code`].
 //!
-//! It stands on `vh_bind_stmt` for the parts of statements, and on `vh_flow` for the code of a bound
+//! It stands on `vh_bind_stmt` for the parts of statements, and on `vh_lower_flow` for the code of a bound
 //! statement.
 #![tactic(auto)]
 

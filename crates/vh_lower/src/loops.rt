@@ -1,5 +1,5 @@
 ghost use Rattle.std.specs.Prelude.{◌≡◌, [], IfOk};
-ghost use Rattle.vh_flow.specs.Views.{flow_tree};
+ghost use Rattle.vh_lower_flow.specs.Views.{flow_tree};
 ghost use Rattle.vh_lower.specs.Statements.{if_flow, while_flow, repeat_flow, loop_flow, for_turns, for_flow, forever_flow};
 
 use crate::heads::{ForHead, Head};
@@ -10,7 +10,7 @@ use sqlite_items::Items;
 use std::alloc::Global;
 use vh_ast::LoopWord;
 use vh_base::{NoMemory, Sequence};
-use vh_flow::{Flow, Gate};
+use vh_lower_flow::{Flow, Gate};
 
 // No labels.
 fn none(alloc: Global) -> Operations

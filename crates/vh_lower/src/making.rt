@@ -12,7 +12,9 @@ use vh_ast::{Delay, Expr, Lv};
 use vh_base::{ExprId, NoMemory, ObjId, Place, ShowId, WaitId};
 use vh_bind_expr::bind_expr;
 use vh_bind_stmt::{Surroundings, add_calls, bind_delay, bind_output, bind_targets, reads_of};
-use vh_code::{Delay as Wait, Operation, ShowCall, StmtInfo, StmtKind, Targets, Terms, WaitInfo};
+use vh_design_code::{
+    Delay as Wait, Operation, ShowCall, StmtInfo, StmtKind, Targets, Terms, WaitInfo,
+};
 
 /// What was bound, with the calls that are made from one expression on, where it isn't passed over.
 pub fn with_calls<T: Drop>(

@@ -1,6 +1,6 @@
 ghost use Rattle.std.specs.Prelude.{◌≡◌};
-ghost use Rattle.vh_nodes.specs.Fits.{has_kind};
-ghost use Rattle.vh_nodes.specs.Kinds.{is_event, is_disable_target};
+ghost use Rattle.vh_design_nodes.specs.Fits.{has_kind};
+ghost use Rattle.vh_design_nodes.specs.Kinds.{is_event, is_disable_target};
 ghost use Rattle.vh_ast.specs.Views.{lv_tree, name_tree, sel_tree};
 ghost use Rattle.vh_bind.specs.Steps.{Gives};
 ghost use Rattle.vh_bind.specs.Scopes.{here};
@@ -17,11 +17,11 @@ use vh_ast::{Expr, ForceWord, Lv, LvPart, Name, ReleaseWord, Sel};
 use vh_base::{DesignFault, ObjId, Place};
 use vh_bind::{ElabFault, Readable, Scope, meaning};
 use vh_bind_expr::name_read;
+use vh_bind_scope::{Meaning, Top};
 use vh_bind_stmt::{arguments_of, object_meant};
-use vh_nodes::{
+use vh_design_nodes::{
     ExprNode, Kind, ObjectInfo, is_disable_target_at, is_event_at, is_forcible_at, is_variable_at,
 };
-use vh_scope::{Meaning, Top};
 
 // It, or else the name's fault.
 pub(crate) fn meant_object(place: Place, object: Option<ObjId>) -> Result<Option<ObjId>, ElabFault>

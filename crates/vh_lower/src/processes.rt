@@ -1,9 +1,9 @@
 ghost use Rattle.std.specs.Prelude.{◌≡◌, ◌++◌, true, IfOk, OnOk};
 ghost use Rattle.std.specs.Option.{option_map};
 ghost use Rattle.vh_ast.specs.Views.{delay_tree, expr_tree};
-ghost use Rattle.vh_flow.specs.declared.code_kind.CodeKind.TheVariants as of;
-ghost use Rattle.vh_flow.specs.Places.{is_closed};
-ghost use Rattle.vh_flow.specs.Views.{flow_tree};
+ghost use Rattle.vh_lower_flow.specs.declared.code_kind.CodeKind.TheVariants as of;
+ghost use Rattle.vh_lower_flow.specs.Places.{is_closed};
+ghost use Rattle.vh_lower_flow.specs.Views.{flow_tree};
 ghost use Rattle.vh_lower.specs.Labels;
 ghost use Rattle.vh_lower.specs.Making.{Makes};
 ghost use Rattle.vh_lower.specs.Processes.{plain_label, plain_labels, plain_code, initial_labels, initial_code, drive_at, drive_behind, drive_labels, drive_code};
@@ -18,8 +18,8 @@ use sqlite_items::{Boxed as TreeBox, Items};
 use std::alloc::Global;
 use vh_ast::{Delay, Expr};
 use vh_base::{Boxed, ExprId, NoMemory, ObjId, WaitId};
-use vh_code::{Code, Delay as Wait, Drive, DriverIds, Operation};
-use vh_flow::{CodeKind, Flow, FlowForm, Mark, Step, code_of};
+use vh_design_code::{Code, Delay as Wait, Drive, DriverIds, Operation};
+use vh_lower_flow::{CodeKind, Flow, FlowForm, Mark, Step, code_of};
 
 // A label that belongs to no statement.
 fn plain_label(operation: Operation) -> Result<Flow, NoMemory>

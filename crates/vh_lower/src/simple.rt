@@ -1,7 +1,7 @@
 ghost use Rattle.std.specs.Prelude.{◌≡◌, [], ◌∷◌, IfOk};
 ghost use Rattle.vh_ast.specs.Views.{lv_tree, name_tree, set_tree, simple_tree};
-ghost use Rattle.vh_code.specs.declared.operation.Operation.TheVariants as Op;
-ghost use Rattle.vh_flow.specs.Views.{flow_tree};
+ghost use Rattle.vh_design_code.specs.declared.operation.Operation.TheVariants as Op;
+ghost use Rattle.vh_lower_flow.specs.Views.{flow_tree};
 ghost use Rattle.vh_lower.specs.Making.{Makes};
 ghost use Rattle.vh_lower.specs.Statements.{force_single, release_single, force_stmt, release_stmt, force_labels, release_labels, trigger_labels, disable_labels, is_null, simple_kind, simple_labels, simple_flow};
 ghost use Rattle.vh_lower.specs.Views.{MakesTo, Stands, Adds};
@@ -17,8 +17,8 @@ use crate::tasks::task_labels;
 use std::alloc::Global;
 use vh_ast::{Expr, ForceWord, Lv, Name, ReleaseWord, Set, Simple};
 use vh_base::{ExprId, NoMemory, ObjId, Place};
-use vh_code::{Operation, Pause, Single, StmtKind};
-use vh_flow::Flow;
+use vh_design_code::{Operation, Pause, Single, StmtKind};
+use vh_lower_flow::Flow;
 
 // One label.
 pub(crate) fn one_single(alloc: Global, single: Single) -> Result<Operations, NoMemory>

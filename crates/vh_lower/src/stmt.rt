@@ -1,12 +1,12 @@
 ghost use Rattle.std.specs.Prelude.{◌≡◌, [], ◌∷◌, ◌++◌, map, true, IfOk, OnOk};
 ghost use Rattle.vh_ast.specs.Statements;
 ghost use Rattle.vh_ast.specs.Views.{citem_tree, event_tree, labels_tree, stmt_tree};
-ghost use Rattle.vh_nodes.specs.Fits.{is_unit};
+ghost use Rattle.vh_design_nodes.specs.Fits.{is_unit};
 ghost use Rattle.vh_bind.specs.declared.scope.Mode.TheVariants as mode;
 ghost use Rattle.vh_bind.specs.Nodes.{IsSound};
 ghost use Rattle.vh_bind_stmt.specs.Views.{surroundings_seen};
-ghost use Rattle.vh_flow.specs.Places.{is_closed};
-ghost use Rattle.vh_flow.specs.Views.{flow_tree};
+ghost use Rattle.vh_lower_flow.specs.Places.{is_closed};
+ghost use Rattle.vh_lower_flow.specs.Views.{flow_tree};
 ghost use Rattle.vh_lower.specs.Making.{Makes};
 ghost use Rattle.vh_lower.specs.Statements.{behind_front, block_flow, event_flow, inside, inside_of, item_with, items_flow, lowered, stmt_flow, stmts_flow};
 ghost use Rattle.vh_lower.specs.Views.{added_seen, cases_seen, flows_seen, MakesTo, Stands, Adds, Leaves};
@@ -27,10 +27,10 @@ use std::alloc::Global;
 use vh_ast::{BlockWord, Citem, Event, Id, Labels, LoopWord, Stmt, StmtForm};
 use vh_base::{NoMemory, ObjId, Place};
 use vh_bind::Scope;
+use vh_bind_scope::Top;
 use vh_bind_stmt::Surroundings;
-use vh_code::{Code, Pause, StmtKind};
-use vh_flow::{CodeKind, Flow, code_of};
-use vh_scope::Top;
+use vh_design_code::{Code, Pause, StmtKind};
+use vh_lower_flow::{CodeKind, Flow, code_of};
 
 // Labels, and the statement behind them.
 fn behind_front(alloc: Global, front: Front, body: Flow) -> Result<Flow, NoMemory>

@@ -16,7 +16,7 @@ use sqlite_items::Items;
 use vh_ast::{Expr, Id};
 use vh_base::{DesignFault, Place};
 use vh_bind_stmt::{arguments_fit, bind_arguments, show_task, takes_number};
-use vh_code::{Operation, ShowArgs, ShowCall, ShowTask, Single};
+use vh_design_code::{Operation, ShowArgs, ShowCall, ShowTask, Single};
 
 // The arguments of a display call, with the calls that they make.
 fn arguments_of_show(

@@ -15,7 +15,7 @@ use std::alloc::Global;
 use vh_ast::{Expr, Name, TaskDirection};
 use vh_base::{Boxed, ExprId, NoMemory, ObjId, Sequence};
 use vh_bind_stmt::{Argument, arguments_of};
-use vh_code::{Input, Leave, Operation, Output, Targets};
+use vh_design_code::{Input, Leave, Operation, Output, Targets};
 
 // The call of a task so far: the labels before its begin and before its end, and what these write.
 #[derive(Drop)]

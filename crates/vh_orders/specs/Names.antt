@@ -7,12 +7,12 @@ use Rattle.vh_base.specs.declared.orders.Object.{Object}
 use Rattle.vh_base.specs.declared.words.Reason.{Reason}
 use Rattle.vh_base.specs.declared.words.Reason.TheVariants as reason
 use Rattle.vh_design.specs.Shape.{Shape}
-use Rattle.vh_names.specs.Names.{full_name}
-use Rattle.vh_nodes.specs.declared.object.Kind.{Kind}
-use Rattle.vh_nodes.specs.declared.object.Kind.TheVariants as of
-use Rattle.vh_nodes.specs.declared.object.ObjectInfo.{ObjectInfo}
-use Rattle.vh_nodes.specs.Fits.{lowest_of}
-use Rattle.vh_nodes.specs.Kinds.{is_scope, is_vector, is_memory, is_event, is_forcible}
+use Rattle.vh_design_names.specs.Names.{full_name}
+use Rattle.vh_design_nodes.specs.declared.object.Kind.{Kind}
+use Rattle.vh_design_nodes.specs.declared.object.Kind.TheVariants as of
+use Rattle.vh_design_nodes.specs.declared.object.ObjectInfo.{ObjectInfo}
+use Rattle.vh_design_nodes.specs.Fits.{lowest_of}
+use Rattle.vh_design_nodes.specs.Kinds.{is_scope, is_vector, is_memory, is_event, is_forcible}
 use Rattle.vh_orders.specs.declared.names.Named.{Named}
 
 -- A path below a scope.

@@ -26,7 +26,7 @@ use Rattle.vh_callbacks.specs.Marks.{without_number}
 use Rattle.vh_handles.specs.declared.handles.Thing.{Thing}
 use Rattle.vh_handles.specs.declared.handles.Thing.TheVariants as thing
 use Rattle.vh_handles.specs.Handles.{thing_at, opened, freed, no_handle_more}
-use Rattle.vh_nodes.specs.Kinds.{is_scope}
+use Rattle.vh_design_nodes.specs.Kinds.{is_scope}
 use Rattle.vh_orders.specs.Names.{object_named, name_of, is_kind, may_watch, below}
 use Rattle.vh_orders.specs.World.{World}
 

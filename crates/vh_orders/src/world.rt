@@ -1,5 +1,5 @@
 ghost use Rattle.std.specs.Prelude.{◌≡◌, Ok, Err};
-ghost use Rattle.vh_nodes.specs.Kinds.{is_scope};
+ghost use Rattle.vh_design_nodes.specs.Kinds.{is_scope};
 ghost use Rattle.vh_orders.specs.Names.{name_of, is_kind, may_watch};
 ghost use Rattle.vh_orders.specs.Views.{world_of};
 

@@ -1,18 +1,18 @@
 -- A turn of each loop of the parser.
 use Rattle.std.proofs.Common.{◌≡◌, ℕ, ◌<◌, true, false, List, [], ◌∷◌, ◌++◌, length, refl}
-use Rattle.vh_grammar.specs.Part.{only, after}
-use Rattle.vh_grammar.specs.Conditions.{Advances}
-use Rattle.vh_grammar.specs.Reading.{got, next_is}
-use Rattle.vh_grammar.specs.Marking.{marks, joined_marks}
-use Rattle.vh_grammar.proofs.MarkTurns.{marks_less, joined_marks_turn}
+use Rattle.vh_parse_grammar.specs.Part.{only, after}
+use Rattle.vh_parse_grammar.specs.Conditions.{Advances}
+use Rattle.vh_parse_grammar.specs.Reading.{got, next_is}
+use Rattle.vh_parse_grammar.specs.Marking.{marks, joined_marks}
+use Rattle.vh_parse_grammar.proofs.MarkTurns.{marks_less, joined_marks_turn}
 use Rattle.vh_ast.specs.Statements.{EvTree}
-use Rattle.vh_syntax.specs.declared.sign.Sign.TheVariants as sign
-use Rattle.vh_syntax.specs.Tokens.{Token, is, is_unused}
-use Rattle.vh_syntax.specs.Parts.{G, the, comma_more}
-use Rattle.vh_syntax.specs.Statements.{is_or, ev}
-use Rattle.vh_syntax.specs.Grammar.{grammar}
-use Rattle.vh_syntax.specs.ExpressionConditions.{expression_advances}
-use Rattle.vh_syntax.specs.Table.{eating, advancing}
+use Rattle.vh_parse_syntax.specs.declared.sign.Sign.TheVariants as sign
+use Rattle.vh_parse_syntax.specs.Tokens.{Token, is, is_unused}
+use Rattle.vh_parse_syntax.specs.Parts.{G, the, comma_more}
+use Rattle.vh_parse_syntax.specs.Statements.{is_or, ev}
+use Rattle.vh_parse_syntax.specs.Grammar.{grammar}
+use Rattle.vh_parse_syntax.specs.ExpressionConditions.{expression_advances}
+use Rattle.vh_parse_syntax.specs.Table.{eating, advancing}
 use Rattle.vh_parse_decl.specs.Pieces.{more_evs}
 
 -- A list goes on by one behind a comma

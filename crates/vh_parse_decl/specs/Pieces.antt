@@ -1,11 +1,11 @@
 -- Parts of the table that have no name there, for the functions that read them.
 use Rattle.std.specs.Prelude.{◌&&◌, List, Option}
-use Rattle.vh_grammar.specs.Part.{rep, barred, only, opt, two, after, listed}
+use Rattle.vh_parse_grammar.specs.Part.{rep, barred, only, opt, two, after, listed}
 use Rattle.vh_ast.specs.Statements.{DelayTree, EvTree}
-use Rattle.vh_syntax.specs.declared.sign.Sign.TheVariants as sign
-use Rattle.vh_syntax.specs.Tokens.{is}
-use Rattle.vh_syntax.specs.Parts.{G, at_the}
-use Rattle.vh_syntax.specs.Statements.{delay_of, is_expr, delay_value, delay, is_or, ev}
+use Rattle.vh_parse_syntax.specs.declared.sign.Sign.TheVariants as sign
+use Rattle.vh_parse_syntax.specs.Tokens.{is}
+use Rattle.vh_parse_syntax.specs.Parts.{G, at_the}
+use Rattle.vh_parse_syntax.specs.Statements.{delay_of, is_expr, delay_value, delay, is_or, ev}
 
 -- A delay up to the bracket that ends it: the "," behind its expression shows a second one (IEEE
 -- 1364-2005, A.2.2.3).

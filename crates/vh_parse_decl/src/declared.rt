@@ -1,33 +1,34 @@
 //! Types, ranges and declarations.
 
-ghost use Rattle.std.specs.Prelude.{Option, option_map, map};
-ghost use Rattle.vh_grammar.specs.Part.{opt};
+ghost use Rattle.std.specs.Prelude.{◌≡◌, Option, option_map, map, IfOk};
+ghost use Rattle.vh_parse_grammar.specs.Part.{opt};
+ghost use Rattle.vh_parse_grammar.specs.Says.{Says};
 ghost use Rattle.vh_ast.specs.Declarations as trees;
 ghost use Rattle.vh_ast.specs.Views.{range_tree, type_tree, var_part_tree, var_tree, init_tree, decl_tree};
-ghost use Rattle.vh_syntax.specs.declared.sign.Sign.TheVariants as signs;
-ghost use Rattle.vh_syntax.specs.Tokens.{is};
-ghost use Rattle.vh_syntax.specs.Declarations as parts;
-ghost use Rattle.vh_syntax.specs.Declarations.{a_range, a_type, an_init, a_var, decl};
-ghost use Rattle.vh_parse_expr.specs.Views.{Reads};
+ghost use Rattle.vh_parse_syntax.specs.declared.sign.Sign.TheVariants as signs;
+ghost use Rattle.vh_parse_syntax.specs.Tokens.{is, token_seen};
+ghost use Rattle.vh_parse_syntax.specs.Declarations as parts;
+ghost use Rattle.vh_parse_syntax.specs.Declarations.{a_range, a_type, an_init, a_var, decl};
+ghost use Rattle.vh_parse_expr.specs.Views.{Reads, read_from};
 ghost use Rattle.vh_parse_decl.specs.Conditions.{var_advances, init_advances};
 
 use crate::lists::{Listed, list};
-use crate::values::{behind, value};
+use crate::values::{behind, then_behind, value};
 use sqlite_items::{Boxed, Items};
 use std::alloc::Global;
 use vh_ast::{DataType, Decl, Id, Init, Range, Var, VarPart};
 use vh_parse_expr::{At, Read, expression, id, sign, then_sign};
-use vh_syntax::{Class, Sign};
+use vh_parse_syntax::{Class, Sign};
 
 /// `range`
-#[tactic(auto, unfolding(vh_syntax::specs::Declarations::a_range))]
+#[tactic(auto, unfolding(vh_parse_syntax::specs::Declarations::a_range))]
 pub fn range<'t>(alloc: Global, depth: usize, at: At<'t>) -> Read<'t, Range>
     ensures { Reads range_tree depth a_range at.entry result }
 {
     let (place, opened) = sign(Sign::LeftBracket, at)?;
     let (left, colon) = expression(alloc, depth, true, opened)?;
-    let (right, closing) = behind(alloc, depth, true, Sign::Colon, colon)?;
-    let (right, rest) = then_sign(right, Sign::RightBracket, closing)?;
+    let (both, closing) = then_behind(alloc, depth, left, Sign::Colon, colon)?;
+    let ((left, right), rest) = then_sign(both, Sign::RightBracket, closing)?;
     Ok((Range { place, left, right }, rest))
 }
 
@@ -54,7 +55,7 @@ fn written_range<'t>(alloc: Global, depth: usize, at: At<'t>) -> Read<'t, Option
 }
 
 /// `type`
-#[tactic(auto, unfolding(vh_syntax::specs::Declarations::a_type))]
+#[tactic(auto, unfolding(vh_parse_syntax::specs::Declarations::a_type))]
 pub fn data_type<'t>(alloc: Global, depth: usize, at: At<'t>) -> Read<'t, DataType>
     ensures { Reads type_tree depth a_type at.entry result }
 {
@@ -63,12 +64,14 @@ pub fn data_type<'t>(alloc: Global, depth: usize, at: At<'t>) -> Read<'t, DataTy
     Ok((DataType { signed, range }, rest))
 }
 
-// The cursor, where a range may be next that is left out.
-fn no_range<'t>(barred: bool, at: At<'t>) -> Read<'t, ()>
-    ensures { Reads (λ u. u) 0 (parts.no_range barred) at.entry result }
+// What was read, where a range may be next that is left out.
+fn no_range<'t, T: Drop>(tree: T, barred: bool, at: At<'t>) -> Read<'t, T>
+    ensures tree { IfOk result (λ read. read.0 ≡ tree) }
+    ensures marked { Says token_seen (λ _. tt) (read_from 0 (parts.no_range barred) at.entry)
+        result }
 {
     let shown = barred && at.next_is(Class::Is(Sign::LeftBracket));
-    Ok(((), at.marked(at.tokens, shown)))
+    Ok((tree, at.marked(at.tokens, shown)))
 }
 
 /// `ID`, behind which a range is left out where it is so.
@@ -76,18 +79,18 @@ pub fn bare_id<'t>(barred: bool, at: At<'t>) -> Read<'t, Id>
     ensures { Reads (λ i. i) 0 (parts.bare_id barred) at.entry result }
 {
     let (id, more) = id(at)?;
-    let ((), rest) = no_range(barred, more)?;
+    let (id, rest) = no_range(id, barred, more)?;
     Ok((id, rest))
 }
 
 // `[ range | "=" expr ]`, behind the name of a register.
-#[tactic(auto, unfolding(vh_syntax::specs::Declarations::var_part))]
+#[tactic(auto, unfolding(vh_parse_syntax::specs::Declarations::var_part))]
 fn var_part<'t>(alloc: Global, depth: usize, at: At<'t>) -> Read<'t, VarPart>
     ensures { Reads var_part_tree depth parts.var_part at.entry result }
 {
     if at.next_is(Class::Is(Sign::LeftBracket)) {
         let (range, more) = range(alloc, depth, at)?;
-        let ((), rest) = no_range(true, more)?;
+        let (range, rest) = no_range(range, true, more)?;
         return Ok((VarPart::Range(Boxed::new(alloc, range)?), rest));
     }
     if at.next_is(Class::Is(Sign::Equal)) {
@@ -98,7 +101,7 @@ fn var_part<'t>(alloc: Global, depth: usize, at: At<'t>) -> Read<'t, VarPart>
 }
 
 // `var`
-#[tactic(auto, unfolding(vh_syntax::specs::Declarations::a_var))]
+#[tactic(auto, unfolding(vh_parse_syntax::specs::Declarations::a_var))]
 fn var<'t>(alloc: Global, depth: usize, at: At<'t>) -> Read<'t, Var>
     ensures { Reads var_tree depth a_var at.entry result }
 {
@@ -108,7 +111,7 @@ fn var<'t>(alloc: Global, depth: usize, at: At<'t>) -> Read<'t, Var>
 }
 
 // `init`
-#[tactic(auto, unfolding(vh_syntax::specs::Declarations::an_init))]
+#[tactic(auto, unfolding(vh_parse_syntax::specs::Declarations::an_init))]
 fn init<'t>(alloc: Global, depth: usize, at: At<'t>) -> Read<'t, Init>
     ensures { Reads init_tree depth an_init at.entry result }
 {
@@ -156,7 +159,7 @@ impl Listed for Inits {
 }
 
 // `"reg" type var { "," var } ";"`
-#[tactic(auto, unfolding(vh_syntax::specs::Declarations::reg_decl))]
+#[tactic(auto, unfolding(vh_parse_syntax::specs::Declarations::reg_decl))]
 fn reg_decl<'t>(alloc: Global, depth: usize, at: At<'t>) -> Read<'t, Decl>
     ensures { Reads decl_tree depth parts.reg_decl at.entry result }
 {
@@ -173,7 +176,7 @@ fn reg_decl<'t>(alloc: Global, depth: usize, at: At<'t>) -> Read<'t, Decl>
 }
 
 // `"integer" init { "," init } ";"`
-#[tactic(auto, unfolding(vh_syntax::specs::Declarations::integer_decl))]
+#[tactic(auto, unfolding(vh_parse_syntax::specs::Declarations::integer_decl))]
 fn integer_decl<'t>(alloc: Global, depth: usize, at: At<'t>) -> Read<'t, Decl>
     ensures { Reads decl_tree depth parts.integer_decl at.entry result }
 {
@@ -184,7 +187,7 @@ fn integer_decl<'t>(alloc: Global, depth: usize, at: At<'t>) -> Read<'t, Decl>
 }
 
 // `"time" init { "," init } ";"`
-#[tactic(auto, unfolding(vh_syntax::specs::Declarations::time_decl))]
+#[tactic(auto, unfolding(vh_parse_syntax::specs::Declarations::time_decl))]
 fn time_decl<'t>(alloc: Global, depth: usize, at: At<'t>) -> Read<'t, Decl>
     ensures { Reads decl_tree depth parts.time_decl at.entry result }
 {
@@ -195,7 +198,7 @@ fn time_decl<'t>(alloc: Global, depth: usize, at: At<'t>) -> Read<'t, Decl>
 }
 
 /// `decl`
-#[tactic(auto, unfolding(vh_syntax::specs::Declarations::decl))]
+#[tactic(auto, unfolding(vh_parse_syntax::specs::Declarations::decl))]
 pub fn declaration<'t>(alloc: Global, depth: usize, at: At<'t>) -> Read<'t, Decl>
     ensures { Reads decl_tree depth decl at.entry result }
 {

@@ -1,20 +1,20 @@
 //! What stands in lists behind commas.
 
 ghost use Rattle.std.specs.Prelude.{Bool, map};
-ghost use Rattle.vh_grammar.specs.Part.{after};
-ghost use Rattle.vh_grammar.specs.Conditions.{Advances};
-ghost use Rattle.vh_grammar.specs.Marking.{joined_marks};
-ghost use Rattle.vh_grammar.specs.Says.{Says};
-ghost use Rattle.vh_syntax.specs.Tokens.{token_seen};
-ghost use Rattle.vh_syntax.specs.declared.sign.Sign.TheVariants as sign;
-ghost use Rattle.vh_syntax.specs.Parts.{G, the, comma_list, comma_more};
+ghost use Rattle.vh_parse_grammar.specs.Part.{after};
+ghost use Rattle.vh_parse_grammar.specs.Conditions.{Advances};
+ghost use Rattle.vh_parse_grammar.specs.Marking.{joined_marks};
+ghost use Rattle.vh_parse_grammar.specs.Says.{Says};
+ghost use Rattle.vh_parse_syntax.specs.Tokens.{token_seen};
+ghost use Rattle.vh_parse_syntax.specs.declared.sign.Sign.TheVariants as sign;
+ghost use Rattle.vh_parse_syntax.specs.Parts.{G, the, comma_list, comma_more};
 ghost use Rattle.vh_parse_expr.specs.Views.{Reads, read_from};
 
 use sqlite_items::Items;
 use std::alloc::Global;
 use vh_ast::only;
 use vh_parse_expr::{At, Read};
-use vh_syntax::{Class, Sign};
+use vh_parse_syntax::{Class, Sign};
 
 /// What stands in lists: a production with what is read by it. Most have two forms, by whether calls may
 /// stand in them or whether a range is left out behind them; where there is one alone, `form` says

@@ -1,15 +1,15 @@
 //! Delays and events.
 
 ghost use Rattle.std.specs.Prelude.{◌≡◌, ◌&&◌, Bool, Option, option_map, map};
-ghost use Rattle.vh_grammar.specs.Part.{only, after, listed};
-ghost use Rattle.vh_grammar.specs.Reading.{next_is};
-ghost use Rattle.vh_grammar.specs.Marking.{joined_marks};
-ghost use Rattle.vh_grammar.specs.Says.{Says};
+ghost use Rattle.vh_parse_grammar.specs.Part.{only, after, listed};
+ghost use Rattle.vh_parse_grammar.specs.Reading.{next_is};
+ghost use Rattle.vh_parse_grammar.specs.Marking.{joined_marks};
+ghost use Rattle.vh_parse_grammar.specs.Says.{Says};
 ghost use Rattle.vh_ast.specs.Views.{delay_value_tree, delay_tree, ev_tree, event_tree};
-ghost use Rattle.vh_syntax.specs.declared.sign.Sign.TheVariants as signs;
-ghost use Rattle.vh_syntax.specs.Tokens.{token_seen, is};
-ghost use Rattle.vh_syntax.specs.Statements as parts;
-ghost use Rattle.vh_syntax.specs.Statements.{is_expr, is_or, ev};
+ghost use Rattle.vh_parse_syntax.specs.declared.sign.Sign.TheVariants as signs;
+ghost use Rattle.vh_parse_syntax.specs.Tokens.{token_seen, is};
+ghost use Rattle.vh_parse_syntax.specs.Statements as parts;
+ghost use Rattle.vh_parse_syntax.specs.Statements.{is_expr, is_or, ev};
 ghost use Rattle.vh_parse_expr.specs.Views.{Reads, read_from, tokens_seen};
 ghost use Rattle.vh_parse_decl.specs.Pieces.{delay_front, delay_behind, more_evs, ev_list};
 
@@ -19,10 +19,10 @@ use sqlite_items::{Boxed, Items};
 use std::alloc::Global;
 use vh_ast::{Delay, DelayValue, Ev, Event, only};
 use vh_parse_expr::{At, Read, Standing, expression, id, path, sign, then_sign};
-use vh_syntax::{Class, Group, Rows, Sign};
+use vh_parse_syntax::{Class, Group, Rows, Sign};
 
 // What follows the sign of a delay, up to the bracket that ends it.
-#[tactic(auto, unfolding(vh_syntax::specs::Statements::delay_value))]
+#[tactic(auto, unfolding(vh_parse_syntax::specs::Statements::delay_value))]
 fn delay_value<'t>(alloc: Global, depth: usize, at: At<'t>) -> Read<'t, DelayValue>
     ensures { Reads delay_value_tree depth parts.delay_value at.entry result }
 {
@@ -49,7 +49,7 @@ fn is_expr(value: &DelayValue) -> bool
 }
 
 // The bracket, where it was opened.
-#[tactic(auto, unfolding(vh_syntax::specs::Statements::delay_end))]
+#[tactic(auto, unfolding(vh_parse_syntax::specs::Statements::delay_end))]
 fn delay_end<'t>(depth: usize, delay: Delay, at: At<'t>) -> Read<'t, Delay>
     ensures { let d = delay_tree delay in
         Reads delay_tree depth (parts.delay_end (is_expr d.value) d) at.entry result }
@@ -81,7 +81,7 @@ fn delay_front<'t>(alloc: Global, depth: usize, at: At<'t>) -> Read<'t, Delay>
 }
 
 /// `delay = "#" ( NUMBER | ID | "(" expr ")" )` (IEEE 1364-2005, A.2.2.3)
-#[tactic(auto, unfolding(vh_syntax::specs::Statements::delay))]
+#[tactic(auto, unfolding(vh_parse_syntax::specs::Statements::delay))]
 pub fn delay<'t>(alloc: Global, depth: usize, at: At<'t>) -> Read<'t, Delay>
     ensures { Reads delay_tree depth parts.delay at.entry result }
 {
@@ -109,7 +109,7 @@ pub fn written_delay<'t>(alloc: Global, depth: usize, at: At<'t>) -> Read<'t, Op
 }
 
 // `ev`
-#[tactic(auto, unfolding(vh_syntax::specs::Statements::ev))]
+#[tactic(auto, unfolding(vh_parse_syntax::specs::Statements::ev))]
 fn ev<'t>(alloc: Global, depth: usize, at: At<'t>) -> Read<'t, Ev>
     ensures { Reads ev_tree depth ev at.entry result }
 {
@@ -158,7 +158,7 @@ fn evs<'t>(alloc: Global, depth: usize, at: At<'t>) -> Read<'t, Items<Ev>>
 }
 
 // `"*" ")" | ev { ( "or" | "," ) ev } ")"`
-#[tactic(auto, unfolding(vh_syntax::specs::Statements::event_list))]
+#[tactic(auto, unfolding(vh_parse_syntax::specs::Statements::event_list))]
 fn event_list<'t>(alloc: Global, depth: usize, at: At<'t>) -> Read<'t, Event>
     ensures { Reads event_tree depth parts.event_list at.entry result }
 {
@@ -174,7 +174,7 @@ fn event_list<'t>(alloc: Global, depth: usize, at: At<'t>) -> Read<'t, Event>
 
 /// What stands behind an `@`: `"*" | "(" "*" ")" | name | "(" ev { ( "or" | "," ) ev } ")"` (IEEE
 /// 1364-2005, A.6.5)
-#[tactic(auto, unfolding(vh_syntax::specs::Statements::event))]
+#[tactic(auto, unfolding(vh_parse_syntax::specs::Statements::event))]
 pub fn event<'t>(alloc: Global, depth: usize, at: At<'t>) -> Read<'t, Event>
     ensures { Reads event_tree depth parts.event at.entry result }
 {

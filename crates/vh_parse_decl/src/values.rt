@@ -1,22 +1,24 @@
 //! Expressions behind a sign and in parentheses, and targets with their values.
 
-ghost use Rattle.std.specs.Prelude.{◌≡◌, Bool, true, Option, option_map};
-ghost use Rattle.vh_grammar.specs.Part.{after};
+ghost use Rattle.std.specs.Prelude.{◌≡◌, Bool, true, Option, option_map, IfOk};
+ghost use Rattle.vh_parse_grammar.specs.Part.{after};
+ghost use Rattle.vh_parse_grammar.specs.Says.{Says};
 ghost use Rattle.vh_ast.specs.Expressions as trees;
 ghost use Rattle.vh_ast.specs.Views.{expr_tree, set_tree};
-ghost use Rattle.vh_syntax.specs.Parts.{the, in_parens, comma_list, ended};
-ghost use Rattle.vh_syntax.specs.Expressions as parts;
-ghost use Rattle.vh_syntax.specs.ExpressionConditions.{expression_advances};
-ghost use Rattle.vh_syntax.specs.Declarations.{a_value};
-ghost use Rattle.vh_syntax.specs.Statements as statements;
-ghost use Rattle.vh_parse_expr.specs.Views.{Reads, exprs_seen};
+ghost use Rattle.vh_parse_syntax.specs.Parts.{the, in_parens, comma_list, ended};
+ghost use Rattle.vh_parse_syntax.specs.Expressions as parts;
+ghost use Rattle.vh_parse_syntax.specs.ExpressionConditions.{expression_advances};
+ghost use Rattle.vh_parse_syntax.specs.Declarations.{a_value};
+ghost use Rattle.vh_parse_syntax.specs.Statements as statements;
+ghost use Rattle.vh_parse_syntax.specs.Tokens.{token_seen};
+ghost use Rattle.vh_parse_expr.specs.Views.{Reads, read_from, exprs_seen};
 
 use crate::lists::{Listed, list};
 use sqlite_items::{Boxed, Items};
 use std::alloc::Global;
 use vh_ast::{Expr, Set};
 use vh_parse_expr::{At, Read, expression, target, then_sign};
-use vh_syntax::{Class, Sign};
+use vh_parse_syntax::{Class, Sign};
 
 /// An expression behind a sign.
 pub fn behind<'t>(
@@ -32,6 +34,23 @@ pub fn behind<'t>(
     expression(alloc, depth, calls, next)
 }
 
+// What was read, and an expression behind a sign. What is held is let go in this one function where
+// there is no expression, whatever it is.
+pub(crate) fn then_behind<'t, T: Drop>(
+    alloc: Global,
+    depth: usize,
+    tree: T,
+    sign: Sign,
+    at: At<'t>,
+) -> Read<'t, (T, Expr)>
+    ensures tree { IfOk result (λ read. read.0.0 ≡ tree) }
+    ensures expr { let part = after (the sign) (parts.expression true) in
+        Says token_seen (λ pair. expr_tree pair.1) (read_from depth part at.entry) result }
+{
+    let (expr, rest) = behind(alloc, depth, true, sign, at)?;
+    Ok(((tree, expr), rest))
+}
+
 /// `expr ";"`
 pub fn ended<'t>(alloc: Global, depth: usize, at: At<'t>) -> Read<'t, Expr>
     ensures { Reads expr_tree depth (ended (parts.expression true)) at.entry result }
@@ -42,7 +61,7 @@ pub fn ended<'t>(alloc: Global, depth: usize, at: At<'t>) -> Read<'t, Expr>
 }
 
 /// `[ "=" expr ]`, in a box.
-#[tactic(auto, unfolding(vh_syntax::specs::Declarations::a_value))]
+#[tactic(auto, unfolding(vh_parse_syntax::specs::Declarations::a_value))]
 pub fn value<'t>(alloc: Global, depth: usize, at: At<'t>) -> Read<'t, Option<Boxed<Expr>>>
     ensures { Reads (option_map expr_tree) depth a_value at.entry result }
 {
@@ -94,7 +113,7 @@ pub fn list_in_parens<'t>(alloc: Global, depth: usize, at: At<'t>) -> Read<'t, I
 }
 
 /// `lv "=" expr`
-#[tactic(auto, unfolding(vh_syntax::specs::Statements::set))]
+#[tactic(auto, unfolding(vh_parse_syntax::specs::Statements::set))]
 pub fn set<'t>(alloc: Global, depth: usize, calls: bool, at: At<'t>) -> Read<'t, Set>
     ensures { Reads set_tree depth (statements.set calls) at.entry result }
 {

@@ -2,21 +2,21 @@
 use Rattle.std.proofs.Common.{◌≡◌, ◌≤◌, ◌+◌, ◌-◌, ℕ, suc, Bool, List, ◌++◌, length, map, drop, refl, sym, ap, ◌∙◌, subst, Ok, Err, arith, length-append}
 use Rattle.std.proofs.lemmas.List.{length-map, length-drop, drop_at, drop-drop, drop-map}
 use Rattle.vh_base.specs.declared.place.Place.{Place}
-use Rattle.vh_grammar.specs.declared.stop.Stop.{Stop}
-use Rattle.vh_grammar.specs.declared.stop.Stop.TheVariants as stops
-use Rattle.vh_grammar.specs.Reading.{got}
-use Rattle.vh_grammar.specs.Says.{Stops}
-use Rattle.vh_grammar.specs.Sentences.{ReadsAt}
-use Rattle.vh_grammar.specs.Laws.{LawsOfProductions}
-use Rattle.vh_grammar.proofs.Outcomes.{reader-tree}
+use Rattle.vh_parse_grammar.specs.declared.stop.Stop.{Stop}
+use Rattle.vh_parse_grammar.specs.declared.stop.Stop.TheVariants as stops
+use Rattle.vh_parse_grammar.specs.Reading.{got}
+use Rattle.vh_parse_grammar.specs.Says.{Stops}
+use Rattle.vh_parse_grammar.specs.Sentences.{ReadsAt}
+use Rattle.vh_parse_grammar.specs.Laws.{LawsOfProductions}
+use Rattle.vh_parse_grammar.proofs.Outcomes.{reader-tree}
 use Rattle.vh_ast.specs.declared.expr.Expr.{Expr}
 use Rattle.vh_ast.specs.Expressions.{ExprTree}
 use Rattle.vh_ast.specs.Views.{expr_tree}
 use Rattle.vh_lex.specs.declared.token.Token as lexed
-use Rattle.vh_syntax.specs.Tokens.{Token, token_seen}
-use Rattle.vh_syntax.specs.Parts.{expr}
-use Rattle.vh_syntax.specs.Grammar.{grammar}
-use Rattle.vh_syntax.specs.Table.{syntax_table, eating, advancing}
+use Rattle.vh_parse_syntax.specs.Tokens.{Token, token_seen}
+use Rattle.vh_parse_syntax.specs.Parts.{expr}
+use Rattle.vh_parse_syntax.specs.Grammar.{grammar}
+use Rattle.vh_parse_syntax.specs.Table.{syntax_table, eating, advancing}
 use Rattle.vh_parse_expr.specs.Answers.{fault_at, placed, expression_answer, Answered, IsParsed}
 use Rattle.vh_parse_expr.proofs.ReadingLemmas.{Ends, ends-reader}
 

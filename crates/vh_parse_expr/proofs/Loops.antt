@@ -2,27 +2,27 @@
 use Rattle.std.proofs.Common.{◌≡◌, ◌≢◌, ◌⊎◌, inl, inr, ℕ, zero, suc, ◌<◌, ◌≤◌, eqb, Bool, true, false, List, [], ◌∷◌, ◌++◌, length, is_some, refl, ap, subst, ◌∙◌, arith}
 use Rattle.std.proofs.lemmas.Bool.Decides.{eqb_tells}
 use Rattle.std.proofs.lemmas.List.{length-map, append-nil}
-use Rattle.vh_grammar.specs.declared.stop.Stop.{Stop}
-use Rattle.vh_grammar.specs.declared.stop.Stop.TheVariants as stops
-use Rattle.vh_grammar.specs.Part.{act, after}
-use Rattle.vh_grammar.specs.Conditions.{Advances}
-use Rattle.vh_grammar.specs.Nest.{Row}
-use Rattle.vh_grammar.specs.Reading.{Fault, lost, deep, left_out, Out, got, stop, then_, next_is}
-use Rattle.vh_grammar.specs.Says.{Stops}
-use Rattle.vh_grammar.specs.Marking.{marks, joined_marks}
-use Rattle.vh_grammar.proofs.MarkTurns.{marks_less, marks_end, joined_marks_turn, iter_marks_turn}
+use Rattle.vh_parse_grammar.specs.declared.stop.Stop.{Stop}
+use Rattle.vh_parse_grammar.specs.declared.stop.Stop.TheVariants as stops
+use Rattle.vh_parse_grammar.specs.Part.{act, after}
+use Rattle.vh_parse_grammar.specs.Conditions.{Advances}
+use Rattle.vh_parse_grammar.specs.Nest.{Row}
+use Rattle.vh_parse_grammar.specs.Reading.{Fault, lost, deep, left_out, Out, got, stop, then_, next_is}
+use Rattle.vh_parse_grammar.specs.Says.{Stops}
+use Rattle.vh_parse_grammar.specs.Marking.{marks, joined_marks}
+use Rattle.vh_parse_grammar.proofs.MarkTurns.{marks_less, marks_end, joined_marks_turn, iter_marks_turn}
 use Rattle.vh_ast.specs.declared.operator.Binary.{Binary}
 use Rattle.vh_ast.specs.Expressions.{ExprTree, chained}
-use Rattle.vh_syntax.specs.declared.sign.Sign.TheVariants as sign
+use Rattle.vh_parse_syntax.specs.declared.sign.Sign.TheVariants as sign
 use Rattle.vh_lex.specs.declared.token.Token as lexed
-use Rattle.vh_syntax.specs.Tokens.{Token, token_seen, is, is_unused, operator_at}
-use Rattle.vh_syntax.specs.Parts.{the, comma_more}
-use Rattle.vh_syntax.specs.Names.{Path, Target, path_goes, path_turn, row_goes, row_turn}
-use Rattle.vh_syntax.specs.Expressions.{chain_tail, expression}
-use Rattle.vh_syntax.specs.Grammar.{grammar}
-use Rattle.vh_syntax.specs.NameConditions.{path_turn_advances, row_turn_advances}
-use Rattle.vh_syntax.specs.ExpressionConditions.{operand_advances, chain_advances, expression_advances}
-use Rattle.vh_syntax.specs.Table.{eating, advancing}
+use Rattle.vh_parse_syntax.specs.Tokens.{Token, token_seen, is, is_unused, operator_at}
+use Rattle.vh_parse_syntax.specs.Parts.{the, comma_more}
+use Rattle.vh_parse_syntax.specs.Names.{Path, Target, path_goes, path_turn, row_goes, row_turn}
+use Rattle.vh_parse_syntax.specs.Expressions.{chain_tail, expression}
+use Rattle.vh_parse_syntax.specs.Grammar.{grammar}
+use Rattle.vh_parse_syntax.specs.NameConditions.{path_turn_advances, row_turn_advances}
+use Rattle.vh_parse_syntax.specs.ExpressionConditions.{operand_advances, chain_advances, expression_advances}
+use Rattle.vh_parse_syntax.specs.Table.{eating, advancing}
 use Rattle.vh_parse_expr.specs.declared.expr.Standing.{Standing}
 use Rattle.vh_parse_expr.specs.declared.expr.Standing.TheVariants as standing
 use Rattle.vh_parse_expr.specs.Pieces.{expr_at, steps_of, link_part, links_part, rows_of}

@@ -1,7 +1,7 @@
 -- What a reading leaves are the last of its tokens.
 use Rattle.std.proofs.Common.{◌≡◌, ℕ, zero, suc, Bool, true, false, cond, Option, Some, None, List, [], ◌∷◌, ◌++◌, length, refl, ap, sym, ◌∙◌, append_assoc}
-use Rattle.vh_grammar.specs.Part.{Part, done, tok, seq, bind, act, alt, rep, iter, nested, unless, barred}
-use Rattle.vh_grammar.specs.Reading.{Out, got, stop, then_, next_is, taken, token_of, past_levels, many, turns, run, reader}
+use Rattle.vh_parse_grammar.specs.Part.{Part, done, tok, seq, bind, act, alt, rep, iter, nested, unless, barred}
+use Rattle.vh_parse_grammar.specs.Reading.{Out, got, stop, then_, next_is, taken, token_of, past_levels, many, turns, run, reader}
 
 -- The tokens that are left are the last ones
 abbrev pub Ends : {T A : Type 0} → List T → Out T A → Type 0

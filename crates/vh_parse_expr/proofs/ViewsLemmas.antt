@@ -2,11 +2,11 @@
 use Rattle.std.specs.Prelude.{slice_get, remove}
 use Rattle.std.proofs.Common.{◌≡◌, ◌≤◌, ◌↔◌, IsTrue, ℕ, zero, suc, Bool, false, List, [], ◌∷◌, ◌++◌, length, map, get_or, refl, ap, sym, ◌∙◌, subst, Option, Some, None, arith}
 use Rattle.std.proofs.lemmas.List.{map-append}
-use Rattle.vh_grammar.specs.declared.stop.Stop.{Stop}
-use Rattle.vh_grammar.specs.declared.stop.Stop.TheVariants as stops
-use Rattle.vh_grammar.specs.Reading.{Fault, lost, next_is}
-use Rattle.vh_grammar.specs.Marking.{taken_from, marked_token, refusal, refused, mark_at}
-use Rattle.vh_grammar.specs.Says.{Stops}
+use Rattle.vh_parse_grammar.specs.declared.stop.Stop.{Stop}
+use Rattle.vh_parse_grammar.specs.declared.stop.Stop.TheVariants as stops
+use Rattle.vh_parse_grammar.specs.Reading.{Fault, lost, next_is}
+use Rattle.vh_parse_grammar.specs.Marking.{taken_from, marked_token, refusal, refused, mark_at}
+use Rattle.vh_parse_grammar.specs.Says.{Stops}
 use Rattle.vh_ast.specs.declared.name.Step.{Step}
 use Rattle.vh_ast.specs.declared.expr.Expr.{Expr}
 use Rattle.vh_ast.specs.declared.target.LvPart.{LvPart}
@@ -17,8 +17,8 @@ use Rattle.vh_base.specs.declared.place.Place.{Place}
 use Rattle.vh_ast.specs.Expressions.{name, steps}
 use Rattle.vh_ast.specs.Views.{expr_tree, name_tree, sel_tree, index_by, lv_part_tree}
 use Rattle.vh_lex.specs.declared.token.Token as lexed
-use Rattle.vh_syntax.specs.Tokens.{Token, token_seen}
-use Rattle.vh_syntax.specs.Names.{name_by, lv_part, lv_of}
+use Rattle.vh_parse_syntax.specs.Tokens.{Token, token_seen}
+use Rattle.vh_parse_syntax.specs.Names.{name_by, lv_part, lv_of}
 use Rattle.vh_parse_expr.specs.Views.{step_tree, tokens_seen, pieces_seen}
 
 -- A name of its first step and those behind it

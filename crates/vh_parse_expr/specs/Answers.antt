@@ -3,18 +3,18 @@ use Rattle.std.specs.Prelude.{◌≡◌, ◌≤◌, ◌-◌, ℕ, suc, Bool, Lis
 use Rattle.vh_base.specs.declared.place.Place.{Place}
 use Rattle.vh_base.specs.declared.faults.DesignFault.{DesignFault}
 use Rattle.vh_base.specs.declared.faults.DesignFault.TheVariants.{S1, S2, S3}
-use Rattle.vh_grammar.specs.declared.stop.Stop.{Stop}
-use Rattle.vh_grammar.specs.declared.stop.Stop.TheVariants as stops
-use Rattle.vh_grammar.specs.Reading.{Fault, lost, deep, left_out, Out, got, stop}
-use Rattle.vh_grammar.specs.Says.{Stops}
-use Rattle.vh_grammar.specs.Table.{production}
+use Rattle.vh_parse_grammar.specs.declared.stop.Stop.{Stop}
+use Rattle.vh_parse_grammar.specs.declared.stop.Stop.TheVariants as stops
+use Rattle.vh_parse_grammar.specs.Reading.{Fault, lost, deep, left_out, Out, got, stop}
+use Rattle.vh_parse_grammar.specs.Says.{Stops}
+use Rattle.vh_parse_grammar.specs.Table.{production}
 use Rattle.vh_ast.specs.declared.expr.Expr.{Expr}
 use Rattle.vh_ast.specs.Expressions.{ExprTree}
 use Rattle.vh_ast.specs.Views.{expr_tree}
 use Rattle.vh_lex.specs.declared.token.Token as lexed
-use Rattle.vh_syntax.specs.Tokens.{Token, token_seen}
-use Rattle.vh_syntax.specs.Parts.{expr}
-use Rattle.vh_syntax.specs.Table.{syntax_table}
+use Rattle.vh_parse_syntax.specs.Tokens.{Token, token_seen}
+use Rattle.vh_parse_syntax.specs.Parts.{expr}
+use Rattle.vh_parse_syntax.specs.Table.{syntax_table}
 use Rattle.vh_parse_expr.specs.declared.fault.ParseFault.{ParseFault}
 use Rattle.vh_parse_expr.specs.declared.fault.ParseFault.TheVariants as faults
 

@@ -1,15 +1,15 @@
 -- Parts of the table that have no name there, for the functions that read them.
 use Rattle.std.specs.Prelude.{ℕ, Bool, true, not, ◌&&◌, is_some, List}
 use Rattle.vh_base.specs.declared.place.Place.{Place}
-use Rattle.vh_grammar.specs.Part.{tok, seq, bind, act, alt, rep, iter, barred, after, before}
-use Rattle.vh_grammar.specs.Nest.{Row, row_opened, row_item, row_next, row_closed}
+use Rattle.vh_parse_grammar.specs.Part.{tok, seq, bind, act, alt, rep, iter, barred, after, before}
+use Rattle.vh_parse_grammar.specs.Nest.{Row, row_opened, row_item, row_next, row_closed}
 use Rattle.vh_ast.specs.declared.operator.Binary.{Binary}
 use Rattle.vh_ast.specs.Expressions.{ExprTree}
-use Rattle.vh_syntax.specs.declared.sign.Sign.TheVariants as sign
-use Rattle.vh_syntax.specs.Tokens.{is, operator_at}
-use Rattle.vh_syntax.specs.Parts.{G, the, at_the, inner_expr, comma_list}
-use Rattle.vh_syntax.specs.Names.{Path, Target, is_closed, target_of, path_goes, path_turn, path, row_goes, row_turn}
-use Rattle.vh_syntax.specs.Expressions.{any_operand, chain_tail, expression}
+use Rattle.vh_parse_syntax.specs.declared.sign.Sign.TheVariants as sign
+use Rattle.vh_parse_syntax.specs.Tokens.{is, operator_at}
+use Rattle.vh_parse_syntax.specs.Parts.{G, the, at_the, inner_expr, comma_list}
+use Rattle.vh_parse_syntax.specs.Names.{Path, Target, is_closed, target_of, path_goes, path_turn, path, row_goes, row_turn}
+use Rattle.vh_parse_syntax.specs.Expressions.{any_operand, chain_tail, expression}
 use Rattle.vh_parse_expr.specs.declared.expr.Standing.{Standing}
 use Rattle.vh_parse_expr.specs.declared.expr.Standing.TheVariants as standing
 

@@ -1,13 +1,13 @@
 -- How contracts see what the code holds, and what they say of it.
 use Rattle.std.specs.Prelude.{◌≡◌, ℕ, List, map, Option, Some, Result}
 use Rattle.vh_base.specs.declared.place.Place.{Place}
-use Rattle.vh_grammar.specs.declared.cursor.Cursor.{Cursor}
-use Rattle.vh_grammar.specs.declared.stop.Stop.{Stop}
-use Rattle.vh_grammar.specs.Reading.{Out}
-use Rattle.vh_grammar.specs.Marking.{marks}
-use Rattle.vh_grammar.specs.Says.{Says}
-use Rattle.vh_grammar.specs.Nest as nest
-use Rattle.vh_grammar.specs.Nest.{Piece}
+use Rattle.vh_parse_grammar.specs.declared.cursor.Cursor.{Cursor}
+use Rattle.vh_parse_grammar.specs.declared.stop.Stop.{Stop}
+use Rattle.vh_parse_grammar.specs.Reading.{Out}
+use Rattle.vh_parse_grammar.specs.Marking.{marks}
+use Rattle.vh_parse_grammar.specs.Says.{Says}
+use Rattle.vh_parse_grammar.specs.Nest as nest
+use Rattle.vh_parse_grammar.specs.Nest.{Piece}
 use Rattle.vh_ast.specs.declared.token.Id.{Id}
 use Rattle.vh_ast.specs.declared.name.Step.{Step}
 use Rattle.vh_ast.specs.declared.name.Name.{Name}
@@ -21,11 +21,11 @@ use Rattle.vh_ast.specs.declared.operator.Binary.{Binary}
 use Rattle.vh_ast.specs.Expressions.{ExprTree, IndexTree, PartTree}
 use Rattle.vh_ast.specs.Views.{expr_tree, link_tree, name_tree, sel_tree, step_by, part_by}
 use Rattle.vh_lex.specs.declared.token.Token as lexed
-use Rattle.vh_syntax.specs.declared.token.Class.{Class}
-use Rattle.vh_syntax.specs.Tokens.{Token, token_seen, is_unused}
-use Rattle.vh_syntax.specs.Parts.{G}
-use Rattle.vh_syntax.specs.Grammar.{grammar}
-use Rattle.vh_syntax.specs.Names as names
+use Rattle.vh_parse_syntax.specs.declared.token.Class.{Class}
+use Rattle.vh_parse_syntax.specs.Tokens.{Token, token_seen, is_unused}
+use Rattle.vh_parse_syntax.specs.Parts.{G}
+use Rattle.vh_parse_syntax.specs.Grammar.{grammar}
+use Rattle.vh_parse_syntax.specs.Names as names
 use Rattle.vh_parse_expr.specs.declared.name.Last.{Last}
 use Rattle.vh_parse_expr.specs.declared.name.Last.TheVariants as last
 use Rattle.vh_parse_expr.specs.declared.name.Stem.{Stem}

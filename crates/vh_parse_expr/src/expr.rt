@@ -3,17 +3,17 @@
 //! are loops.
 
 ghost use Rattle.std.specs.Prelude.{◌≡◌};
-ghost use Rattle.vh_grammar.specs.Part.{after};
-ghost use Rattle.vh_grammar.specs.Reading.{next_is};
-ghost use Rattle.vh_grammar.specs.Marking.{mark_at, joined_marks};
-ghost use Rattle.vh_grammar.specs.Says.{Says};
+ghost use Rattle.vh_parse_grammar.specs.Part.{after};
+ghost use Rattle.vh_parse_grammar.specs.Reading.{next_is};
+ghost use Rattle.vh_parse_grammar.specs.Marking.{mark_at, joined_marks};
+ghost use Rattle.vh_parse_grammar.specs.Says.{Says};
 ghost use Rattle.vh_ast.specs.Views.{expr_tree, index_by};
-ghost use Rattle.vh_syntax.specs.Tokens.{token_seen};
-ghost use Rattle.vh_syntax.specs.Tokens.{shows_call, calls_in, named_in, open_systems};
-ghost use Rattle.vh_syntax.specs.Parts.{inner_expr, inner_operand, the, comma_list, comma_more};
-ghost use Rattle.vh_syntax.specs.Names as names;
-ghost use Rattle.vh_syntax.specs.Names.{path_goes};
-ghost use Rattle.vh_syntax.specs.Expressions as parts;
+ghost use Rattle.vh_parse_syntax.specs.Tokens.{token_seen};
+ghost use Rattle.vh_parse_syntax.specs.Tokens.{shows_call, calls_in, named_in, open_systems};
+ghost use Rattle.vh_parse_syntax.specs.Parts.{inner_expr, inner_operand, the, comma_list, comma_more};
+ghost use Rattle.vh_parse_syntax.specs.Names as names;
+ghost use Rattle.vh_parse_syntax.specs.Names.{path_goes};
+ghost use Rattle.vh_parse_syntax.specs.Expressions as parts;
 ghost use Rattle.vh_parse_expr.specs.Pieces.{expr_at, bracket, barred_path, link_part, repeated_part, branches_part};
 ghost use Rattle.vh_parse_expr.specs.Views.{Reads, tokens_seen, read_from, exprs_seen, link_pair, two_exprs, placed_expr, placed_part, part_tree, last_tree, path_tree, stem_tree};
 
@@ -25,7 +25,7 @@ use sqlite_items::{Boxed, Items};
 use std::alloc::Global;
 use vh_ast::{Binary, Expr, Id, Part};
 use vh_base::Place;
-use vh_syntax::{Class, Rows, Sign};
+use vh_parse_syntax::{Class, Rows, Sign};
 
 /// How an expression stands in a construct.
 #[derive(Clone, Copy, Debug, PartialEq, Eq)]
@@ -125,7 +125,7 @@ fn behind<'t>(
 
 // `[ ":" expr | "+:" expr | "-:" expr ]`, behind the first expression of an `esel`.
 #[cycle(expression)]
-#[tactic(auto, unfolding(vh_syntax::specs::Names::esel_end))]
+#[tactic(auto, unfolding(vh_parse_syntax::specs::Names::esel_end))]
 fn esel_end<'t>(
     alloc: Global,
     depth: usize,
@@ -154,7 +154,7 @@ fn esel_end<'t>(
 
 // `esel`
 #[cycle(expression)]
-#[tactic(auto, unfolding(vh_syntax::specs::Names::esel))]
+#[tactic(auto, unfolding(vh_parse_syntax::specs::Names::esel))]
 fn esel<'t>(
     alloc: Global,
     depth: usize,
@@ -169,7 +169,7 @@ fn esel<'t>(
 }
 
 // `"." ID`
-#[tactic(auto, unfolding(vh_syntax::specs::Names::dotted))]
+#[tactic(auto, unfolding(vh_parse_syntax::specs::Names::dotted))]
 fn dotted<'t>(
     depth: usize,
     standing: Standing,
@@ -242,7 +242,7 @@ fn path_goes(sel: bool, last: &Last, at: At<'_>) -> bool
 
 // What comes next in a path whose last `ID` stands alone.
 #[cycle(expression)]
-#[tactic(auto, unfolding(vh_syntax::specs::Names::path_turn, vh_syntax::specs::Names::bracketed, vh_syntax::specs::Names::selected))]
+#[tactic(auto, unfolding(vh_parse_syntax::specs::Names::path_turn, vh_parse_syntax::specs::Names::bracketed, vh_parse_syntax::specs::Names::selected))]
 fn plain_turn<'t>(
     alloc: Global,
     depth: usize,
@@ -269,7 +269,7 @@ fn plain_turn<'t>(
 
 // What comes next in a path whose last `ID` has an index.
 #[cycle(expression)]
-#[tactic(auto, unfolding(vh_syntax::specs::Names::path_turn, vh_syntax::specs::Names::reselected))]
+#[tactic(auto, unfolding(vh_parse_syntax::specs::Names::path_turn, vh_parse_syntax::specs::Names::reselected))]
 fn indexed_turn<'t>(
     alloc: Global,
     depth: usize,
@@ -295,7 +295,7 @@ fn indexed_turn<'t>(
 
 // What comes next in a path.
 #[cycle(expression)]
-#[tactic(auto, unfolding(vh_syntax::specs::Names::path_turn, vh_syntax::specs::Names::dotted, vh_syntax::specs::Names::bracketed, vh_syntax::specs::Names::selected, vh_syntax::specs::Names::reselected))]
+#[tactic(auto, unfolding(vh_parse_syntax::specs::Names::path_turn, vh_parse_syntax::specs::Names::dotted, vh_parse_syntax::specs::Names::bracketed, vh_parse_syntax::specs::Names::selected, vh_parse_syntax::specs::Names::reselected))]
 fn path_turn<'t>(
     alloc: Global,
     depth: usize,
@@ -321,7 +321,7 @@ fn path_turn<'t>(
 
 // The rest of a path.
 #[cycle(expression)]
-#[tactic(auto, unfolding(vh_syntax::specs::Names::path_rest))]
+#[tactic(auto, unfolding(vh_parse_syntax::specs::Names::path_rest))]
 fn path_rest<'t>(
     alloc: Global,
     depth: usize,
@@ -347,7 +347,7 @@ fn path_rest<'t>(
 /// `name [ sel ]`, or `name` alone: what could be its select is read where `sel` is true. The
 /// expressions in its brackets stand so.
 #[cycle(expression)]
-#[tactic(auto, unfolding(vh_syntax::specs::Names::path))]
+#[tactic(auto, unfolding(vh_parse_syntax::specs::Names::path))]
 pub fn path<'t>(
     alloc: Global,
     depth: usize,
@@ -417,7 +417,7 @@ pub fn list<'t>(
 
 // `expr { "," expr } ")"`
 #[cycle(expression)]
-#[tactic(auto, unfolding(vh_syntax::specs::Expressions::arguments))]
+#[tactic(auto, unfolding(vh_parse_syntax::specs::Expressions::arguments))]
 fn arguments<'t>(alloc: Global, depth: usize, calls: bool, at: At<'t>) -> Read<'t, Items<Expr>>
     ensures { Reads exprs_seen depth (parts.arguments calls) at.entry result }
 {
@@ -438,7 +438,7 @@ fn name_in<'t>(alloc: Global, depth: usize, calls: bool, at: At<'t>) -> Read<'t,
 
 // What follows a name: the arguments of a call, where it has no select.
 #[cycle(expression)]
-#[tactic(auto, unfolding(vh_syntax::specs::Expressions::name_end))]
+#[tactic(auto, unfolding(vh_parse_syntax::specs::Expressions::name_end))]
 fn name_end<'t>(
     alloc: Global,
     depth: usize,
@@ -460,7 +460,7 @@ fn name_end<'t>(
 
 // `name [ sel ] | name "(" expr { "," expr } ")"`
 #[cycle(expression)]
-#[tactic(auto, unfolding(vh_syntax::specs::Expressions::by_name))]
+#[tactic(auto, unfolding(vh_parse_syntax::specs::Expressions::by_name))]
 fn by_name<'t>(alloc: Global, depth: usize, calls: bool, at: At<'t>) -> Read<'t, Boxed<Expr>>
     ensures { Reads expr_tree depth (parts.by_name calls) at.entry result }
 {
@@ -470,7 +470,7 @@ fn by_name<'t>(alloc: Global, depth: usize, calls: bool, at: At<'t>) -> Read<'t,
 
 // What follows a system name: its arguments, if there are any.
 #[cycle(expression)]
-#[tactic(auto, unfolding(vh_syntax::specs::Expressions::system_end))]
+#[tactic(auto, unfolding(vh_parse_syntax::specs::Expressions::system_end))]
 fn system_end<'t>(
     alloc: Global,
     depth: usize,
@@ -491,7 +491,7 @@ fn system_end<'t>(
 
 // `SYS [ "(" expr { "," expr } ")" ]`
 #[cycle(expression)]
-#[tactic(auto, unfolding(vh_syntax::specs::Expressions::by_system))]
+#[tactic(auto, unfolding(vh_parse_syntax::specs::Expressions::by_system))]
 fn by_system<'t>(alloc: Global, depth: usize, calls: bool, at: At<'t>) -> Read<'t, Boxed<Expr>>
     ensures { Reads expr_tree depth (parts.by_system calls) at.entry result }
 {
@@ -501,7 +501,7 @@ fn by_system<'t>(alloc: Global, depth: usize, calls: bool, at: At<'t>) -> Read<'
 
 // `"(" expr ")"`
 #[cycle(expression)]
-#[tactic(auto, unfolding(vh_syntax::specs::Expressions::parens))]
+#[tactic(auto, unfolding(vh_parse_syntax::specs::Expressions::parens))]
 fn parens<'t>(alloc: Global, depth: usize, calls: bool, at: At<'t>) -> Read<'t, Boxed<Expr>>
     ensures { Reads expr_tree depth (parts.parens calls) at.entry result }
 {
@@ -525,7 +525,7 @@ fn repeated<'t>(alloc: Global, depth: usize, calls: bool, at: At<'t>) -> Read<'t
 
 // What follows the first expression in braces.
 #[cycle(expression)]
-#[tactic(auto, unfolding(vh_syntax::specs::Expressions::braces_end))]
+#[tactic(auto, unfolding(vh_parse_syntax::specs::Expressions::braces_end))]
 fn braces_end<'t>(
     alloc: Global,
     depth: usize,
@@ -549,7 +549,7 @@ fn braces_end<'t>(
 
 // `"{" expr { "," expr } "}" | "{" expr "{" expr { "," expr } "}" "}"`
 #[cycle(expression)]
-#[tactic(auto, unfolding(vh_syntax::specs::Expressions::braces))]
+#[tactic(auto, unfolding(vh_parse_syntax::specs::Expressions::braces))]
 fn braces<'t>(alloc: Global, depth: usize, calls: bool, at: At<'t>) -> Read<'t, Boxed<Expr>>
     ensures { Reads expr_tree depth (parts.braces calls) at.entry result }
 {
@@ -560,7 +560,7 @@ fn braces<'t>(alloc: Global, depth: usize, calls: bool, at: At<'t>) -> Read<'t, 
 
 // `prim`
 #[cycle(expression)]
-#[tactic(auto, unfolding(vh_syntax::specs::Expressions::prim))]
+#[tactic(auto, unfolding(vh_parse_syntax::specs::Expressions::prim))]
 fn prim<'t>(alloc: Global, depth: usize, calls: bool, at: At<'t>) -> Read<'t, Boxed<Expr>>
     ensures { Reads expr_tree depth (parts.prim calls) at.entry result }
 {
@@ -584,7 +584,7 @@ fn prim<'t>(alloc: Global, depth: usize, calls: bool, at: At<'t>) -> Read<'t, Bo
 
 // A unary operator and its operand.
 #[cycle(expression)]
-#[tactic(auto, unfolding(vh_syntax::specs::Expressions::unary_operand))]
+#[tactic(auto, unfolding(vh_parse_syntax::specs::Expressions::unary_operand))]
 fn unary<'t>(alloc: Global, depth: usize, calls: bool, at: At<'t>) -> Read<'t, Boxed<Expr>>
     ensures { Reads expr_tree depth (parts.unary_operand calls) at.entry result }
 {
@@ -595,7 +595,7 @@ fn unary<'t>(alloc: Global, depth: usize, calls: bool, at: At<'t>) -> Read<'t, B
 
 // An operand: a `prim`, or a unary operator and its operand.
 #[cycle(expression)]
-#[tactic(auto, unfolding(vh_syntax::specs::Expressions::any_operand))]
+#[tactic(auto, unfolding(vh_parse_syntax::specs::Expressions::any_operand))]
 fn operand<'t>(alloc: Global, depth: usize, calls: bool, at: At<'t>) -> Read<'t, Boxed<Expr>>
     ensures { Reads expr_tree depth (parts.any_operand calls) at.entry result }
 {
@@ -626,7 +626,7 @@ fn link<'t>(
 // that binds closest. The level of 11 has all binary operators. Both loops stand in this one function
 // since it calls itself through `link`, once for each level that is in use: the stack goes by that.
 #[cycle(expression)]
-#[tactic(auto, unfolding(vh_syntax::specs::Expressions::chain_tail))]
+#[tactic(auto, unfolding(vh_parse_syntax::specs::Expressions::chain_tail))]
 fn chain<'t>(
     alloc: Global,
     depth: usize,
@@ -670,7 +670,7 @@ fn branches<'t>(
 
 // `[ "?" expr ":" expr ]`, behind the test.
 #[cycle(expression)]
-#[tactic(auto, unfolding(vh_syntax::specs::Expressions::choice_tail))]
+#[tactic(auto, unfolding(vh_parse_syntax::specs::Expressions::choice_tail))]
 fn choice<'t>(
     alloc: Global,
     depth: usize,
@@ -689,8 +689,13 @@ fn choice<'t>(
 
 // An expression that stands in no other one.
 #[cycle(expression)]
-#[tactic(auto, unfolding(vh_syntax::specs::Expressions::expression, vh_syntax::specs::Expressions::expression_tail))]
-fn outermost<'t>(alloc: Global, depth: usize, calls: bool, at: At<'t>) -> Read<'t, Boxed<Expr>>
+#[tactic(auto, unfolding(vh_parse_syntax::specs::Expressions::expression, vh_parse_syntax::specs::Expressions::expression_tail))]
+pub(crate) fn outermost<'t>(
+    alloc: Global,
+    depth: usize,
+    calls: bool,
+    at: At<'t>,
+) -> Read<'t, Boxed<Expr>>
     ensures { Reads expr_tree depth (parts.expression calls) at.entry result }
 {
     let (first, more) = operand(alloc, depth, calls, at)?;

@@ -5,8 +5,8 @@ ghost use Rattle.vh_parse_expr.specs.Answers.{fault_at, place_at};
 
 use thiserror::Error;
 use vh_base::{DesignFault, NoMemory, Place};
-use vh_grammar::Stop;
 use vh_lex::Token;
+use vh_parse_grammar::Stop;
 
 /// Why tokens have no tree.
 #[derive(Clone, Copy, Debug, PartialEq, Eq, Error)]

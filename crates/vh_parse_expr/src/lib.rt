@@ -3,11 +3,11 @@
 //!
 //! The contract that the layer above uses: [`parse_expr`] answers what the table does for the tokens
 //! from one on, both ways, as a tree with the number of the token behind it, or as `S1`, `S2` or `S3`
-//! at its place. So it has the laws of `vh_syntax::syntax_laws`. Want of memory is the one free
+//! at its place. So it has the laws of `vh_parse_syntax::syntax_laws`. Want of memory is the one free
 //! answer. A parser of statements reads by the functions beside it, over a `Cursor` of tokens: each
 //! ensures one equation with the reading of its part (`Reads` of specs/Views.antt).
 //!
-//! It stands on `vh_lex` for its tokens, on `vh_ast` for the trees and on `vh_syntax` and `vh_grammar`
+//! It stands on `vh_lex` for its tokens, on `vh_ast` for the trees and on `vh_parse_syntax` and `vh_parse_grammar`
 //! for the table and the laws.
 #![tactic(auto)]
 

@@ -2,15 +2,15 @@
 //! what it holds, so that little is held where it stops.
 
 ghost use Rattle.std.specs.Prelude.{◌≡◌, ◌++◌, IfOk, MatchResult, [], ◌∷◌};
-ghost use Rattle.vh_grammar.specs.declared.stop.Stop.TheVariants.{Memory};
-ghost use Rattle.vh_grammar.specs.Says.{Says};
+ghost use Rattle.vh_parse_grammar.specs.declared.stop.Stop.TheVariants.{Memory};
+ghost use Rattle.vh_parse_grammar.specs.Says.{Says};
 ghost use Rattle.vh_ast.specs.Views.{expr_tree, link_tree, name_tree};
 ghost use Rattle.vh_ast.specs.Expressions as trees;
 ghost use Rattle.vh_ast.specs.Expressions.{chosen, unary_at};
-ghost use Rattle.vh_syntax.specs.Tokens.{token_seen};
-ghost use Rattle.vh_syntax.specs.Expressions.{paren_expr, repeat_expr, system_expr, named_expr};
-ghost use Rattle.vh_syntax.specs.Names as names;
-ghost use Rattle.vh_syntax.specs.Parts.{the};
+ghost use Rattle.vh_parse_syntax.specs.Tokens.{token_seen};
+ghost use Rattle.vh_parse_syntax.specs.Expressions.{number_expr, text_expr, paren_expr, repeat_expr, system_expr, named_expr};
+ghost use Rattle.vh_parse_syntax.specs.Names as names;
+ghost use Rattle.vh_parse_syntax.specs.Parts.{the};
 ghost use Rattle.vh_parse_expr.specs.Views.{read_from, exprs_seen, links_seen, part_tree, path_tree, stem_tree};
 
 use crate::name::{Last, Path, Stem};
@@ -19,8 +19,10 @@ use sqlite_items::{Boxed, Items};
 use std::alloc::Global;
 use vh_ast::{Binary, Esel, Expr, ExprForm, Id, Link, Name, Part, Primary, Sel, Unary, only};
 use vh_base::Place;
-use vh_grammar::Stop;
-use vh_syntax::{Class, Sign};
+use vh_base_shared::SharedBytes;
+use vh_lex::Number;
+use vh_parse_grammar::Stop;
+use vh_parse_syntax::{Class, Sign};
 
 /// What was read, where the sign stands behind it.
 pub fn then_sign<'t, T: Drop>(tree: T, sign: Sign, at: At<'t>) -> Read<'t, T>
@@ -72,6 +74,24 @@ pub(crate) fn one(alloc: Global, expr: Boxed<Expr>) -> Result<Items<Expr>, Stop>
     ensures { MatchResult result (λ all. all ≡ expr ∷ []) (λ stop. stop ≡ Memory) }
 {
     Ok(only(alloc, expr.into_inner())?)
+}
+
+// A string.
+pub(crate) fn text(alloc: Global, place: Place, text: SharedBytes) -> Result<Boxed<Expr>, Stop>
+    ensures { let made = text_expr (place, text) in
+        MatchResult result (λ e. expr_tree e ≡ made) (λ stop. stop ≡ Memory) }
+{
+    let form = ExprForm::Primary(Primary::Text(text));
+    Ok(Boxed::new(alloc, Expr { place, form })?)
+}
+
+// A number.
+pub(crate) fn number(alloc: Global, place: Place, number: Number) -> Result<Boxed<Expr>, Stop>
+    ensures { let made = number_expr (place, number) in
+        MatchResult result (λ e. expr_tree e ≡ made) (λ stop. stop ≡ Memory) }
+{
+    let form = ExprForm::Primary(Primary::Number(number));
+    Ok(Boxed::new(alloc, Expr { place, form })?)
 }
 
 // A name with its select.

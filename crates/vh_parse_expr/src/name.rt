@@ -2,8 +2,8 @@
 
 ghost use Rattle.std.specs.Prelude.{◌≡◌, IfOk, MatchResult, map};
 ghost use Rattle.vh_ast.specs.Views.{expr_tree, name_tree, sel_tree, index_by};
-ghost use Rattle.vh_grammar.specs.declared.stop.Stop.TheVariants.{Memory};
-ghost use Rattle.vh_syntax.specs.Names.{last_of, index_of, sel_of, is_closed, whole_name, front_name, name_by, path_of, with_step};
+ghost use Rattle.vh_parse_grammar.specs.declared.stop.Stop.TheVariants.{Memory};
+ghost use Rattle.vh_parse_syntax.specs.Names.{last_of, index_of, sel_of, is_closed, whole_name, front_name, name_by, path_of, with_step};
 ghost use Rattle.vh_parse_expr.specs.Views.{step_tree, part_tree, last_tree, path_tree, stem_tree, IsMade};
 
 use crate::word::kept;
@@ -11,7 +11,7 @@ use sqlite_items::{Boxed, Items};
 use std::alloc::Global;
 use vh_ast::{Esel, Expr, Id, Name, Part, Sel, Step};
 use vh_base::Place;
-use vh_grammar::Stop;
+use vh_parse_grammar::Stop;
 
 /// What stands behind the last `ID` of a path: nothing, one index, which is the name's or the
 /// select's, or a select.

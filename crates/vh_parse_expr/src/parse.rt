@@ -1,22 +1,22 @@
 //! An expression of the lexer's tokens.
 
 ghost use Rattle.std.specs.Prelude.{◌≡◌, ◌-◌, ◌≤◌, ◌<◌, suc, length, drop, map, IfOk};
-ghost use Rattle.vh_syntax.specs.Tokens.{token_seen};
-ghost use Rattle.vh_syntax.specs.Parts.{expr};
-ghost use Rattle.vh_grammar.specs.Sentences.{ReadsAt};
-ghost use Rattle.vh_syntax.specs.Grammar.{grammar};
+ghost use Rattle.vh_parse_syntax.specs.Tokens.{token_seen};
+ghost use Rattle.vh_parse_syntax.specs.Parts.{expr};
+ghost use Rattle.vh_parse_grammar.specs.Sentences.{ReadsAt};
+ghost use Rattle.vh_parse_syntax.specs.Grammar.{grammar};
 ghost use Rattle.vh_ast.specs.Views.{expr_tree};
 ghost use Rattle.vh_parse_expr.specs.Answers.{expression_answer, Answered, IsParsed};
 ghost use Rattle.vh_parse_expr.specs.Views.{tokens_seen};
 
-use crate::expr::expression;
+use crate::expr::outermost;
 use crate::fault::{ParseFault, fault_at};
 use std::alloc::Global;
 use vh_ast::Expr;
 use vh_base::Place;
-use vh_grammar::{Cursor, Stop};
 use vh_lex::Token;
-use vh_syntax::syntax_laws;
+use vh_parse_grammar::{Cursor, Stop};
+use vh_parse_syntax::syntax_laws;
 
 /// How many levels statements, blocks and expressions nest at most (own).
 pub const MOST_LEVELS: u32 = 200;
@@ -26,11 +26,11 @@ pub const MOST_LEVELS: u32 = 200;
 fn read(alloc: Global, levels: usize, calls: bool, tokens: &[Token]) -> Result<(Expr, usize), Stop>
     ensures { Answered (expression_answer levels calls (tokens_seen tokens.now)) result }
 {
-    let (expr, rest) = expression(alloc, levels, calls, Cursor::new(tokens))?;
+    let (expr, rest) = outermost(alloc, levels, calls, Cursor::new(tokens))?;
     if rest.mark > 0 {
         return Err(Stop::LeftOut(rest.mark));
     }
-    Ok((expr, rest.tokens.len()))
+    Ok((expr.into_inner(), rest.tokens.len()))
 }
 
 /// The expression that begins with the token `from`, and the number of the token behind it, counted

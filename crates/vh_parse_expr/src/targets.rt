@@ -2,12 +2,14 @@
 
 ghost use Rattle.std.specs.Prelude.{◌≡◌, ◌-◌, ◌<◌, MatchResult};
 ghost use Rattle.vh_ast.specs.Views.{lv_tree};
-ghost use Rattle.vh_grammar.specs.declared.stop.Stop.TheVariants.{Memory};
-ghost use Rattle.vh_grammar.specs.Reading.{next_is};
-ghost use Rattle.vh_syntax.specs.Expressions.{expression};
-ghost use Rattle.vh_syntax.specs.Names as names;
+ghost use Rattle.vh_parse_grammar.specs.declared.stop.Stop.TheVariants.{Memory};
+ghost use Rattle.vh_parse_grammar.specs.Reading.{next_is};
+ghost use Rattle.vh_parse_grammar.specs.Says.{Passes};
+ghost use Rattle.vh_parse_syntax.specs.Tokens.{token_seen};
+ghost use Rattle.vh_parse_syntax.specs.Expressions.{expression};
+ghost use Rattle.vh_parse_syntax.specs.Names as names;
 ghost use Rattle.vh_parse_expr.specs.Pieces.{wanted_turn, behind_turn, rows_of};
-ghost use Rattle.vh_parse_expr.specs.Views.{Reads, tokens_seen, path_tree, row_tree, pieces_seen};
+ghost use Rattle.vh_parse_expr.specs.Views.{Reads, read_from, tokens_seen, path_tree, row_tree, pieces_seen};
 
 use crate::expr::{Standing, path};
 use crate::name::Path;
@@ -16,8 +18,8 @@ use sqlite_items::Items;
 use std::alloc::Global;
 use vh_ast::{Lv, LvPart, only};
 use vh_base::Place;
-use vh_grammar::Stop;
-use vh_syntax::{Class, Sign};
+use vh_parse_grammar::Stop;
+use vh_parse_syntax::{Class, Sign};
 
 // How far a row of targets has come: how many braces are open, whether a target has to come, and
 // what stands in it.
@@ -30,9 +32,16 @@ pub(crate) struct Row {
 
 // A target, or an opening brace. There are never more braces open than tokens, so that the count
 // doesn't overflow.
-#[tactic(auto, unfolding(vh_syntax::specs::Names::row_turn))]
-fn wanted<'t>(alloc: Global, depth: usize, calls: bool, mut row: Row, at: At<'t>) -> Read<'t, Row>
-    ensures { Reads row_tree depth (wanted_turn calls (row_tree row)) at.entry result }
+#[tactic(auto, unfolding(vh_parse_syntax::specs::Names::row_turn))]
+fn wanted<'t>(
+    alloc: Global,
+    depth: usize,
+    calls: bool,
+    row: &mut Row,
+    at: At<'t>,
+) -> Result<At<'t>, Stop>
+    ensures { let part = wanted_turn calls (row_tree row.old) in
+        Passes token_seen (row_tree row.new) (read_from depth part at.entry) result }
 {
     if at.next_is(Class::Is(Sign::LeftBrace)) {
         let rest = at.take(Class::Is(Sign::LeftBrace))?;
@@ -42,37 +51,45 @@ fn wanted<'t>(alloc: Global, depth: usize, calls: bool, mut row: Row, at: At<'t>
         row.parts.push(LvPart::Open)?;
         row.open = open;
         row.wants = true;
-        return Ok((row, rest));
+        return Ok(rest);
     }
     let (path, rest) = path(alloc, depth, Standing::Outermost, calls, true, at)?;
     let (name, sel) = path.into_selected(alloc)?;
     row.parts.push(LvPart::Name(name, sel))?;
     row.wants = false;
-    Ok((row, rest))
+    Ok(rest)
 }
 
 // A comma, or a closing brace.
-fn behind<'t>(depth: usize, mut row: Row, at: At<'t>) -> Read<'t, Row>
-    requires { 0 < row.open }
-    ensures { Reads row_tree depth (behind_turn (row.open - 1) (row_tree row)) at.entry result }
+fn behind<'t>(depth: usize, row: &mut Row, at: At<'t>) -> Result<At<'t>, Stop>
+    requires { 0 < row.old.open }
+    ensures { let part = behind_turn (row.old.open - 1) (row_tree row.old) in
+        Passes token_seen (row_tree row.new) (read_from depth part at.entry) result }
 {
     if at.next_is(Class::Is(Sign::Comma)) {
         let rest = at.take(Class::Is(Sign::Comma))?;
         row.wants = true;
-        return Ok((row, rest));
+        return Ok(rest);
     }
     let rest = at.take(Class::Is(Sign::RightBrace))?;
     row.parts.push(LvPart::Close)?;
     row.open -= 1;
     row.wants = false;
-    Ok((row, rest))
+    Ok(rest)
 }
 
 // What comes next in a row of targets.
-#[tactic(auto, unfolding(vh_syntax::specs::Names::row_turn))]
-fn row_turn<'t>(alloc: Global, depth: usize, calls: bool, row: Row, at: At<'t>) -> Read<'t, Row>
-    ensures { let part = names.row_turn (expression calls) row.wants row.open (row_tree row) in
-        Reads row_tree depth part at.entry result }
+#[tactic(auto, unfolding(vh_parse_syntax::specs::Names::row_turn))]
+fn row_turn<'t>(
+    alloc: Global,
+    depth: usize,
+    calls: bool,
+    row: &mut Row,
+    at: At<'t>,
+) -> Result<At<'t>, Stop>
+    ensures { let r = row.old in
+        let part = names.row_turn (expression calls) r.wants r.open (row_tree r) in
+        Passes token_seen (row_tree row.new) (read_from depth part at.entry) result }
 {
     if row.wants {
         return wanted(alloc, depth, calls, row, at);
@@ -100,15 +117,13 @@ fn row_rest<'t>(alloc: Global, depth: usize, calls: bool, first: Row, at: At<'t>
     let mut row = first;
     let mut rest = at;
     'row: while row_goes(row.wants, row.open, rest) {
-        let (longer, behind) = row_turn(alloc, depth, calls, row, rest)?;
-        row = longer;
-        rest = behind;
+        rest = row_turn(alloc, depth, calls, &mut row, rest)?;
     }
     Ok((row, rest))
 }
 
 // What stands in a row of targets, behind its first brace.
-#[tactic(auto, unfolding(vh_syntax::specs::Names::braced_rest))]
+#[tactic(auto, unfolding(vh_parse_syntax::specs::Names::braced_rest))]
 fn braced_rest<'t>(alloc: Global, depth: usize, calls: bool, at: At<'t>) -> Read<'t, Items<LvPart>>
     ensures { Reads pieces_seen depth (names.braced_rest (expression calls)) at.entry result }
 {
@@ -132,7 +147,7 @@ fn row_of(place: Place, parts: Items<LvPart>) -> Lv
 }
 
 /// `"{" lv { "," lv } "}"`, of any depth: the expressions in its brackets have so many levels left.
-#[tactic(auto, unfolding(vh_syntax::specs::Names::braced))]
+#[tactic(auto, unfolding(vh_parse_syntax::specs::Names::braced))]
 pub fn braced<'t>(alloc: Global, depth: usize, calls: bool, at: At<'t>) -> Read<'t, Lv>
     ensures { Reads lv_tree depth (names.braced (expression calls)) at.entry result }
 {
@@ -154,7 +169,7 @@ pub fn single(alloc: Global, path: Path) -> Result<Lv, Stop>
 
 /// `lv = name [ sel ] | "{" lv { "," lv } "}"`: the expressions in its brackets have so many levels
 /// left, and calls may stand in them or not.
-#[tactic(auto, unfolding(vh_syntax::specs::Names::lv))]
+#[tactic(auto, unfolding(vh_parse_syntax::specs::Names::lv))]
 pub fn target<'t>(alloc: Global, depth: usize, calls: bool, at: At<'t>) -> Read<'t, Lv>
     ensures { Reads lv_tree depth (names.lv (expression calls)) at.entry result }
 {

@@ -2,24 +2,25 @@
 
 ghost use Rattle.std.specs.Prelude.{◌≡◌, MatchResult};
 ghost use Rattle.vh_base.specs.declared.place.Place.{Place};
-ghost use Rattle.vh_grammar.specs.declared.stop.Stop.TheVariants.{Memory};
-ghost use Rattle.vh_grammar.specs.Part.{act, tok, opt};
-ghost use Rattle.vh_syntax.specs.Tokens.{operator_at, in_rows, unary_rows};
-ghost use Rattle.vh_syntax.specs.Parts;
-ghost use Rattle.vh_syntax.specs.Parts.{an_id, a_system, a_text, a_number, at_the};
+ghost use Rattle.vh_parse_grammar.specs.declared.stop.Stop.TheVariants.{Memory};
+ghost use Rattle.vh_parse_grammar.specs.Part.{act, tok, opt};
+ghost use Rattle.vh_parse_syntax.specs.Tokens.{operator_at, in_rows, unary_rows};
+ghost use Rattle.vh_parse_syntax.specs.Parts;
+ghost use Rattle.vh_parse_syntax.specs.Parts.{an_id, a_system, a_text, a_number, at_the};
 ghost use Rattle.vh_ast.specs.Views.{expr_tree};
-ghost use Rattle.vh_syntax.specs.Expressions.{number_expr, text_expr};
+ghost use Rattle.vh_parse_syntax.specs.Expressions.{number_expr, text_expr};
 ghost use Rattle.vh_parse_expr.specs.Views.{Reads, IsId};
 
+use crate::made;
 use sqlite_items::Boxed;
 use std::alloc::Global;
-use vh_ast::{Binary, Expr, ExprForm, Id, Primary, Unary};
+use vh_ast::{Binary, Expr, Id, Unary};
 use vh_base::{NoMemory, Place};
-use vh_grammar::{Cursor, Stop};
+use vh_base_shared::SharedBytes;
 use vh_lex::{Kind, Token};
-use vh_shared::SharedBytes;
-use vh_syntax::tables::UNARY;
-use vh_syntax::{Class, Sign, Word};
+use vh_parse_grammar::{Cursor, Stop};
+use vh_parse_syntax::tables::UNARY;
+use vh_parse_syntax::{Class, Sign, Word};
 
 /// The tokens before a parser, and what was shown to be left out.
 pub type At<'t> = Cursor<'t, Token, Class>;
@@ -81,9 +82,7 @@ pub(crate) fn text<'t>(alloc: Global, at: At<'t>) -> Read<'t, Boxed<Expr>>
     match &first.kind {
         Kind::Text(text) => {
             let text = kept(text.share())?;
-            let place = first.place;
-            let form = ExprForm::Primary(Primary::Text(text));
-            Ok((Boxed::new(alloc, Expr { place, form })?, at.before(rest)))
+            Ok((made::text(alloc, first.place, text)?, at.before(rest)))
         }
         _ => Err(at.lost()),
     }
@@ -98,9 +97,8 @@ pub(crate) fn number<'t>(alloc: Global, at: At<'t>) -> Read<'t, Boxed<Expr>>
     };
     match &first.kind {
         Kind::Number(number) => {
-            let place = first.place;
-            let form = ExprForm::Primary(Primary::Number(*number.get()));
-            Ok((Boxed::new(alloc, Expr { place, form })?, at.before(rest)))
+            let number = made::number(alloc, first.place, *number.get())?;
+            Ok((number, at.before(rest)))
         }
         _ => Err(at.lost()),
     }
@@ -110,11 +108,10 @@ pub(crate) fn number<'t>(alloc: Global, at: At<'t>) -> Read<'t, Boxed<Expr>>
 pub fn sign<'t>(sign: Sign, at: At<'t>) -> Read<'t, Place>
     ensures { Reads (λ p. p) 0 (at_the sign) at.entry result }
 {
-    let behind = at.take(Class::Is(sign))?;
     let [first, ..] = at.tokens else {
         return Err(at.lost());
     };
-    Ok((first.place, behind))
+    Ok((first.place, at.take(Class::Is(sign))?))
 }
 
 /// A sign of the rows, where it stands, as what its row says.

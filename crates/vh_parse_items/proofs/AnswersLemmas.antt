@@ -1,11 +1,11 @@
 -- What is answered for the tokens of a source.
 use Rattle.std.proofs.Common.{◌≡◌, List, [], subst}
-use Rattle.vh_grammar.specs.Reading.{got}
-use Rattle.vh_grammar.specs.Table.{IsSource}
-use Rattle.vh_grammar.specs.Laws.{LawsOfSources}
+use Rattle.vh_parse_grammar.specs.Reading.{got}
+use Rattle.vh_parse_grammar.specs.Table.{IsSource}
+use Rattle.vh_parse_grammar.specs.Laws.{LawsOfSources}
 use Rattle.vh_ast.specs.Items.{SourceTree}
-use Rattle.vh_syntax.specs.Tokens.{Token}
-use Rattle.vh_syntax.specs.Table.{syntax_table}
+use Rattle.vh_parse_syntax.specs.Tokens.{Token}
+use Rattle.vh_parse_syntax.specs.Table.{syntax_table}
 use Rattle.vh_parse_expr.specs.declared.parse.TheConstants.{MOST_LEVELS}
 use Rattle.vh_parse_items.specs.Answers.{source_answer}
 

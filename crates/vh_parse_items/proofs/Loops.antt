@@ -1,16 +1,16 @@
 -- A turn of each loop of the parser.
 use Rattle.std.proofs.Common.{◌≡◌, ℕ, zero, suc, ◌<◌, true, List, [], ◌∷◌, ◌++◌, length, refl}
-use Rattle.vh_grammar.specs.Conditions.{eats, Advances}
-use Rattle.vh_grammar.specs.Reading.{got, next_is}
-use Rattle.vh_grammar.specs.Marking.{marks, joined_marks}
-use Rattle.vh_grammar.proofs.MarkTurns.{marks_less, joined_marks_turn, iter_marks_turn}
+use Rattle.vh_parse_grammar.specs.Conditions.{eats, Advances}
+use Rattle.vh_parse_grammar.specs.Reading.{got, next_is}
+use Rattle.vh_parse_grammar.specs.Marking.{marks, joined_marks}
+use Rattle.vh_parse_grammar.proofs.MarkTurns.{marks_less, joined_marks_turn, iter_marks_turn}
 use Rattle.vh_ast.specs.Items.{ModuleTree}
-use Rattle.vh_syntax.specs.Tokens.{Token, is_module, is_unused}
-use Rattle.vh_syntax.specs.Declarations.{reg_decl, integer_decl, time_decl, decl}
-use Rattle.vh_syntax.specs.Items.{Region, port_head, port_item, net_item, decl_item, event_item, genvar_item, parameter_item, assign_item, gate_item, instance_item, process_item, task_item, function_item, for_item, if_item, item, region_word, region_turn, region_goes, within_turn, within_goes, first_word, one_item, a_gblock, a_module, source}
-use Rattle.vh_syntax.specs.Grammar.{grammar}
-use Rattle.vh_syntax.specs.ItemConditions.{gblock_advances, source_advances}
-use Rattle.vh_syntax.specs.Table.{eating, advancing}
+use Rattle.vh_parse_syntax.specs.Tokens.{Token, is_module, is_unused}
+use Rattle.vh_parse_syntax.specs.Declarations.{reg_decl, integer_decl, time_decl, decl}
+use Rattle.vh_parse_syntax.specs.Items.{Region, port_head, port_item, net_item, decl_item, event_item, genvar_item, parameter_item, assign_item, gate_item, instance_item, process_item, task_item, function_item, for_item, if_item, item, region_word, region_turn, region_goes, within_turn, within_goes, first_word, one_item, a_gblock, a_module, source}
+use Rattle.vh_parse_syntax.specs.Grammar.{grammar}
+use Rattle.vh_parse_syntax.specs.ItemConditions.{gblock_advances, source_advances}
+use Rattle.vh_parse_syntax.specs.Table.{eating, advancing}
 use Rattle.vh_parse_items.specs.Pieces.{all_items, within}
 
 -- items go on by one, or by a word of a region

@@ -1,14 +1,14 @@
 -- What is answered for the tokens of a whole source.
 use Rattle.std.specs.Prelude.{◌≡◌, List, [], Result, Ok, Err}
 use Rattle.vh_base.specs.declared.place.Place.{Place}
-use Rattle.vh_grammar.specs.Reading.{Out}
-use Rattle.vh_grammar.specs.Table.{source}
+use Rattle.vh_parse_grammar.specs.Reading.{Out}
+use Rattle.vh_parse_grammar.specs.Table.{source}
 use Rattle.vh_ast.specs.declared.module.Source.{Source}
 use Rattle.vh_ast.specs.Items.{SourceTree}
 use Rattle.vh_ast.specs.Views.{source_tree}
 use Rattle.vh_lex.specs.declared.token.Token as lexed
-use Rattle.vh_syntax.specs.Tokens.{Token}
-use Rattle.vh_syntax.specs.Table.{syntax_table}
+use Rattle.vh_parse_syntax.specs.Tokens.{Token}
+use Rattle.vh_parse_syntax.specs.Table.{syntax_table}
 use Rattle.vh_parse_expr.specs.declared.parse.TheConstants.{MOST_LEVELS}
 use Rattle.vh_parse_expr.specs.declared.fault.ParseFault.{ParseFault}
 use Rattle.vh_parse_expr.specs.declared.fault.ParseFault.TheVariants as faults

@@ -1,13 +1,13 @@
 -- Parts of the table that have no name there, for the functions that read them.
 use Rattle.std.specs.Prelude.{ℕ, Option}
-use Rattle.vh_grammar.specs.Part.{act, alt, iter, unless, opt, after}
+use Rattle.vh_parse_grammar.specs.Part.{act, alt, iter, unless, opt, after}
 use Rattle.vh_ast.specs.declared.token.Id.{Id}
 use Rattle.vh_ast.specs.Declarations.{PortsTree}
 use Rattle.vh_ast.specs.Items.{ItemTree}
-use Rattle.vh_syntax.specs.declared.sign.Sign.TheVariants as sign
-use Rattle.vh_syntax.specs.Tokens.{is, is_name, in_rows}
-use Rattle.vh_syntax.specs.Parts.{G, the, at_the, an_id}
-use Rattle.vh_syntax.specs.Items.{Region, process_rows, begins_ports, ports, instance_item, process_item, task_item, function_item, for_item, if_item, item, with_item, with_generate, with_endgenerate, region_goes, region_turn, within_goes, within_turn}
+use Rattle.vh_parse_syntax.specs.declared.sign.Sign.TheVariants as sign
+use Rattle.vh_parse_syntax.specs.Tokens.{is, is_name, in_rows}
+use Rattle.vh_parse_syntax.specs.Parts.{G, the, at_the, an_id}
+use Rattle.vh_parse_syntax.specs.Items.{Region, process_rows, begins_ports, ports, instance_item, process_item, task_item, function_item, for_item, if_item, item, with_item, with_generate, with_endgenerate, region_goes, region_turn, within_goes, within_turn}
 
 -- The branches of an item from an instance on (IEEE 1364-2005, A.1.4).
 abbrev pub last_items : G ItemTree

@@ -4,7 +4,7 @@ use Rattle.vh_ast.specs.declared.item.Item.{Item}
 use Rattle.vh_ast.specs.declared.module.Module.{Module}
 use Rattle.vh_ast.specs.Items.{ItemTree, ModuleTree}
 use Rattle.vh_ast.specs.Views.{expr_tree, assigned_tree, targ_tree, local_tree, stmt_tree, item_tree, module_tree}
-use Rattle.vh_syntax.specs.Items as parts
+use Rattle.vh_parse_syntax.specs.Items as parts
 use Rattle.vh_parse_items.specs.declared.routine.RoutineParts.{RoutineParts}
 use Rattle.vh_parse_items.specs.declared.generate.GenerateHead.{GenerateHead}
 use Rattle.vh_parse_items.specs.declared.region.Region.{Region}

@@ -2,12 +2,12 @@
 //! They call each other, a level deeper where the grammar nests them; rows of items are loops.
 
 ghost use Rattle.std.specs.Prelude.{◌≡◌, ◌-◌, ◌<◌, true, option_map, map};
-ghost use Rattle.vh_grammar.specs.Part.{act, bind};
+ghost use Rattle.vh_parse_grammar.specs.Part.{act, bind};
 ghost use Rattle.vh_ast.specs.Views.{expr_tree, assigned_tree, item_tree, gblock_tree};
-ghost use Rattle.vh_syntax.specs.Expressions.{expression};
-ghost use Rattle.vh_syntax.specs.Declarations as declared;
-ghost use Rattle.vh_syntax.specs.Parts.{in_parens};
-ghost use Rattle.vh_syntax.specs.Items as parts;
+ghost use Rattle.vh_parse_syntax.specs.Expressions.{expression};
+ghost use Rattle.vh_parse_syntax.specs.Declarations as declared;
+ghost use Rattle.vh_parse_syntax.specs.Parts.{in_parens};
+ghost use Rattle.vh_parse_syntax.specs.Items as parts;
 ghost use Rattle.vh_parse_expr.specs.Views.{Reads};
 ghost use Rattle.vh_parse_items.specs.Pieces.{last_items, item_part, outer_word, inner_word, all_items, within};
 ghost use Rattle.vh_parse_items.specs.Views.{generate_tree, region_tree, items_seen, word_pair};
@@ -27,7 +27,7 @@ use vh_parse_parts::{
     assign_item, assigned, decl_item, event_item, gate_item, genvar_item, instance_item, net_item,
     parameter_item, port_item,
 };
-use vh_syntax::{Class, Group, Rows, Sign};
+use vh_parse_syntax::{Class, Group, Rows, Sign};
 
 // What stands in the brackets of a loop of items.
 #[derive(Drop)]
@@ -54,7 +54,7 @@ fn boxed_expression<'t>(alloc: Global, depth: usize, at: At<'t>) -> Read<'t, Box
 }
 
 // `ID "=" expr ";" expr ";" ID "=" expr`
-#[tactic(auto, unfolding(vh_syntax::specs::Items::generate_head))]
+#[tactic(auto, unfolding(vh_parse_syntax::specs::Items::generate_head))]
 fn generate_head<'t>(alloc: Global, depth: usize, at: At<'t>) -> Read<'t, GenerateHead>
     ensures { Reads generate_tree depth parts.generate_head at.entry result }
 {
@@ -90,7 +90,7 @@ fn inner_gblock<'t>(alloc: Global, depth: usize, at: At<'t>) -> Read<'t, Boxed<G
 
 // `"for" "(" ID "=" expr ";" expr ";" ID "=" expr ")" gblock`
 #[cycle(gblock)]
-#[tactic(auto, unfolding(vh_syntax::specs::Items::for_item))]
+#[tactic(auto, unfolding(vh_parse_syntax::specs::Items::for_item))]
 fn for_item<'t>(alloc: Global, depth: usize, at: At<'t>) -> Read<'t, Boxed<Item>>
     ensures { Reads item_tree depth parts.for_item at.entry result }
 {
@@ -102,7 +102,7 @@ fn for_item<'t>(alloc: Global, depth: usize, at: At<'t>) -> Read<'t, Boxed<Item>
 
 // `[ "else" gblock ]`
 #[cycle(gblock)]
-#[tactic(auto, unfolding(vh_syntax::specs::Items::other_gblock))]
+#[tactic(auto, unfolding(vh_parse_syntax::specs::Items::other_gblock))]
 fn other_gblock<'t>(
     alloc: Global,
     depth: usize,
@@ -120,7 +120,7 @@ fn other_gblock<'t>(
 
 // `"if" "(" expr ")" gblock [ "else" gblock ]`
 #[cycle(gblock)]
-#[tactic(auto, unfolding(vh_syntax::specs::Items::if_item))]
+#[tactic(auto, unfolding(vh_parse_syntax::specs::Items::if_item))]
 fn if_item<'t>(alloc: Global, depth: usize, at: At<'t>) -> Read<'t, Boxed<Item>>
     ensures { Reads item_tree depth parts.if_item at.entry result }
 {
@@ -156,7 +156,7 @@ fn last_items<'t>(alloc: Global, depth: usize, at: At<'t>) -> Read<'t, Boxed<Ite
 
 // `item`, but for `generate` regions.
 #[cycle(gblock)]
-#[tactic(auto, unfolding(vh_syntax::specs::Items::item))]
+#[tactic(auto, unfolding(vh_parse_syntax::specs::Items::item))]
 fn item<'t>(alloc: Global, depth: usize, at: At<'t>) -> Read<'t, Boxed<Item>>
     ensures { Reads item_tree depth parts.item at.entry result }
 {
@@ -227,7 +227,7 @@ fn inner_word<'t>(alloc: Global, depth: usize, region: Region, at: At<'t>) -> Re
 
 // `"generate"`, an item, or where a region is open `"endgenerate"`.
 #[cycle(gblock)]
-#[tactic(auto, unfolding(vh_syntax::specs::Items::region_word))]
+#[tactic(auto, unfolding(vh_parse_syntax::specs::Items::region_word))]
 fn region_word<'t>(alloc: Global, depth: usize, region: Region, at: At<'t>) -> Read<'t, Region>
     ensures { let part = parts.region_word region.open (region_tree region) in
         Reads region_tree depth part at.entry result }
@@ -266,7 +266,7 @@ fn all_items<'t>(alloc: Global, depth: usize, first: Region, at: At<'t>) -> Read
 
 // `{ item }`
 #[cycle(gblock)]
-#[tactic(auto, unfolding(vh_syntax::specs::Items::items))]
+#[tactic(auto, unfolding(vh_parse_syntax::specs::Items::items))]
 pub(crate) fn items<'t>(alloc: Global, depth: usize, at: At<'t>) -> Read<'t, Items<Item>>
     ensures { Reads items_seen depth parts.items at.entry result }
 {
@@ -281,7 +281,7 @@ pub(crate) fn items<'t>(alloc: Global, depth: usize, at: At<'t>) -> Read<'t, Ite
 
 // What comes next in a region.
 #[cycle(gblock)]
-#[tactic(auto, unfolding(vh_syntax::specs::Items::within_turn))]
+#[tactic(auto, unfolding(vh_parse_syntax::specs::Items::within_turn))]
 fn within_turn<'t>(alloc: Global, depth: usize, region: Region, at: At<'t>) -> Read<'t, Region>
     ensures { let part = parts.within_turn region.open (region_tree region) in
         Reads region_tree depth part at.entry result }
@@ -309,7 +309,7 @@ fn within<'t>(alloc: Global, depth: usize, first: Region, at: At<'t>) -> Read<'t
 
 // The same, and then each region is closed.
 #[cycle(gblock)]
-#[tactic(auto, unfolding(vh_syntax::specs::Items::region_rest))]
+#[tactic(auto, unfolding(vh_parse_syntax::specs::Items::region_rest))]
 fn region_rest<'t>(alloc: Global, depth: usize, region: Region, at: At<'t>) -> Read<'t, Items<Item>>
     ensures { Reads items_seen depth (parts.region_rest (region_tree region)) at.entry result }
 {
@@ -319,7 +319,7 @@ fn region_rest<'t>(alloc: Global, depth: usize, region: Region, at: At<'t>) -> R
 
 // `"generate"` or an item, with how many regions are open behind it.
 #[cycle(gblock)]
-#[tactic(auto, unfolding(vh_syntax::specs::Items::first_word))]
+#[tactic(auto, unfolding(vh_parse_syntax::specs::Items::first_word))]
 fn first_word<'t>(alloc: Global, depth: usize, at: At<'t>) -> Read<'t, (usize, Boxed<Item>)>
     ensures { Reads word_pair depth parts.first_word at.entry result }
 {
@@ -333,7 +333,7 @@ fn first_word<'t>(alloc: Global, depth: usize, at: At<'t>) -> Read<'t, (usize, B
 
 // The rest of a block of one item.
 #[cycle(gblock)]
-#[tactic(auto, unfolding(vh_syntax::specs::Items::one_item_rest))]
+#[tactic(auto, unfolding(vh_parse_syntax::specs::Items::one_item_rest))]
 fn one_item_rest<'t>(
     alloc: Global,
     depth: usize,
@@ -351,7 +351,7 @@ fn one_item_rest<'t>(
 
 // One item, which may be a `generate` region.
 #[cycle(gblock)]
-#[tactic(auto, unfolding(vh_syntax::specs::Items::one_item))]
+#[tactic(auto, unfolding(vh_parse_syntax::specs::Items::one_item))]
 fn one_item<'t>(alloc: Global, depth: usize, at: At<'t>) -> Read<'t, Boxed<Gblock<Item>>>
     ensures { Reads gblock_tree depth parts.one_item at.entry result }
 {
@@ -362,7 +362,7 @@ fn one_item<'t>(alloc: Global, depth: usize, at: At<'t>) -> Read<'t, Boxed<Gbloc
 
 // `"begin" [ ":" ID ] { item } "end"`
 #[cycle(gblock)]
-#[tactic(auto, unfolding(vh_syntax::specs::Items::item_block))]
+#[tactic(auto, unfolding(vh_parse_syntax::specs::Items::item_block))]
 fn item_block<'t>(alloc: Global, depth: usize, at: At<'t>) -> Read<'t, Boxed<Gblock<Item>>>
     ensures { Reads gblock_tree depth parts.item_block at.entry result }
 {
@@ -375,7 +375,7 @@ fn item_block<'t>(alloc: Global, depth: usize, at: At<'t>) -> Read<'t, Boxed<Gbl
 
 // `gblock`
 #[cycle(gblock)]
-#[tactic(auto, unfolding(vh_syntax::specs::Items::a_gblock))]
+#[tactic(auto, unfolding(vh_parse_syntax::specs::Items::a_gblock))]
 fn gblock<'t>(alloc: Global, depth: usize, at: At<'t>) -> Read<'t, Boxed<Gblock<Item>>>
     ensures { Reads gblock_tree depth parts.a_gblock at.entry result }
 {

@@ -2,11 +2,11 @@
 //! little is held where it stops.
 
 ghost use Rattle.std.specs.Prelude.{◌≡◌, ◌++◌, [], ◌∷◌, Option, option_map, map, MatchResult};
-ghost use Rattle.vh_grammar.specs.declared.stop.Stop.TheVariants.{Memory};
+ghost use Rattle.vh_parse_grammar.specs.declared.stop.Stop.TheVariants.{Memory};
 ghost use Rattle.vh_ast.specs.Items as trees;
 ghost use Rattle.vh_ast.specs.Views.{expr_tree, par_tree, ports_tree, result_tree, stmt_tree, item_tree, gblock_tree, module_tree};
-ghost use Rattle.vh_syntax.specs.Items as parts;
-ghost use Rattle.vh_syntax.specs.Items.{module_of};
+ghost use Rattle.vh_parse_syntax.specs.Items as parts;
+ghost use Rattle.vh_parse_syntax.specs.Items.{module_of};
 ghost use Rattle.vh_parse_items.specs.Views.{routine_tree, generate_tree, items_seen};
 
 use crate::generate::GenerateHead;
@@ -18,8 +18,8 @@ use vh_ast::{
     Stmt, Task,
 };
 use vh_base::Place;
-use vh_grammar::Stop;
 use vh_lex::Setting;
+use vh_parse_grammar::Stop;
 use vh_parse_parts::plain;
 
 // A task.

@@ -2,8 +2,8 @@
 
 ghost use Rattle.std.specs.Prelude.{Option, option_map, map};
 ghost use Rattle.vh_ast.specs.Views.{ports_tree, module_tree};
-ghost use Rattle.vh_syntax.specs.Items as parts;
-ghost use Rattle.vh_syntax.specs.Parts.{in_parens, ended};
+ghost use Rattle.vh_parse_syntax.specs.Items as parts;
+ghost use Rattle.vh_parse_syntax.specs.Parts.{in_parens, ended};
 ghost use Rattle.vh_parse_expr.specs.Views.{Reads};
 ghost use Rattle.vh_parse_items.specs.Pieces.{maybe_ports};
 ghost use Rattle.vh_parse_items.specs.Views.{modules_seen};
@@ -17,7 +17,7 @@ use vh_base::Place;
 use vh_lex::{Kind, Setting};
 use vh_parse_expr::{At, Read, id, then_sign};
 use vh_parse_parts::{pars, ports};
-use vh_syntax::{Class, Sign, Start};
+use vh_parse_syntax::{Class, Sign, Start};
 
 // `"module"`, with what the directives before it set.
 fn module_word<'t>(at: At<'t>) -> Read<'t, (Place, Setting)>
@@ -55,7 +55,7 @@ fn bracketed_ports<'t>(alloc: Global, depth: usize, at: At<'t>) -> Read<'t, Opti
 }
 
 // `[ "(" [ ports ] ")" ]`
-#[tactic(auto, unfolding(vh_syntax::specs::Items::port_list))]
+#[tactic(auto, unfolding(vh_parse_syntax::specs::Items::port_list))]
 fn port_list<'t>(alloc: Global, depth: usize, at: At<'t>) -> Read<'t, Option<Boxed<Ports>>>
     ensures { Reads (option_map ports_tree) depth parts.port_list at.entry result }
 {
@@ -66,7 +66,7 @@ fn port_list<'t>(alloc: Global, depth: usize, at: At<'t>) -> Read<'t, Option<Box
 }
 
 // `module`
-#[tactic(auto, unfolding(vh_syntax::specs::Items::a_module))]
+#[tactic(auto, unfolding(vh_parse_syntax::specs::Items::a_module))]
 fn module<'t>(alloc: Global, depth: usize, at: At<'t>) -> Read<'t, Module>
     ensures { Reads module_tree depth parts.a_module at.entry result }
 {
@@ -81,7 +81,7 @@ fn module<'t>(alloc: Global, depth: usize, at: At<'t>) -> Read<'t, Module>
 }
 
 // `source`
-#[tactic(auto, unfolding(vh_syntax::specs::Items::source))]
+#[tactic(auto, unfolding(vh_parse_syntax::specs::Items::source))]
 pub(crate) fn modules<'t>(alloc: Global, depth: usize, at: At<'t>) -> Read<'t, Items<Module>>
     ensures { Reads modules_seen depth parts.source at.entry result }
 {

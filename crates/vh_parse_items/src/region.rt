@@ -1,13 +1,13 @@
 //! Items in a row, with the words of `generate` regions among them: how far a row has come.
 
 ghost use Rattle.std.specs.Prelude.{◌-◌, ◌<◌, ◌≡◌};
-ghost use Rattle.vh_grammar.specs.Part.{act};
-ghost use Rattle.vh_grammar.specs.Reading.{next_is};
-ghost use Rattle.vh_grammar.specs.Marking.{mark_at};
-ghost use Rattle.vh_syntax.specs.declared.sign.Sign.TheVariants as signs;
-ghost use Rattle.vh_syntax.specs.Parts.{at_the};
-ghost use Rattle.vh_syntax.specs.Items as parts;
-ghost use Rattle.vh_syntax.specs.Items.{shows_item, region_goes, with_generate, with_endgenerate};
+ghost use Rattle.vh_parse_grammar.specs.Part.{act};
+ghost use Rattle.vh_parse_grammar.specs.Reading.{next_is};
+ghost use Rattle.vh_parse_grammar.specs.Marking.{mark_at};
+ghost use Rattle.vh_parse_syntax.specs.declared.sign.Sign.TheVariants as signs;
+ghost use Rattle.vh_parse_syntax.specs.Parts.{at_the};
+ghost use Rattle.vh_parse_syntax.specs.Items as parts;
+ghost use Rattle.vh_parse_syntax.specs.Items.{shows_item, region_goes, with_generate, with_endgenerate};
 ghost use Rattle.vh_parse_expr.specs.Views.{Reads, tokens_seen};
 ghost use Rattle.vh_parse_items.specs.Pieces.{written_name};
 ghost use Rattle.vh_parse_items.specs.Views.{region_tree, items_seen};
@@ -15,9 +15,9 @@ ghost use Rattle.vh_parse_items.specs.Views.{region_tree, items_seen};
 use crate::made;
 use sqlite_items::Items;
 use vh_ast::{Id, Item};
-use vh_grammar::Stop;
 use vh_parse_expr::{At, Read, id, sign};
-use vh_syntax::{Class, Group, Sign, Start};
+use vh_parse_grammar::Stop;
+use vh_parse_syntax::{Class, Group, Sign, Start};
 
 // How many regions are open, and the items so far.
 #[derive(Drop)]
@@ -92,7 +92,7 @@ pub(crate) fn within_goes(regions: usize, at: At<'_>) -> bool
 }
 
 // The end of items: each region is closed.
-#[tactic(auto, unfolding(vh_syntax::specs::Items::region_end))]
+#[tactic(auto, unfolding(vh_parse_syntax::specs::Items::region_end))]
 pub(crate) fn region_end<'t>(depth: usize, region: Region, at: At<'t>) -> Read<'t, Items<Item>>
     ensures { let part = parts.region_end region.open (region_tree region) in
         Reads items_seen depth part at.entry result }

@@ -2,9 +2,9 @@
 
 ghost use Rattle.std.specs.Prelude.{Option, option_map};
 ghost use Rattle.vh_ast.specs.Views.{result_tree, item_tree};
-ghost use Rattle.vh_syntax.specs.Items as parts;
-ghost use Rattle.vh_syntax.specs.Items.{process_rows};
-ghost use Rattle.vh_syntax.specs.Parts;
+ghost use Rattle.vh_parse_syntax.specs.Items as parts;
+ghost use Rattle.vh_parse_syntax.specs.Items.{process_rows};
+ghost use Rattle.vh_parse_syntax.specs.Parts;
 ghost use Rattle.vh_parse_expr.specs.Views.{Reads};
 ghost use Rattle.vh_parse_items.specs.Views.{routine_tree};
 
@@ -17,8 +17,8 @@ use vh_parse_decl::data_type;
 use vh_parse_expr::{At, Read, id, placed_row, sign, then_sign};
 use vh_parse_parts::{locals, maybe_targs};
 use vh_parse_stmt::inner_statement;
-use vh_syntax::tables::PROCESS;
-use vh_syntax::{Class, Group, Sign};
+use vh_parse_syntax::tables::PROCESS;
+use vh_parse_syntax::{Class, Group, Sign};
 
 // A task or function, but for the words around it.
 #[derive(Drop)]
@@ -30,7 +30,7 @@ pub(crate) struct RoutineParts {
 }
 
 // `ID [ "(" targs ")" ] ";" { targ ";" | decl } stmt`: a statement in a function, or in a task.
-#[tactic(auto, unfolding(vh_syntax::specs::Items::routine))]
+#[tactic(auto, unfolding(vh_parse_syntax::specs::Items::routine))]
 fn routine<'t>(
     alloc: Global,
     depth: usize,
@@ -54,7 +54,7 @@ fn routine<'t>(
 }
 
 // `"task" .. "endtask"`
-#[tactic(auto, unfolding(vh_syntax::specs::Items::task_item))]
+#[tactic(auto, unfolding(vh_parse_syntax::specs::Items::task_item))]
 pub(crate) fn task_item<'t>(alloc: Global, depth: usize, at: At<'t>) -> Read<'t, Boxed<Item>>
     ensures { Reads item_tree depth parts.task_item at.entry result }
 {
@@ -65,7 +65,7 @@ pub(crate) fn task_item<'t>(alloc: Global, depth: usize, at: At<'t>) -> Read<'t,
 }
 
 // `[ "integer" | "time" | type ]`, where no type is a type that is written.
-#[tactic(auto, unfolding(vh_syntax::specs::Items::result_type))]
+#[tactic(auto, unfolding(vh_parse_syntax::specs::Items::result_type))]
 fn result_type<'t>(alloc: Global, depth: usize, at: At<'t>) -> Read<'t, Option<Boxed<ResultType>>>
     ensures { Reads (option_map result_tree) depth parts.result_type at.entry result }
 {
@@ -85,7 +85,7 @@ fn result_type<'t>(alloc: Global, depth: usize, at: At<'t>) -> Read<'t, Option<B
 }
 
 // `"function" .. "endfunction"`
-#[tactic(auto, unfolding(vh_syntax::specs::Items::function_item))]
+#[tactic(auto, unfolding(vh_parse_syntax::specs::Items::function_item))]
 pub(crate) fn function_item<'t>(alloc: Global, depth: usize, at: At<'t>) -> Read<'t, Boxed<Item>>
     ensures { Reads item_tree depth parts.function_item at.entry result }
 {
@@ -104,7 +104,7 @@ fn process_word<'t>(at: At<'t>) -> Read<'t, (Place, ProcessWord)>
 }
 
 // `( "initial" | "always" ) stmt`
-#[tactic(auto, unfolding(vh_syntax::specs::Items::process_item))]
+#[tactic(auto, unfolding(vh_parse_syntax::specs::Items::process_item))]
 pub(crate) fn process_item<'t>(alloc: Global, depth: usize, at: At<'t>) -> Read<'t, Boxed<Item>>
     ensures { Reads item_tree depth parts.process_item at.entry result }
 {

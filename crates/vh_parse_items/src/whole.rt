@@ -1,11 +1,11 @@
 //! A whole source of the lexer's tokens.
 
 ghost use Rattle.std.specs.Prelude.{◌≡◌, map, IfOk};
-ghost use Rattle.vh_grammar.specs.Says.{Accepts};
-ghost use Rattle.vh_grammar.specs.Table.{IsSource};
+ghost use Rattle.vh_parse_grammar.specs.Says.{Accepts};
+ghost use Rattle.vh_parse_grammar.specs.Table.{IsSource};
 ghost use Rattle.vh_ast.specs.Views.{source_tree};
-ghost use Rattle.vh_syntax.specs.Table.{syntax_table};
-ghost use Rattle.vh_syntax.specs.Tokens.{token_seen};
+ghost use Rattle.vh_parse_syntax.specs.Table.{syntax_table};
+ghost use Rattle.vh_parse_syntax.specs.Tokens.{token_seen};
 ghost use Rattle.vh_parse_expr.specs.Views.{tokens_seen};
 ghost use Rattle.vh_parse_items.specs.Answers.{source_answer, IsParsed};
 
@@ -13,10 +13,10 @@ use crate::module::modules;
 use std::alloc::Global;
 use vh_ast::Source;
 use vh_base::Place;
-use vh_grammar::{Cursor, Stop};
 use vh_lex::Token;
 use vh_parse_expr::{MOST_LEVELS, ParseFault, fault_at};
-use vh_syntax::syntax_laws;
+use vh_parse_grammar::{Cursor, Stop};
+use vh_parse_syntax::syntax_laws;
 
 // The source that the tokens are, unless a construct is left out in it or they go on behind it.
 fn read(alloc: Global, tokens: &[Token]) -> Result<Source, Stop>

@@ -1,14 +1,14 @@
 -- A turn of each loop of the parser.
 use Rattle.std.proofs.Common.{◌≡◌, ℕ, ◌<◌, true, List, [], ◌∷◌, ◌++◌, length}
-use Rattle.vh_grammar.specs.Reading.{got, next_is}
-use Rattle.vh_grammar.specs.Marking.{marks, joined_marks}
-use Rattle.vh_grammar.proofs.MarkTurns.{marks_less, joined_marks_turn, iter_marks_turn}
+use Rattle.vh_parse_grammar.specs.Reading.{got, next_is}
+use Rattle.vh_parse_grammar.specs.Marking.{marks, joined_marks}
+use Rattle.vh_parse_grammar.proofs.MarkTurns.{marks_less, joined_marks_turn, iter_marks_turn}
 use Rattle.vh_ast.specs.Declarations.{LocalTree}
-use Rattle.vh_syntax.specs.declared.sign.Sign.TheVariants as sign
-use Rattle.vh_syntax.specs.Tokens.{Token, is, is_unused}
-use Rattle.vh_syntax.specs.Items.{Declared, Delayed, Targs, next_port, delayed_goes, next_delayed, more_delayed, next_targ, local, begins_local}
-use Rattle.vh_syntax.specs.Grammar.{grammar}
-use Rattle.vh_syntax.specs.Table.{eating, advancing}
+use Rattle.vh_parse_syntax.specs.declared.sign.Sign.TheVariants as sign
+use Rattle.vh_parse_syntax.specs.Tokens.{Token, is, is_unused}
+use Rattle.vh_parse_syntax.specs.Items.{Declared, Delayed, Targs, next_port, delayed_goes, next_delayed, more_delayed, next_targ, local, begins_local}
+use Rattle.vh_parse_syntax.specs.Grammar.{grammar}
+use Rattle.vh_parse_syntax.specs.Table.{eating, advancing}
 use Rattle.vh_parse_parts.specs.Pieces.{more_ports, more_targs, locals}
 use Rattle.vh_parse_parts.specs.Conditions.{next_port_advances, next_delayed_advances, next_targ_advances, local_advances}
 

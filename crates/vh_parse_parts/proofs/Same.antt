@@ -1,11 +1,11 @@
 -- Lists that are trees already.
 use Rattle.std.proofs.Common.{ℕ, List, map, Result, Ok, Err, ap, ◌∙◌}
 use Rattle.std.proofs.lemmas.List.{map-id}
-use Rattle.vh_grammar.specs.declared.stop.Stop.{Stop}
-use Rattle.vh_grammar.specs.Reading.{Out, got}
-use Rattle.vh_grammar.specs.Says.{Says}
+use Rattle.vh_parse_grammar.specs.declared.stop.Stop.{Stop}
+use Rattle.vh_parse_grammar.specs.Reading.{Out, got}
+use Rattle.vh_parse_grammar.specs.Says.{Says}
 use Rattle.vh_ast.specs.declared.token.Id.{Id}
-use Rattle.vh_syntax.specs.Tokens.{Token, token_seen}
+use Rattle.vh_parse_syntax.specs.Tokens.{Token, token_seen}
 use Rattle.vh_parse_expr.specs.Views.{At}
 
 -- identifiers, each of which is its own tree

@@ -1,10 +1,10 @@
 -- The conditions of what stands in lists and loops: each turn of a repetition in it takes a token.
 use Rattle.std.specs.Prelude.{◌≡◌, Bool, true, false, refl}
-use Rattle.vh_grammar.specs.Conditions.{eats, Advances}
-use Rattle.vh_syntax.specs.Declarations.{reg_decl, integer_decl, time_decl, decl}
-use Rattle.vh_syntax.specs.Items.{Declared, Delayed, Targs, port_head, pdecl, next_port, par, next_delayed, gate, conn_by_name, conn, conns, inst, targ_head, targ_ids, targ, targ_id, targ_one, next_targ, local}
-use Rattle.vh_syntax.specs.ExpressionConditions.{expression_advances}
-use Rattle.vh_syntax.specs.DeclarationConditions.{type_advances, assigned_advances, net_advances, decl_advances}
+use Rattle.vh_parse_grammar.specs.Conditions.{eats, Advances}
+use Rattle.vh_parse_syntax.specs.Declarations.{reg_decl, integer_decl, time_decl, decl}
+use Rattle.vh_parse_syntax.specs.Items.{Declared, Delayed, Targs, port_head, pdecl, next_port, par, next_delayed, gate, conn_by_name, conn, conns, inst, targ_head, targ_ids, targ, targ_id, targ_one, next_targ, local}
+use Rattle.vh_parse_syntax.specs.ExpressionConditions.{expression_advances}
+use Rattle.vh_parse_syntax.specs.DeclarationConditions.{type_advances, assigned_advances, net_advances, decl_advances}
 
 -- A port of a header (own).
 head_advances : Advances port_head

@@ -1,18 +1,18 @@
 -- Parts of the table that have no name there, for the functions that read them.
 use Rattle.std.specs.Prelude.{List, Option}
 use Rattle.vh_base.specs.declared.place.Place.{Place}
-use Rattle.vh_grammar.specs.Part.{seq, bind, act, alt, rep, iter, unless, opt, two, after}
+use Rattle.vh_parse_grammar.specs.Part.{seq, bind, act, alt, rep, iter, unless, opt, two, after}
 use Rattle.vh_ast.specs.Declarations.{NetTree, ParTree, LocalTree, TypeTree}
 use Rattle.vh_ast.specs.Statements.{DelayTree}
 use Rattle.vh_ast.specs.Items.{GateTree, ConnTree}
-use Rattle.vh_syntax.specs.declared.sign.Sign.{Sign}
-use Rattle.vh_syntax.specs.declared.sign.Sign.TheVariants as sign
-use Rattle.vh_syntax.specs.Tokens.{is, in_rows}
-use Rattle.vh_syntax.specs.Parts.{G, the, at_the, row_in, placed_row, an_id, comma_more, in_parens}
-use Rattle.vh_syntax.specs.Declarations.{a_type, bare_id, assigned, a_net}
-use Rattle.vh_syntax.specs.Statements.{all_of, delay}
-use Rattle.vh_syntax.specs.Items as parts
-use Rattle.vh_syntax.specs.Items.{Declared, Delayed, Targs, direction_rows, port_bare, pdecl, with_pdecl, with_port, next_port, delayed_first, more_delayed, delayed_nets, with_delay, terminals, conns, begins_conns, next_targ, local, begins_local}
+use Rattle.vh_parse_syntax.specs.declared.sign.Sign.{Sign}
+use Rattle.vh_parse_syntax.specs.declared.sign.Sign.TheVariants as sign
+use Rattle.vh_parse_syntax.specs.Tokens.{is, in_rows}
+use Rattle.vh_parse_syntax.specs.Parts.{G, the, at_the, row_in, placed_row, an_id, comma_more, in_parens}
+use Rattle.vh_parse_syntax.specs.Declarations.{a_type, bare_id, assigned, a_net}
+use Rattle.vh_parse_syntax.specs.Statements.{all_of, delay}
+use Rattle.vh_parse_syntax.specs.Items as parts
+use Rattle.vh_parse_syntax.specs.Items.{Declared, Delayed, Targs, direction_rows, port_bare, pdecl, with_pdecl, with_port, next_port, delayed_first, more_delayed, delayed_nets, with_delay, terminals, conns, begins_conns, next_targ, local, begins_local}
 
 -- What stands in front of names, with these words for directions and kinds (IEEE 1364-2005, A.1.3
 -- and A.2.7).

@@ -8,7 +8,7 @@ use Rattle.vh_ast.specs.Declarations.{NetTree, TargTree, TypeTree}
 use Rattle.vh_ast.specs.Statements.{DelayTree}
 use Rattle.vh_ast.specs.Items.{ConnTree}
 use Rattle.vh_ast.specs.Views.{type_tree, pdecl_tree, port_tree, net_tree, delay_tree, conn_tree, targ_tree}
-use Rattle.vh_syntax.specs.Items as parts
+use Rattle.vh_parse_syntax.specs.Items as parts
 use Rattle.vh_parse_parts.specs.declared.head.Head.{Head}
 use Rattle.vh_parse_parts.specs.declared.port.Header.{Header}
 use Rattle.vh_parse_parts.specs.declared.nets.Delayed.{Delayed}

@@ -1,7 +1,7 @@
 //! Types in a box: little is held where a reading stops behind one.
 
 ghost use Rattle.vh_ast.specs.Views.{type_tree};
-ghost use Rattle.vh_syntax.specs.Declarations.{a_type};
+ghost use Rattle.vh_parse_syntax.specs.Declarations.{a_type};
 ghost use Rattle.vh_parse_expr.specs.Views.{Reads};
 
 use sqlite_items::Boxed;

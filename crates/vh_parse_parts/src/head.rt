@@ -1,6 +1,6 @@
 //! What stands in front of names that are given a direction.
 
-ghost use Rattle.vh_syntax.specs.Items as parts;
+ghost use Rattle.vh_parse_syntax.specs.Items as parts;
 ghost use Rattle.vh_parse_expr.specs.Views.{Reads};
 ghost use Rattle.vh_parse_parts.specs.Pieces.{any_head};
 ghost use Rattle.vh_parse_parts.specs.Views.{head_tree};
@@ -11,8 +11,8 @@ use std::alloc::Global;
 use vh_ast::{DataType, Direction, PortType, TaskDirection, Variable};
 use vh_base::Place;
 use vh_parse_expr::{At, Read, placed_row, row_if_next};
-use vh_syntax::Sign;
-use vh_syntax::tables::{DIRECTION, PORT_TYPE, TARG, VARIABLE};
+use vh_parse_syntax::Sign;
+use vh_parse_syntax::tables::{DIRECTION, PORT_TYPE, TARG, VARIABLE};
 
 // A direction, what the names are where it is said, and their type.
 #[derive(Drop)]
@@ -52,7 +52,7 @@ fn any_head<'t, D: Copy, K: Copy>(
 }
 
 // `( "input" | "output" ) [ NET | "reg" | "integer" | "time" ] type`
-#[tactic(auto, unfolding(vh_syntax::specs::Items::port_head))]
+#[tactic(auto, unfolding(vh_parse_syntax::specs::Items::port_head))]
 pub(crate) fn port_head<'t>(alloc: Global, depth: usize, at: At<'t>) -> Read<'t, PortHead>
     ensures { Reads head_tree depth parts.port_head at.entry result }
 {
@@ -60,7 +60,7 @@ pub(crate) fn port_head<'t>(alloc: Global, depth: usize, at: At<'t>) -> Read<'t,
 }
 
 // `( "input" | "output" | "inout" ) [ "reg" | "integer" | "time" ] type`
-#[tactic(auto, unfolding(vh_syntax::specs::Items::targ_head))]
+#[tactic(auto, unfolding(vh_parse_syntax::specs::Items::targ_head))]
 pub(crate) fn targ_head<'t>(alloc: Global, depth: usize, at: At<'t>) -> Read<'t, TargHead>
     ensures { Reads head_tree depth parts.targ_head at.entry result }
 {

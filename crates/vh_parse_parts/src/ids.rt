@@ -2,8 +2,8 @@
 
 ghost use Rattle.std.specs.Prelude.{map};
 ghost use Rattle.vh_ast.specs.declared.token.Id.{Id};
-ghost use Rattle.vh_syntax.specs.Parts.{an_id, comma_list};
-ghost use Rattle.vh_syntax.specs.Declarations as parts;
+ghost use Rattle.vh_parse_syntax.specs.Parts.{an_id, comma_list};
+ghost use Rattle.vh_parse_syntax.specs.Declarations as parts;
 ghost use Rattle.vh_parse_expr.specs.Views.{Reads};
 
 use std::alloc::Global;

@@ -1,15 +1,15 @@
 //! Gates, and instances of modules with their connections.
 
 ghost use Rattle.std.specs.Prelude.{◌≡◌, Bool, Option, option_map, map};
-ghost use Rattle.vh_grammar.specs.Part.{act, opt, after};
+ghost use Rattle.vh_parse_grammar.specs.Part.{act, opt, after};
 ghost use Rattle.vh_ast.specs.Items as trees;
 ghost use Rattle.vh_ast.specs.Views.{expr_tree, gate_tree, conn_tree, inst_tree};
-ghost use Rattle.vh_syntax.specs.declared.sign.Sign.TheVariants as signs;
-ghost use Rattle.vh_syntax.specs.Tokens.{is};
-ghost use Rattle.vh_syntax.specs.Parts.{the, in_parens};
-ghost use Rattle.vh_syntax.specs.Statements.{all_of};
-ghost use Rattle.vh_syntax.specs.Items as parts;
-ghost use Rattle.vh_syntax.specs.Items.{begins_conns};
+ghost use Rattle.vh_parse_syntax.specs.declared.sign.Sign.TheVariants as signs;
+ghost use Rattle.vh_parse_syntax.specs.Tokens.{is};
+ghost use Rattle.vh_parse_syntax.specs.Parts.{the, in_parens};
+ghost use Rattle.vh_parse_syntax.specs.Statements.{all_of};
+ghost use Rattle.vh_parse_syntax.specs.Items as parts;
+ghost use Rattle.vh_parse_syntax.specs.Items.{begins_conns};
 ghost use Rattle.vh_parse_expr.specs.Views.{Reads, exprs_seen};
 ghost use Rattle.vh_parse_parts.specs.Pieces.{bare_gate, named_gate, written_conns, overrides};
 ghost use Rattle.vh_parse_parts.specs.Views.{conns_seen};
@@ -20,7 +20,7 @@ use std::alloc::Global;
 use vh_ast::{Conn, Conns, Expr, Gate, Inst};
 use vh_parse_decl::{Exprs, Listed, list, list_in_parens};
 use vh_parse_expr::{At, Read, expression, id, sign, then_sign};
-use vh_syntax::{Class, Sign, Start};
+use vh_parse_syntax::{Class, Sign, Start};
 
 // `ID "(" expr { "," expr } ")"`
 fn named_gate<'t>(alloc: Global, depth: usize, at: At<'t>) -> Read<'t, Gate>
@@ -59,7 +59,7 @@ fn bare_gate<'t>(alloc: Global, depth: usize, at: At<'t>) -> Read<'t, Gate>
 }
 
 // `gate`
-#[tactic(auto, unfolding(vh_syntax::specs::Items::gate))]
+#[tactic(auto, unfolding(vh_parse_syntax::specs::Items::gate))]
 fn gate<'t>(alloc: Global, depth: usize, at: At<'t>) -> Read<'t, Gate>
     ensures { Reads gate_tree depth parts.gate at.entry result }
 {
@@ -110,7 +110,7 @@ fn maybe_in_parens<'t>(alloc: Global, depth: usize, at: At<'t>) -> Read<'t, Opti
 }
 
 // `"." ID "(" [ expr ] ")"`
-#[tactic(auto, unfolding(vh_syntax::specs::Items::conn_by_name))]
+#[tactic(auto, unfolding(vh_parse_syntax::specs::Items::conn_by_name))]
 fn named_conn<'t>(alloc: Global, depth: usize, at: At<'t>) -> Read<'t, Conn>
     ensures { Reads conn_tree depth parts.conn_by_name at.entry result }
 {
@@ -121,7 +121,7 @@ fn named_conn<'t>(alloc: Global, depth: usize, at: At<'t>) -> Read<'t, Conn>
 }
 
 // `conn`
-#[tactic(auto, unfolding(vh_syntax::specs::Items::conn))]
+#[tactic(auto, unfolding(vh_parse_syntax::specs::Items::conn))]
 fn conn<'t>(alloc: Global, depth: usize, at: At<'t>) -> Read<'t, Conn>
     ensures { Reads conn_tree depth parts.conn at.entry result }
 {
@@ -152,7 +152,7 @@ impl Listed for Connections {
 }
 
 // `conns`
-#[tactic(auto, unfolding(vh_syntax::specs::Items::conns))]
+#[tactic(auto, unfolding(vh_parse_syntax::specs::Items::conns))]
 fn conns<'t>(alloc: Global, depth: usize, at: At<'t>) -> Read<'t, Conns>
     ensures { Reads conns_seen depth parts.conns at.entry result }
 {
@@ -180,7 +180,7 @@ fn conns_in_parens<'t>(alloc: Global, depth: usize, at: At<'t>) -> Read<'t, Conn
 }
 
 // `inst`
-#[tactic(auto, unfolding(vh_syntax::specs::Items::inst))]
+#[tactic(auto, unfolding(vh_parse_syntax::specs::Items::inst))]
 fn inst<'t>(alloc: Global, depth: usize, at: At<'t>) -> Read<'t, Inst>
     ensures { Reads inst_tree depth parts.inst at.entry result }
 {

@@ -3,9 +3,9 @@
 ghost use Rattle.std.specs.Prelude.{map};
 ghost use Rattle.vh_ast.specs.Statements as trees;
 ghost use Rattle.vh_ast.specs.Views.{item_tree, set_tree};
-ghost use Rattle.vh_syntax.specs.Statements.{set};
-ghost use Rattle.vh_syntax.specs.StatementConditions.{set_advances};
-ghost use Rattle.vh_syntax.specs.Items as parts;
+ghost use Rattle.vh_parse_syntax.specs.Statements.{set};
+ghost use Rattle.vh_parse_syntax.specs.StatementConditions.{set_advances};
+ghost use Rattle.vh_parse_syntax.specs.Items as parts;
 ghost use Rattle.vh_parse_expr.specs.Views.{Reads};
 ghost use Rattle.vh_parse_parts.specs.Views.{head_tree};
 
@@ -23,10 +23,10 @@ use std::alloc::Global;
 use vh_ast::{Item, Plain, Set};
 use vh_parse_decl::{Listed, declaration, list, set, written_delay};
 use vh_parse_expr::{At, Read, id, sign, then_sign};
-use vh_syntax::Sign;
+use vh_parse_syntax::Sign;
 
 // The names of ports and their end.
-#[tactic(auto, unfolding(vh_syntax::specs::Items::port_ids))]
+#[tactic(auto, unfolding(vh_parse_syntax::specs::Items::port_ids))]
 fn port_ids<'t>(alloc: Global, depth: usize, head: PortHead, at: At<'t>) -> Read<'t, Boxed<Item>>
     ensures { Reads item_tree depth (parts.port_ids (head_tree head)) at.entry result }
 {
@@ -37,7 +37,7 @@ fn port_ids<'t>(alloc: Global, depth: usize, head: PortHead, at: At<'t>) -> Read
 
 /// `( "input" | "output" ) [ NET | "reg" | "integer" | "time" ] type ID { "," ID } ";"` (IEEE
 /// 1364-2005, A.2.1.2)
-#[tactic(auto, unfolding(vh_syntax::specs::Items::port_item))]
+#[tactic(auto, unfolding(vh_parse_syntax::specs::Items::port_item))]
 pub fn port_item<'t>(alloc: Global, depth: usize, at: At<'t>) -> Read<'t, Boxed<Item>>
     ensures { Reads item_tree depth parts.port_item at.entry result }
 {
@@ -46,7 +46,7 @@ pub fn port_item<'t>(alloc: Global, depth: usize, at: At<'t>) -> Read<'t, Boxed<
 }
 
 /// `NET type [ delay ] net { "," net } ";"` (IEEE 1364-2005, A.2.1.3)
-#[tactic(auto, unfolding(vh_syntax::specs::Items::net_item))]
+#[tactic(auto, unfolding(vh_parse_syntax::specs::Items::net_item))]
 pub fn net_item<'t>(alloc: Global, depth: usize, at: At<'t>) -> Read<'t, Boxed<Item>>
     ensures { Reads item_tree depth parts.net_item at.entry result }
 {
@@ -58,7 +58,7 @@ pub fn net_item<'t>(alloc: Global, depth: usize, at: At<'t>) -> Read<'t, Boxed<I
 }
 
 /// `decl`, as an item (IEEE 1364-2005, A.2.1.3)
-#[tactic(auto, unfolding(vh_syntax::specs::Items::decl_item))]
+#[tactic(auto, unfolding(vh_parse_syntax::specs::Items::decl_item))]
 pub fn decl_item<'t>(alloc: Global, depth: usize, at: At<'t>) -> Read<'t, Boxed<Item>>
     ensures { Reads item_tree depth parts.decl_item at.entry result }
 {
@@ -67,7 +67,7 @@ pub fn decl_item<'t>(alloc: Global, depth: usize, at: At<'t>) -> Read<'t, Boxed<
 }
 
 /// `"event" ids ";"` (IEEE 1364-2005, A.2.1.3)
-#[tactic(auto, unfolding(vh_syntax::specs::Items::event_item))]
+#[tactic(auto, unfolding(vh_parse_syntax::specs::Items::event_item))]
 pub fn event_item<'t>(alloc: Global, depth: usize, at: At<'t>) -> Read<'t, Boxed<Item>>
     ensures { Reads item_tree depth parts.event_item at.entry result }
 {
@@ -78,7 +78,7 @@ pub fn event_item<'t>(alloc: Global, depth: usize, at: At<'t>) -> Read<'t, Boxed
 }
 
 /// `"genvar" ids ";"` (IEEE 1364-2005, A.4.2)
-#[tactic(auto, unfolding(vh_syntax::specs::Items::genvar_item))]
+#[tactic(auto, unfolding(vh_parse_syntax::specs::Items::genvar_item))]
 pub fn genvar_item<'t>(alloc: Global, depth: usize, at: At<'t>) -> Read<'t, Boxed<Item>>
     ensures { Reads item_tree depth parts.genvar_item at.entry result }
 {
@@ -90,7 +90,7 @@ pub fn genvar_item<'t>(alloc: Global, depth: usize, at: At<'t>) -> Read<'t, Boxe
 
 /// `( "parameter" | "localparam" ) type ID "=" expr { "," ID "=" expr } ";"` (IEEE 1364-2005,
 /// A.2.1.1)
-#[tactic(auto, unfolding(vh_syntax::specs::Items::parameter_item))]
+#[tactic(auto, unfolding(vh_parse_syntax::specs::Items::parameter_item))]
 pub fn parameter_item<'t>(alloc: Global, depth: usize, at: At<'t>) -> Read<'t, Boxed<Item>>
     ensures { Reads item_tree depth parts.parameter_item at.entry result }
 {
@@ -121,7 +121,7 @@ impl Listed for Sets {
 }
 
 /// `"assign" [ delay ] lv "=" expr { "," lv "=" expr } ";"` (IEEE 1364-2005, A.6.1)
-#[tactic(auto, unfolding(vh_syntax::specs::Items::assign_item))]
+#[tactic(auto, unfolding(vh_parse_syntax::specs::Items::assign_item))]
 pub fn assign_item<'t>(alloc: Global, depth: usize, at: At<'t>) -> Read<'t, Boxed<Item>>
     ensures { Reads item_tree depth parts.assign_item at.entry result }
 {
@@ -133,7 +133,7 @@ pub fn assign_item<'t>(alloc: Global, depth: usize, at: At<'t>) -> Read<'t, Boxe
 }
 
 /// `GATE [ delay ] gate { "," gate } ";"` (IEEE 1364-2005, A.3.1)
-#[tactic(auto, unfolding(vh_syntax::specs::Items::gate_item))]
+#[tactic(auto, unfolding(vh_parse_syntax::specs::Items::gate_item))]
 pub fn gate_item<'t>(alloc: Global, depth: usize, at: At<'t>) -> Read<'t, Boxed<Item>>
     ensures { Reads item_tree depth parts.gate_item at.entry result }
 {
@@ -145,7 +145,7 @@ pub fn gate_item<'t>(alloc: Global, depth: usize, at: At<'t>) -> Read<'t, Boxed<
 }
 
 /// `ID [ "#" "(" conns ")" ] inst { "," inst } ";"` (IEEE 1364-2005, A.4.1)
-#[tactic(auto, unfolding(vh_syntax::specs::Items::instance_item))]
+#[tactic(auto, unfolding(vh_parse_syntax::specs::Items::instance_item))]
 pub fn instance_item<'t>(alloc: Global, depth: usize, at: At<'t>) -> Read<'t, Boxed<Item>>
     ensures { Reads item_tree depth parts.instance_item at.entry result }
 {

@@ -1,9 +1,9 @@
 //! Items that are made of their parts.
 
 ghost use Rattle.std.specs.Prelude.{◌≡◌, MatchResult, option_map, map};
-ghost use Rattle.vh_grammar.specs.declared.stop.Stop.TheVariants.{Memory};
+ghost use Rattle.vh_parse_grammar.specs.declared.stop.Stop.TheVariants.{Memory};
 ghost use Rattle.vh_ast.specs.Views.{type_tree, assigned_tree, net_tree, plain_tree, item_tree, decl_tree, set_tree, gate_tree, inst_tree, delay_tree};
-ghost use Rattle.vh_syntax.specs.Items as parts;
+ghost use Rattle.vh_parse_syntax.specs.Items as parts;
 ghost use Rattle.vh_parse_parts.specs.Views.{head_tree, nets_pair, conns_seen};
 
 use crate::head::PortHead;
@@ -14,7 +14,7 @@ use vh_ast::{
     NetType, ParameterWord, Plain, Set,
 };
 use vh_base::Place;
-use vh_grammar::Stop;
+use vh_parse_grammar::Stop;
 
 /// An item in which none stands.
 pub fn plain(alloc: Global, place: Place, form: Plain) -> Result<Boxed<Item>, Stop>

@@ -1,14 +1,14 @@
 //! Nets, with a delay or without one.
 
 ghost use Rattle.std.specs.Prelude.{◌≡◌, Bool, is_some, map};
-ghost use Rattle.vh_grammar.specs.Part.{act, two};
-ghost use Rattle.vh_grammar.specs.Reading.{next_is};
+ghost use Rattle.vh_parse_grammar.specs.Part.{act, two};
+ghost use Rattle.vh_parse_grammar.specs.Reading.{next_is};
 ghost use Rattle.vh_ast.specs.Declarations as trees;
 ghost use Rattle.vh_ast.specs.Views.{net_tree};
-ghost use Rattle.vh_syntax.specs.Declarations as declared;
-ghost use Rattle.vh_syntax.specs.DeclarationConditions.{net_advances};
-ghost use Rattle.vh_syntax.specs.Items as parts;
-ghost use Rattle.vh_syntax.specs.Items.{delayed_goes};
+ghost use Rattle.vh_parse_syntax.specs.Declarations as declared;
+ghost use Rattle.vh_parse_syntax.specs.DeclarationConditions.{net_advances};
+ghost use Rattle.vh_parse_syntax.specs.Items as parts;
+ghost use Rattle.vh_parse_syntax.specs.Items.{delayed_goes};
 ghost use Rattle.vh_parse_expr.specs.Views.{Reads, tokens_seen};
 ghost use Rattle.vh_parse_parts.specs.Pieces.{delayed_row, behind_delay};
 ghost use Rattle.vh_parse_parts.specs.Views.{delayed_tree, nets_pair};
@@ -18,10 +18,10 @@ use std::alloc::Global;
 use vh_ast::{Delay, Net, only};
 use vh_parse_decl::{Listed, bare_id, boxed_delay, further, list, value};
 use vh_parse_expr::{At, Read};
-use vh_syntax::{Class, Group, Sign};
+use vh_parse_syntax::{Class, Group, Sign};
 
 // `net`
-#[tactic(auto, unfolding(vh_syntax::specs::Declarations::a_net))]
+#[tactic(auto, unfolding(vh_parse_syntax::specs::Declarations::a_net))]
 fn net<'t>(alloc: Global, depth: usize, at: At<'t>) -> Read<'t, Net>
     ensures { Reads net_tree depth declared.a_net at.entry result }
 {
@@ -75,7 +75,7 @@ fn delayed_goes(valued: bool, at: At<'_>) -> bool
 }
 
 // `"," net`, behind a net with a value.
-#[tactic(auto, unfolding(vh_syntax::specs::Items::next_delayed))]
+#[tactic(auto, unfolding(vh_parse_syntax::specs::Items::next_delayed))]
 fn next_delayed<'t>(alloc: Global, depth: usize, all: Delayed, at: At<'t>) -> Read<'t, Delayed>
     ensures { let part = parts.next_delayed all.valued (delayed_tree all) in
         Reads delayed_tree depth part at.entry result }
@@ -92,7 +92,7 @@ fn next_delayed<'t>(alloc: Global, depth: usize, all: Delayed, at: At<'t>) -> Re
 }
 
 // `{ "," net }`, up to the first net without a value.
-#[tactic(auto, unfolding(vh_syntax::specs::Items::more_delayed))]
+#[tactic(auto, unfolding(vh_parse_syntax::specs::Items::more_delayed))]
 fn more_delayed<'t>(alloc: Global, depth: usize, first: Delayed, at: At<'t>) -> Read<'t, Delayed>
     ensures { Reads delayed_tree depth (parts.more_delayed (delayed_tree first)) at.entry result }
 {
@@ -122,7 +122,7 @@ fn delayed_row<'t>(alloc: Global, depth: usize, at: At<'t>) -> Read<'t, Delayed>
 }
 
 // The same: what is behind a net without a value shows a declaration that is left out.
-#[tactic(auto, unfolding(vh_syntax::specs::Items::delayed_nets))]
+#[tactic(auto, unfolding(vh_parse_syntax::specs::Items::delayed_nets))]
 fn delayed_nets<'t>(alloc: Global, depth: usize, at: At<'t>) -> Read<'t, Delayed>
     ensures { Reads delayed_tree depth parts.delayed_nets at.entry result }
 {
@@ -146,7 +146,7 @@ fn behind_delay<'t>(
 }
 
 // `[ delay ] net { "," net }`
-#[tactic(auto, unfolding(vh_syntax::specs::Items::all_nets))]
+#[tactic(auto, unfolding(vh_parse_syntax::specs::Items::all_nets))]
 pub(crate) fn all_nets<'t>(
     alloc: Global,
     depth: usize,

@@ -1,13 +1,13 @@
 //! Names with their values, and parameters of a module's header.
 
 ghost use Rattle.std.specs.Prelude.{Bool, true, map};
-ghost use Rattle.vh_grammar.specs.Part.{act, two};
+ghost use Rattle.vh_parse_grammar.specs.Part.{act, two};
 ghost use Rattle.vh_ast.specs.Declarations as trees;
 ghost use Rattle.vh_ast.specs.Views.{assigned_tree, par_tree};
-ghost use Rattle.vh_syntax.specs.Declarations as declared;
-ghost use Rattle.vh_syntax.specs.DeclarationConditions.{assigned_advances};
-ghost use Rattle.vh_syntax.specs.Items as parts;
-ghost use Rattle.vh_syntax.specs.Parts.{in_parens, comma_list};
+ghost use Rattle.vh_parse_syntax.specs.Declarations as declared;
+ghost use Rattle.vh_parse_syntax.specs.DeclarationConditions.{assigned_advances};
+ghost use Rattle.vh_parse_syntax.specs.Items as parts;
+ghost use Rattle.vh_parse_syntax.specs.Parts.{in_parens, comma_list};
 ghost use Rattle.vh_parse_expr.specs.Views.{Reads};
 ghost use Rattle.vh_parse_parts.specs.Pieces.{written_par};
 ghost use Rattle.vh_parse_parts.specs.Conditions.{par_advances};
@@ -18,10 +18,10 @@ use std::alloc::Global;
 use vh_ast::{Assigned, Par};
 use vh_parse_decl::{Listed, behind, list};
 use vh_parse_expr::{At, Read, id, sign, then_sign};
-use vh_syntax::{Class, Sign};
+use vh_parse_syntax::{Class, Sign};
 
 /// `ID "=" expr` (IEEE 1364-2005, A.2.4)
-#[tactic(auto, unfolding(vh_syntax::specs::Declarations::assigned))]
+#[tactic(auto, unfolding(vh_parse_syntax::specs::Declarations::assigned))]
 pub fn assigned<'t>(alloc: Global, depth: usize, at: At<'t>) -> Read<'t, Assigned>
     ensures { Reads assigned_tree depth declared.assigned at.entry result }
 {
@@ -66,7 +66,7 @@ fn written_par<'t>(alloc: Global, depth: usize, at: At<'t>) -> Read<'t, Par>
 }
 
 // `par`
-#[tactic(auto, unfolding(vh_syntax::specs::Items::par))]
+#[tactic(auto, unfolding(vh_parse_syntax::specs::Items::par))]
 fn par<'t>(alloc: Global, depth: usize, at: At<'t>) -> Read<'t, Par>
     ensures { Reads par_tree depth parts.par at.entry result }
 {
@@ -113,7 +113,7 @@ fn pars_in_parens<'t>(alloc: Global, depth: usize, at: At<'t>) -> Read<'t, Items
 }
 
 /// `[ "#" "(" par { "," par } ")" ]` (IEEE 1364-2005, A.1.3)
-#[tactic(auto, unfolding(vh_syntax::specs::Items::pars))]
+#[tactic(auto, unfolding(vh_parse_syntax::specs::Items::pars))]
 pub fn pars<'t>(alloc: Global, depth: usize, at: At<'t>) -> Read<'t, Items<Par>>
     ensures { Reads (map par_tree) depth parts.pars at.entry result }
 {

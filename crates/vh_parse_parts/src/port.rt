@@ -1,12 +1,12 @@
 //! Ports of a module's header.
 
 ghost use Rattle.std.specs.Prelude.{◌≡◌};
-ghost use Rattle.vh_grammar.specs.Part.{act, bind};
+ghost use Rattle.vh_parse_grammar.specs.Part.{act, bind};
 ghost use Rattle.vh_ast.specs.Views.{pdecl_tree, ports_tree};
-ghost use Rattle.vh_syntax.specs.Items as parts;
-ghost use Rattle.vh_syntax.specs.Items.{port_bare, next_ports, with_pdecl, with_port};
-ghost use Rattle.vh_syntax.specs.Declarations.{bare_id};
-ghost use Rattle.vh_syntax.specs.Parts.{comma_list};
+ghost use Rattle.vh_parse_syntax.specs.Items as parts;
+ghost use Rattle.vh_parse_syntax.specs.Items.{port_bare, next_ports, with_pdecl, with_port};
+ghost use Rattle.vh_parse_syntax.specs.Declarations.{bare_id};
+ghost use Rattle.vh_parse_syntax.specs.Parts.{comma_list};
 ghost use Rattle.vh_parse_expr.specs.Views.{Reads};
 ghost use Rattle.vh_parse_parts.specs.Pieces.{more_ports, port_or_name};
 ghost use Rattle.vh_parse_parts.specs.Views.{header_tree};
@@ -18,7 +18,7 @@ use std::alloc::Global;
 use vh_ast::{Id, Ids, Pdecl, Port, PortType, Ports, Variable};
 use vh_parse_decl::bare_id;
 use vh_parse_expr::{At, Read};
-use vh_syntax::{Class, Rows, Sign};
+use vh_parse_syntax::{Class, Rows, Sign};
 
 // Declared ports so far, and the type of the last of them.
 #[derive(Drop)]
@@ -62,7 +62,7 @@ pub(crate) fn port_names<'t>(
 }
 
 // `pdecl`
-#[tactic(auto, unfolding(vh_syntax::specs::Items::pdecl))]
+#[tactic(auto, unfolding(vh_parse_syntax::specs::Items::pdecl))]
 fn pdecl<'t>(alloc: Global, depth: usize, at: At<'t>) -> Read<'t, Pdecl>
     ensures { Reads pdecl_tree depth parts.pdecl at.entry result }
 {
@@ -114,7 +114,7 @@ fn port_or_name<'t>(alloc: Global, depth: usize, header: Header, at: At<'t>) -> 
 }
 
 // `"," ( pdecl | ID )`
-#[tactic(auto, unfolding(vh_syntax::specs::Items::next_port))]
+#[tactic(auto, unfolding(vh_parse_syntax::specs::Items::next_port))]
 fn next_port<'t>(alloc: Global, depth: usize, header: Header, at: At<'t>) -> Read<'t, Header>
     ensures { Reads header_tree depth (parts.next_port (header_tree header)) at.entry result }
 {
@@ -137,7 +137,7 @@ fn more_ports<'t>(alloc: Global, depth: usize, first: Header, at: At<'t>) -> Rea
 }
 
 // `pdecl { "," ( pdecl | ID ) }`
-#[tactic(auto, unfolding(vh_syntax::specs::Items::next_ports))]
+#[tactic(auto, unfolding(vh_parse_syntax::specs::Items::next_ports))]
 fn declared_ports<'t>(alloc: Global, depth: usize, at: At<'t>) -> Read<'t, Boxed<Ports>>
     ensures { Reads ports_tree depth (bind parts.pdecl next_ports) at.entry result }
 {
@@ -157,7 +157,7 @@ fn declared_ports<'t>(alloc: Global, depth: usize, at: At<'t>) -> Read<'t, Boxed
 }
 
 /// `ports = ID { "," ID } | pdecl { "," ( pdecl | ID ) }` (IEEE 1364-2005, A.1.3)
-#[tactic(auto, unfolding(vh_syntax::specs::Items::ports))]
+#[tactic(auto, unfolding(vh_parse_syntax::specs::Items::ports))]
 pub fn ports<'t>(alloc: Global, depth: usize, at: At<'t>) -> Read<'t, Boxed<Ports>>
     ensures { Reads ports_tree depth parts.ports at.entry result }
 {

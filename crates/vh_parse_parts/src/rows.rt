@@ -1,13 +1,13 @@
 //! Words that each mean something, where they stand.
 
-ghost use Rattle.vh_syntax.specs.Parts;
-ghost use Rattle.vh_syntax.specs.Items.{net_rows, gate_rows, parameter_rows};
+ghost use Rattle.vh_parse_syntax.specs.Parts;
+ghost use Rattle.vh_parse_syntax.specs.Items.{net_rows, gate_rows, parameter_rows};
 ghost use Rattle.vh_parse_expr.specs.Views.{Reads};
 
 use vh_ast::{GateType, NetType, ParameterWord};
 use vh_base::Place;
 use vh_parse_expr::{At, Read, placed_row};
-use vh_syntax::tables::{GATE, NET, PARAMETER};
+use vh_parse_syntax::tables::{GATE, NET, PARAMETER};
 
 // `NET`
 pub(crate) fn net_type<'t>(at: At<'t>) -> Read<'t, (Place, NetType)>

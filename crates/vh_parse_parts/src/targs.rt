@@ -1,13 +1,13 @@
 //! Arguments of tasks and functions, and what is declared in these.
 
 ghost use Rattle.std.specs.Prelude.{◌≡◌, [], ◌∷◌, map, MatchResult};
-ghost use Rattle.vh_grammar.specs.declared.stop.Stop.TheVariants.{Memory};
-ghost use Rattle.vh_grammar.specs.Part.{act};
+ghost use Rattle.vh_parse_grammar.specs.declared.stop.Stop.TheVariants.{Memory};
+ghost use Rattle.vh_parse_grammar.specs.Part.{act};
 ghost use Rattle.vh_ast.specs.Views.{targ_tree, local_tree};
-ghost use Rattle.vh_syntax.specs.Parts.{comma_list, in_parens, ended};
-ghost use Rattle.vh_syntax.specs.Declarations.{bare_id};
-ghost use Rattle.vh_syntax.specs.Items as parts;
-ghost use Rattle.vh_syntax.specs.Items.{targ_bare, with_targ, with_id};
+ghost use Rattle.vh_parse_syntax.specs.Parts.{comma_list, in_parens, ended};
+ghost use Rattle.vh_parse_syntax.specs.Declarations.{bare_id};
+ghost use Rattle.vh_parse_syntax.specs.Items as parts;
+ghost use Rattle.vh_parse_syntax.specs.Items.{targ_bare, with_targ, with_id};
 ghost use Rattle.vh_parse_expr.specs.Views.{Reads};
 ghost use Rattle.vh_parse_parts.specs.Pieces.{more_targs, locals};
 ghost use Rattle.vh_parse_parts.specs.Views.{head_tree, argument_tree, targs_tree};
@@ -17,10 +17,10 @@ use crate::ids::bare_ids;
 use sqlite_items::Items;
 use std::alloc::Global;
 use vh_ast::{Id, Ids, Local, Targ, Variable, only};
-use vh_grammar::Stop;
 use vh_parse_decl::{bare_id, declaration};
 use vh_parse_expr::{At, Read, then_sign};
-use vh_syntax::{Class, Group, Rows, Sign};
+use vh_parse_grammar::Stop;
+use vh_parse_syntax::{Class, Group, Rows, Sign};
 
 // An argument that may go on.
 #[derive(Drop)]
@@ -82,7 +82,7 @@ fn targ_of(head: TargHead, ids: Ids) -> Targ
 }
 
 // `targ`
-#[tactic(auto, unfolding(vh_syntax::specs::Items::targ, vh_syntax::specs::Items::targ_ids))]
+#[tactic(auto, unfolding(vh_parse_syntax::specs::Items::targ, vh_parse_syntax::specs::Items::targ_ids))]
 fn targ<'t>(alloc: Global, depth: usize, at: At<'t>) -> Read<'t, Targ>
     ensures { Reads targ_tree depth parts.targ at.entry result }
 {
@@ -99,7 +99,7 @@ fn one_id(alloc: Global, id: Id) -> Result<Ids, Stop>
 }
 
 // `targ`, up to its first `ID`.
-#[tactic(auto, unfolding(vh_syntax::specs::Items::targ_one, vh_syntax::specs::Items::targ_id))]
+#[tactic(auto, unfolding(vh_parse_syntax::specs::Items::targ_one, vh_parse_syntax::specs::Items::targ_id))]
 fn targ_one<'t>(alloc: Global, depth: usize, at: At<'t>) -> Read<'t, Argument>
     ensures { Reads argument_tree depth parts.targ_one at.entry result }
 {
@@ -133,7 +133,7 @@ fn next_name<'t>(all: Arguments, at: At<'t>) -> Read<'t, Arguments>
 }
 
 // `"," ( targ | ID )`
-#[tactic(auto, unfolding(vh_syntax::specs::Items::next_targ))]
+#[tactic(auto, unfolding(vh_parse_syntax::specs::Items::next_targ))]
 fn next_targ<'t>(alloc: Global, depth: usize, all: Arguments, at: At<'t>) -> Read<'t, Arguments>
     ensures { Reads targs_tree depth (parts.next_targ (targs_tree all)) at.entry result }
 {
@@ -159,7 +159,7 @@ fn more_targs<'t>(alloc: Global, depth: usize, first: Arguments, at: At<'t>) -> 
 }
 
 // `targs`
-#[tactic(auto, unfolding(vh_syntax::specs::Items::targs, vh_syntax::specs::Items::next_targs))]
+#[tactic(auto, unfolding(vh_parse_syntax::specs::Items::targs, vh_parse_syntax::specs::Items::next_targs))]
 fn targs<'t>(alloc: Global, depth: usize, at: At<'t>) -> Read<'t, Items<Targ>>
     ensures { Reads (map targ_tree) depth parts.targs at.entry result }
 {
@@ -201,7 +201,7 @@ fn ended_targ<'t>(alloc: Global, depth: usize, at: At<'t>) -> Read<'t, Targ>
 }
 
 // `targ ";" | decl`
-#[tactic(auto, unfolding(vh_syntax::specs::Items::local))]
+#[tactic(auto, unfolding(vh_parse_syntax::specs::Items::local))]
 fn local<'t>(alloc: Global, depth: usize, at: At<'t>) -> Read<'t, Local>
     ensures { Reads local_tree depth parts.local at.entry result }
 {

@@ -1,20 +1,20 @@
 -- A turn of each loop of the parser.
 use Rattle.std.proofs.Common.{◌≡◌, ℕ, ◌<◌, Bool, true, false, List, [], ◌∷◌, ◌++◌, length, refl}
-use Rattle.vh_grammar.specs.Conditions.{eats, Advances}
-use Rattle.vh_grammar.specs.Reading.{got, next_is}
-use Rattle.vh_grammar.specs.Marking.{marks, joined_marks}
-use Rattle.vh_grammar.proofs.MarkTurns.{marks_less, joined_marks_turn}
+use Rattle.vh_parse_grammar.specs.Conditions.{eats, Advances}
+use Rattle.vh_parse_grammar.specs.Reading.{got, next_is}
+use Rattle.vh_parse_grammar.specs.Marking.{marks, joined_marks}
+use Rattle.vh_parse_grammar.proofs.MarkTurns.{marks_less, joined_marks_turn}
 use Rattle.vh_ast.specs.Declarations.{DeclTree}
 use Rattle.vh_ast.specs.Statements.{StmtTree, CitemTree}
-use Rattle.vh_syntax.specs.Tokens.{Token, is_any, is_unused}
-use Rattle.vh_syntax.specs.Names.{path}
-use Rattle.vh_syntax.specs.Expressions.{by_name, by_system, parens, braces, prim, unary_operand, any_operand, expression}
-use Rattle.vh_syntax.specs.Declarations.{decl_signs, reg_decl, integer_decl, time_decl, decl}
-use Rattle.vh_syntax.specs.Statements.{begins_statement, inner_stmt, stmts, begins_citem, default_item, values_item, citem}
-use Rattle.vh_syntax.specs.Grammar.{grammar}
-use Rattle.vh_syntax.specs.ExpressionConditions.{expression_advances}
-use Rattle.vh_syntax.specs.DeclarationConditions.{decl_advances}
-use Rattle.vh_syntax.specs.Table.{eating, advancing}
+use Rattle.vh_parse_syntax.specs.Tokens.{Token, is_any, is_unused}
+use Rattle.vh_parse_syntax.specs.Names.{path}
+use Rattle.vh_parse_syntax.specs.Expressions.{by_name, by_system, parens, braces, prim, unary_operand, any_operand, expression}
+use Rattle.vh_parse_syntax.specs.Declarations.{decl_signs, reg_decl, integer_decl, time_decl, decl}
+use Rattle.vh_parse_syntax.specs.Statements.{begins_statement, inner_stmt, stmts, begins_citem, default_item, values_item, citem}
+use Rattle.vh_parse_syntax.specs.Grammar.{grammar}
+use Rattle.vh_parse_syntax.specs.ExpressionConditions.{expression_advances}
+use Rattle.vh_parse_syntax.specs.DeclarationConditions.{decl_advances}
+use Rattle.vh_parse_syntax.specs.Table.{eating, advancing}
 use Rattle.vh_parse_stmt.specs.Pieces.{decls, more_citems}
 
 -- declarations go on by one

@@ -1,15 +1,15 @@
 -- Parts that are read alike.
 use Rattle.std.proofs.Common.{◌≡◌, ℕ, Bool, true, List, ◌∷◌, refl}
-use Rattle.vh_grammar.specs.Part.{seq, act, two, after, before}
-use Rattle.vh_grammar.specs.Reading.{Out, got, stop}
-use Rattle.vh_grammar.specs.Marking.{marks}
+use Rattle.vh_parse_grammar.specs.Part.{seq, act, two, after, before}
+use Rattle.vh_parse_grammar.specs.Reading.{Out, got, stop}
+use Rattle.vh_parse_grammar.specs.Marking.{marks}
 use Rattle.vh_ast.specs.Statements.{CitemTree}
-use Rattle.vh_syntax.specs.declared.sign.Sign.TheVariants as sign
-use Rattle.vh_syntax.specs.Tokens.{Token, is_unused}
-use Rattle.vh_syntax.specs.Parts.{G, the, placed_row, comma_more, in_parens}
-use Rattle.vh_syntax.specs.Expressions.{expression}
-use Rattle.vh_syntax.specs.Statements.{case_rows, inner_stmt, citem, citems, case_stmt, values_item}
-use Rattle.vh_syntax.specs.Grammar.{grammar}
+use Rattle.vh_parse_syntax.specs.declared.sign.Sign.TheVariants as sign
+use Rattle.vh_parse_syntax.specs.Tokens.{Token, is_unused}
+use Rattle.vh_parse_syntax.specs.Parts.{G, the, placed_row, comma_more, in_parens}
+use Rattle.vh_parse_syntax.specs.Expressions.{expression}
+use Rattle.vh_parse_syntax.specs.Statements.{case_rows, inner_stmt, citem, citems, case_stmt, values_item}
+use Rattle.vh_parse_syntax.specs.Grammar.{grammar}
 use Rattle.vh_parse_stmt.specs.Pieces.{values_of, item_by, values_item_part, more_citems, case_by, case_part}
 
 -- What the first of two parts is made into may as well be done where both are

@@ -1,17 +1,17 @@
 -- What is answered for the tokens of a statement.
 use Rattle.std.specs.Prelude.{◌≡◌, ℕ, Bool, List, length, map, Result, Ok, Err}
 use Rattle.vh_base.specs.declared.place.Place.{Place}
-use Rattle.vh_grammar.specs.declared.stop.Stop.{Stop}
-use Rattle.vh_grammar.specs.Reading.{Out, got}
-use Rattle.vh_grammar.specs.Marking.{marks, answered}
-use Rattle.vh_grammar.specs.Says.{Stops}
+use Rattle.vh_parse_grammar.specs.declared.stop.Stop.{Stop}
+use Rattle.vh_parse_grammar.specs.Reading.{Out, got}
+use Rattle.vh_parse_grammar.specs.Marking.{marks, answered}
+use Rattle.vh_parse_grammar.specs.Says.{Stops}
 use Rattle.vh_ast.specs.declared.stmt.Stmt.{Stmt}
 use Rattle.vh_ast.specs.Statements.{StmtTree}
 use Rattle.vh_ast.specs.Views.{stmt_tree}
 use Rattle.vh_lex.specs.declared.token.Token as lexed
-use Rattle.vh_syntax.specs.Tokens.{Token, token_seen, is_unused}
-use Rattle.vh_syntax.specs.Grammar.{grammar}
-use Rattle.vh_syntax.specs.Statements.{inner_stmt}
+use Rattle.vh_parse_syntax.specs.Tokens.{Token, token_seen, is_unused}
+use Rattle.vh_parse_syntax.specs.Grammar.{grammar}
+use Rattle.vh_parse_syntax.specs.Statements.{inner_stmt}
 use Rattle.vh_parse_expr.specs.declared.fault.ParseFault.{ParseFault}
 use Rattle.vh_parse_expr.specs.declared.fault.ParseFault.TheVariants as faults
 use Rattle.vh_parse_expr.specs.Answers.{placed}

@@ -1,8 +1,8 @@
 -- The conditions of what stands in lists: each turn of a repetition in it takes a token.
 use Rattle.std.specs.Prelude.{Bool}
-use Rattle.vh_grammar.specs.Conditions.{Advances}
-use Rattle.vh_syntax.specs.Statements.{slot}
-use Rattle.vh_syntax.specs.ExpressionConditions.{expression_advances}
+use Rattle.vh_parse_grammar.specs.Conditions.{Advances}
+use Rattle.vh_parse_syntax.specs.Statements.{slot}
+use Rattle.vh_parse_syntax.specs.ExpressionConditions.{expression_advances}
 
 -- An argument of a system task (own).
 pub slot_advances : (calls : Bool) → Advances (slot calls)

@@ -1,7 +1,7 @@
 -- Parts of the table that have no name there, for the functions that read them.
 use Rattle.std.specs.Prelude.{Bool, true, not, ◌&&◌, List, [], ◌∷◌, Option}
 use Rattle.vh_base.specs.declared.place.Place.{Place}
-use Rattle.vh_grammar.specs.Part.{seq, act, alt, rep, unless, barred, only, opt, two, after, before, listed}
+use Rattle.vh_parse_grammar.specs.Part.{seq, act, alt, rep, unless, barred, only, opt, two, after, before, listed}
 use Rattle.vh_ast.specs.declared.token.Id.{Id}
 use Rattle.vh_ast.specs.declared.stmt.AssignWord.{AssignWord}
 use Rattle.vh_ast.specs.declared.stmt.CaseWord.{CaseWord}
@@ -10,14 +10,14 @@ use Rattle.vh_ast.specs.Expressions.{ExprTree, place_of}
 use Rattle.vh_ast.specs.Declarations.{DeclTree}
 use Rattle.vh_ast.specs.Statements.{DelayTree, StmtTree, CitemTree, values}
 use Rattle.vh_ast.specs.Statements as S
-use Rattle.vh_syntax.specs.declared.sign.Sign.{Sign}
-use Rattle.vh_syntax.specs.declared.sign.Sign.TheVariants as sign
-use Rattle.vh_syntax.specs.Tokens.{is, is_any, in_rows}
-use Rattle.vh_syntax.specs.Parts.{G, the, at_the, an_id, row_in, placed_row, comma_list, comma_more, in_parens, ended}
-use Rattle.vh_syntax.specs.Names.{Path, is_closed, path}
-use Rattle.vh_syntax.specs.Expressions.{expression}
-use Rattle.vh_syntax.specs.Declarations.{decl, decl_signs}
-use Rattle.vh_syntax.specs.Statements.{assign_rows, case_rows, loop_rows, force_rows, release_rows, inner_stmt, shows_delay, shows_task, citem, begins_citem, citems, for_stmt, loop_stmt, forever_stmt, label, stmts, block_of, begin_stmt, fork_stmt, trigger_stmt, disable_stmt, force_stmt, release_stmt, all_of, slot, begins_slots, system_stmt}
+use Rattle.vh_parse_syntax.specs.declared.sign.Sign.{Sign}
+use Rattle.vh_parse_syntax.specs.declared.sign.Sign.TheVariants as sign
+use Rattle.vh_parse_syntax.specs.Tokens.{is, is_any, in_rows}
+use Rattle.vh_parse_syntax.specs.Parts.{G, the, at_the, an_id, row_in, placed_row, comma_list, comma_more, in_parens, ended}
+use Rattle.vh_parse_syntax.specs.Names.{Path, is_closed, path}
+use Rattle.vh_parse_syntax.specs.Expressions.{expression}
+use Rattle.vh_parse_syntax.specs.Declarations.{decl, decl_signs}
+use Rattle.vh_parse_syntax.specs.Statements.{assign_rows, case_rows, loop_rows, force_rows, release_rows, inner_stmt, shows_delay, shows_task, citem, begins_citem, citems, for_stmt, loop_stmt, forever_stmt, label, stmts, block_of, begin_stmt, fork_stmt, trigger_stmt, disable_stmt, force_stmt, release_stmt, all_of, slot, begins_slots, system_stmt}
 use Rattle.vh_parse_decl.specs.Pieces.{delay_behind}
 
 -- The sign of an assignment, and what stands behind it (IEEE 1364-2005, A.6.2).

@@ -1,12 +1,12 @@
 //! What stands in front of the statement inside another one.
 
 ghost use Rattle.std.specs.Prelude.{Bool, Option, option_map, map};
-ghost use Rattle.vh_grammar.specs.Marking.{joined_marks};
-ghost use Rattle.vh_grammar.specs.Says.{Says};
+ghost use Rattle.vh_parse_grammar.specs.Marking.{joined_marks};
+ghost use Rattle.vh_parse_grammar.specs.Says.{Says};
 ghost use Rattle.vh_ast.specs.Views.{decl_tree, event_tree};
-ghost use Rattle.vh_syntax.specs.Parts.{in_parens};
-ghost use Rattle.vh_syntax.specs.Statements as parts;
-ghost use Rattle.vh_syntax.specs.Statements.{for_head, label};
+ghost use Rattle.vh_parse_syntax.specs.Parts.{in_parens};
+ghost use Rattle.vh_parse_syntax.specs.Statements as parts;
+ghost use Rattle.vh_parse_syntax.specs.Statements.{for_head, label};
 ghost use Rattle.vh_parse_expr.specs.Views.{Reads};
 ghost use Rattle.vh_parse_stmt.specs.Pieces.{decls, named_decls, values_part};
 ghost use Rattle.vh_parse_stmt.specs.Views.{head_tree, label_tree, values_tree};
@@ -17,14 +17,14 @@ use vh_ast::{Decl, Event, Expr, Id, Set, only};
 use vh_base::Place;
 use vh_parse_decl::{Exprs, declaration, event, further, set};
 use vh_parse_expr::{At, Read, expression, id, then_sign};
-use vh_syntax::{Class, Group, Sign};
+use vh_parse_syntax::{Class, Group, Sign};
 
 // What stands in the brackets of a `for`.
 #[derive(Drop)]
 pub(crate) struct ForHead {
-    pub start: Set,
-    pub test: Expr,
-    pub step: Set,
+    pub start: Boxed<Set>,
+    pub test: Boxed<Expr>,
+    pub step: Boxed<Set>,
 }
 
 // The name of a block, with what is declared in it.
@@ -50,15 +50,18 @@ pub(crate) fn boxed_event<'t>(alloc: Global, depth: usize, at: At<'t>) -> Read<'
 }
 
 // `lv "=" expr ";" expr ";" lv "=" expr`
-#[tactic(auto, unfolding(vh_syntax::specs::Statements::for_head))]
+#[tactic(auto, unfolding(vh_parse_syntax::specs::Statements::for_head))]
 fn turns<'t>(alloc: Global, depth: usize, at: At<'t>) -> Read<'t, ForHead>
     ensures { Reads head_tree depth for_head at.entry result }
 {
     let (start, more) = set(alloc, depth, true, at)?;
     let (start, more) = then_sign(start, Sign::Semicolon, more)?;
+    let start = Boxed::new(alloc, start)?;
     let (test, more) = expression(alloc, depth, true, more)?;
     let (test, more) = then_sign(test, Sign::Semicolon, more)?;
+    let test = Boxed::new(alloc, test)?;
     let (step, rest) = set(alloc, depth, true, more)?;
+    let step = Boxed::new(alloc, step)?;
     Ok((ForHead { start, test, step }, rest))
 }
 
@@ -101,7 +104,7 @@ fn named_decls<'t>(alloc: Global, depth: usize, at: At<'t>) -> Read<'t, Label>
 }
 
 // `[ ":" ID { decl } ]`
-#[tactic(auto, unfolding(vh_syntax::specs::Statements::label))]
+#[tactic(auto, unfolding(vh_parse_syntax::specs::Statements::label))]
 pub(crate) fn written_label<'t>(
     alloc: Global,
     depth: usize,

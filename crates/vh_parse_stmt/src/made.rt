@@ -2,10 +2,10 @@
 //! little is held where it stops.
 
 ghost use Rattle.std.specs.Prelude.{◌≡◌, ◌++◌, [], ◌∷◌, Option, option_map, map, MatchResult};
-ghost use Rattle.vh_grammar.specs.declared.stop.Stop.TheVariants.{Memory};
+ghost use Rattle.vh_parse_grammar.specs.declared.stop.Stop.TheVariants.{Memory};
 ghost use Rattle.vh_ast.specs.Statements as trees;
 ghost use Rattle.vh_ast.specs.Views.{expr_tree, delay_tree, event_tree, lv_tree, set_tree, simple_tree, stmt_tree, citem_tree};
-ghost use Rattle.vh_syntax.specs.Statements as parts;
+ghost use Rattle.vh_parse_syntax.specs.Statements as parts;
 ghost use Rattle.vh_parse_expr.specs.Views.{exprs_seen, path_tree};
 ghost use Rattle.vh_parse_stmt.specs.Views.{head_tree, label_tree, values_tree, stmts_seen, citems_seen};
 ghost use Rattle.vh_parse_stmt.specs.Pieces.{case_by, item_by};
@@ -18,8 +18,8 @@ use vh_ast::{
     Set, Simple, Stmt, StmtForm,
 };
 use vh_base::Place;
-use vh_grammar::Stop;
 use vh_parse_expr::Path;
+use vh_parse_grammar::Stop;
 
 // A statement in which none stands.
 pub(crate) fn simple(alloc: Global, place: Place, form: Simple) -> Result<Boxed<Stmt>, Stop>
@@ -231,9 +231,9 @@ pub(crate) fn for_loop(
 {
     let ForHead { start, test, step } = head.into_inner();
     let form = StmtForm::For {
-        start: Boxed::new(alloc, start)?,
-        test: Boxed::new(alloc, test)?,
-        step: Boxed::new(alloc, step)?,
+        start,
+        test,
+        step,
         body,
     };
     Ok(Boxed::new(alloc, Stmt { place, form })?)

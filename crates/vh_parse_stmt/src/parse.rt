@@ -1,7 +1,7 @@
 //! A statement of the lexer's tokens.
 
 ghost use Rattle.std.specs.Prelude.{◌-◌, ◌≤◌, map};
-ghost use Rattle.vh_syntax.specs.Tokens.{token_seen};
+ghost use Rattle.vh_parse_syntax.specs.Tokens.{token_seen};
 ghost use Rattle.vh_parse_expr.specs.Views.{tokens_seen};
 ghost use Rattle.vh_parse_stmt.specs.Answers.{statement_answer, Answered, IsParsed};
 
@@ -10,9 +10,9 @@ use sqlite_items::Boxed;
 use std::alloc::Global;
 use vh_ast::Stmt;
 use vh_base::Place;
-use vh_grammar::{Cursor, Stop};
 use vh_lex::Token;
 use vh_parse_expr::{MOST_LEVELS, ParseFault, fault_at};
+use vh_parse_grammar::{Cursor, Stop};
 
 // A statement of a front of the tokens, unless a construct is left out in it; and how many tokens are
 // left.

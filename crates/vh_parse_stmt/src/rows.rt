@@ -1,14 +1,14 @@
 //! Signs that each mean something, where they stand.
 
-ghost use Rattle.vh_syntax.specs.Parts;
-ghost use Rattle.vh_syntax.specs.Statements.{assign_rows, case_rows, loop_rows, force_rows, release_rows};
+ghost use Rattle.vh_parse_syntax.specs.Parts;
+ghost use Rattle.vh_parse_syntax.specs.Statements.{assign_rows, case_rows, loop_rows, force_rows, release_rows};
 ghost use Rattle.vh_parse_expr.specs.Views.{Reads};
 
 use vh_ast::{AssignWord, CaseWord, ForceWord, LoopWord, ReleaseWord};
 use vh_base::Place;
 use vh_parse_expr::{At, Read, placed_row};
-use vh_syntax::Word;
-use vh_syntax::tables::{ASSIGN, CASE, FORCE, LOOP, RELEASE};
+use vh_parse_syntax::Word;
+use vh_parse_syntax::tables::{ASSIGN, CASE, FORCE, LOOP, RELEASE};
 
 // `"=" | "<="`
 pub(crate) fn assign_word<'t>(at: At<'t>) -> Read<'t, AssignWord>

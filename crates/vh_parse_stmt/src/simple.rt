@@ -1,12 +1,14 @@
 //! Statements in which none stands.
 
-ghost use Rattle.std.specs.Prelude.{◌≡◌, option_map};
-ghost use Rattle.vh_grammar.specs.Reading.{next_is};
-ghost use Rattle.vh_grammar.specs.Marking.{mark_at};
+ghost use Rattle.std.specs.Prelude.{◌≡◌, option_map, IfOk};
+ghost use Rattle.vh_parse_grammar.specs.Reading.{next_is};
+ghost use Rattle.vh_parse_grammar.specs.Marking.{mark_at};
+ghost use Rattle.vh_parse_grammar.specs.Says.{Says};
 ghost use Rattle.vh_ast.specs.Views.{delay_tree, lv_tree, stmt_tree};
-ghost use Rattle.vh_syntax.specs.Names as names;
-ghost use Rattle.vh_syntax.specs.Statements as parts;
-ghost use Rattle.vh_parse_expr.specs.Views.{Reads, tokens_seen, path_tree, exprs_seen};
+ghost use Rattle.vh_parse_syntax.specs.Tokens.{token_seen};
+ghost use Rattle.vh_parse_syntax.specs.Names as names;
+ghost use Rattle.vh_parse_syntax.specs.Statements as parts;
+ghost use Rattle.vh_parse_expr.specs.Views.{Reads, read_from, tokens_seen, path_tree, exprs_seen};
 ghost use Rattle.vh_parse_stmt.specs.Pieces.{sign_of_assignment, assigned_part, written_arguments, barred_name, last_branches};
 ghost use Rattle.vh_parse_stmt.specs.Views.{value_pair};
 
@@ -18,7 +20,7 @@ use std::alloc::Global;
 use vh_ast::{AssignWord, Delay, Expr, Lv, Simple, Stmt};
 use vh_parse_decl::{ended, list_in_parens, set, written_delay};
 use vh_parse_expr::{At, Path, Read, Standing, braced, path, sign, single, target, then_sign};
-use vh_syntax::{Class, Group, Rows, Sign};
+use vh_parse_syntax::{Class, Group, Rows, Sign};
 
 // `( "=" | "<=" )`: a nonblocking one is left out in a function.
 fn assignment_sign<'t>(inside: bool, at: At<'t>) -> Read<'t, AssignWord>
@@ -53,7 +55,7 @@ fn assigned<'t>(
 }
 
 // `( "=" | "<=" ) [ delay ] expr ";"`, behind a target.
-#[tactic(auto, unfolding(vh_syntax::specs::Statements::assignment))]
+#[tactic(auto, unfolding(vh_parse_syntax::specs::Statements::assignment))]
 fn assignment<'t>(
     alloc: Global,
     depth: usize,
@@ -79,18 +81,34 @@ fn arguments<'t>(alloc: Global, depth: usize, at: At<'t>) -> Read<'t, Option<Ite
     Ok((Some(all), rest))
 }
 
+// What was read, and `[ "(" expr { "," expr } ")" ]` behind it. What is held is let go in this one
+// function where there are no such arguments, whatever it is.
+fn then_arguments<'t, T: Drop>(
+    alloc: Global,
+    depth: usize,
+    tree: T,
+    at: At<'t>,
+) -> Read<'t, (T, Option<Items<Expr>>)>
+    ensures tree { IfOk result (λ read. read.0.0 ≡ tree) }
+    ensures arguments { let read = read_from depth written_arguments at.entry in
+        Says token_seen (λ pair. option_map exprs_seen pair.1) read result }
+{
+    let (arguments, rest) = arguments(alloc, depth, at)?;
+    Ok(((tree, arguments), rest))
+}
+
 // `[ "(" expr { "," expr } ")" ] ";"`, behind a name.
-#[tactic(auto, unfolding(vh_syntax::specs::Statements::task_call))]
+#[tactic(auto, unfolding(vh_parse_syntax::specs::Statements::task_call))]
 fn task_call<'t>(alloc: Global, depth: usize, path: Path, at: At<'t>) -> Read<'t, Boxed<Stmt>>
     ensures { Reads stmt_tree depth (parts.task_call (path_tree path)) at.entry result }
 {
-    let (arguments, more) = arguments(alloc, depth, at)?;
-    let (arguments, rest) = then_sign(arguments, Sign::Semicolon, more)?;
+    let (both, more) = then_arguments(alloc, depth, path, at)?;
+    let ((path, arguments), rest) = then_sign(both, Sign::Semicolon, more)?;
     Ok((made::task_call(alloc, path, arguments)?, rest))
 }
 
 // What follows a name with which a statement begins.
-#[tactic(auto, unfolding(vh_syntax::specs::Statements::name_stmt))]
+#[tactic(auto, unfolding(vh_parse_syntax::specs::Statements::name_stmt))]
 fn name_stmt<'t>(
     alloc: Global,
     depth: usize,
@@ -119,7 +137,7 @@ fn first_name<'t>(alloc: Global, depth: usize, inside: bool, at: At<'t>) -> Read
 }
 
 // `lv ( "=" | "<=" ) .. | name [ "(" .. ")" ] ";"`, where a name is first.
-#[tactic(auto, unfolding(vh_syntax::specs::Statements::by_name_stmt))]
+#[tactic(auto, unfolding(vh_parse_syntax::specs::Statements::by_name_stmt))]
 pub(crate) fn by_name<'t>(
     alloc: Global,
     depth: usize,
@@ -133,7 +151,7 @@ pub(crate) fn by_name<'t>(
 }
 
 // `lv ( "=" | "<=" ) ..`, where a brace is first.
-#[tactic(auto, unfolding(vh_syntax::specs::Statements::by_brace_stmt))]
+#[tactic(auto, unfolding(vh_parse_syntax::specs::Statements::by_brace_stmt))]
 pub(crate) fn by_brace<'t>(
     alloc: Global,
     depth: usize,
@@ -147,7 +165,7 @@ pub(crate) fn by_brace<'t>(
 }
 
 // `";"`
-#[tactic(auto, unfolding(vh_syntax::specs::Statements::empty_stmt))]
+#[tactic(auto, unfolding(vh_parse_syntax::specs::Statements::empty_stmt))]
 pub(crate) fn empty<'t>(alloc: Global, depth: usize, at: At<'t>) -> Read<'t, Boxed<Stmt>>
     ensures { Reads stmt_tree depth parts.empty_stmt at.entry result }
 {
@@ -156,7 +174,7 @@ pub(crate) fn empty<'t>(alloc: Global, depth: usize, at: At<'t>) -> Read<'t, Box
 }
 
 // `"->" name ";"`
-#[tactic(auto, unfolding(vh_syntax::specs::Statements::trigger_stmt))]
+#[tactic(auto, unfolding(vh_parse_syntax::specs::Statements::trigger_stmt))]
 fn trigger<'t>(alloc: Global, depth: usize, at: At<'t>) -> Read<'t, Boxed<Stmt>>
     ensures { Reads stmt_tree depth parts.trigger_stmt at.entry result }
 {
@@ -168,7 +186,7 @@ fn trigger<'t>(alloc: Global, depth: usize, at: At<'t>) -> Read<'t, Boxed<Stmt>>
 }
 
 // `"disable" name ";"`
-#[tactic(auto, unfolding(vh_syntax::specs::Statements::disable_stmt))]
+#[tactic(auto, unfolding(vh_parse_syntax::specs::Statements::disable_stmt))]
 fn disable<'t>(alloc: Global, depth: usize, at: At<'t>) -> Read<'t, Boxed<Stmt>>
     ensures { Reads stmt_tree depth parts.disable_stmt at.entry result }
 {
@@ -180,7 +198,7 @@ fn disable<'t>(alloc: Global, depth: usize, at: At<'t>) -> Read<'t, Boxed<Stmt>>
 }
 
 // `( "force" | "assign" ) lv "=" expr ";"`
-#[tactic(auto, unfolding(vh_syntax::specs::Statements::force_stmt))]
+#[tactic(auto, unfolding(vh_parse_syntax::specs::Statements::force_stmt))]
 fn force<'t>(alloc: Global, depth: usize, at: At<'t>) -> Read<'t, Boxed<Stmt>>
     ensures { Reads stmt_tree depth parts.force_stmt at.entry result }
 {
@@ -191,7 +209,7 @@ fn force<'t>(alloc: Global, depth: usize, at: At<'t>) -> Read<'t, Boxed<Stmt>>
 }
 
 // `( "release" | "deassign" ) lv ";"`
-#[tactic(auto, unfolding(vh_syntax::specs::Statements::release_stmt))]
+#[tactic(auto, unfolding(vh_parse_syntax::specs::Statements::release_stmt))]
 fn release<'t>(alloc: Global, depth: usize, at: At<'t>) -> Read<'t, Boxed<Stmt>>
     ensures { Reads stmt_tree depth parts.release_stmt at.entry result }
 {

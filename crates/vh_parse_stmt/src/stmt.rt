@@ -2,13 +2,13 @@
 //! deeper where the grammar nests them; blocks and cases are loops.
 
 ghost use Rattle.std.specs.Prelude.{◌≡◌, Bool, Option, option_map};
-ghost use Rattle.vh_grammar.specs.Reading.{next_is};
-ghost use Rattle.vh_grammar.specs.Marking.{mark_at, joined_marks};
-ghost use Rattle.vh_grammar.specs.Says.{Says};
+ghost use Rattle.vh_parse_grammar.specs.Reading.{next_is};
+ghost use Rattle.vh_parse_grammar.specs.Marking.{mark_at, joined_marks};
+ghost use Rattle.vh_parse_grammar.specs.Says.{Says};
 ghost use Rattle.vh_ast.specs.Views.{stmt_tree, citem_tree};
-ghost use Rattle.vh_syntax.specs.Tokens.{token_seen};
-ghost use Rattle.vh_syntax.specs.Statements as parts;
-ghost use Rattle.vh_syntax.specs.Statements.{shows_timing, inner_stmt, statement};
+ghost use Rattle.vh_parse_syntax.specs.Tokens.{token_seen};
+ghost use Rattle.vh_parse_syntax.specs.Statements as parts;
+ghost use Rattle.vh_parse_syntax.specs.Statements.{shows_timing, inner_stmt, statement};
 ghost use Rattle.vh_parse_expr.specs.Views.{Reads, read_from, tokens_seen};
 ghost use Rattle.vh_parse_stmt.specs.Pieces.{control, colon_part, block_part, case_part, all_citems, more_citems, values_item_part};
 ghost use Rattle.vh_parse_stmt.specs.Views.{stmts_seen, citems_seen};
@@ -22,7 +22,7 @@ use std::alloc::Global;
 use vh_ast::{BlockWord, Citem, Stmt};
 use vh_parse_decl::{boxed_delay, in_parens};
 use vh_parse_expr::{At, Read, sign, then_sign};
-use vh_syntax::{Class, Group, Rows, Sign, Start};
+use vh_parse_syntax::{Class, Group, Rows, Sign, Start};
 
 // The cursor, where a statement may be next that is left out in a function.
 fn no_timing<'t>(inside: bool, at: At<'t>) -> At<'t>
@@ -54,7 +54,7 @@ pub fn inner_statement<'t>(
 
 // `delay stmt`
 #[cycle(statement)]
-#[tactic(auto, unfolding(vh_syntax::specs::Statements::delay_stmt))]
+#[tactic(auto, unfolding(vh_parse_syntax::specs::Statements::delay_stmt))]
 fn delay_stmt<'t>(alloc: Global, depth: usize, inside: bool, at: At<'t>) -> Read<'t, Boxed<Stmt>>
     ensures { Reads stmt_tree depth (parts.delay_stmt inside) at.entry result }
 {
@@ -65,7 +65,7 @@ fn delay_stmt<'t>(alloc: Global, depth: usize, inside: bool, at: At<'t>) -> Read
 
 // `"@" .. stmt`
 #[cycle(statement)]
-#[tactic(auto, unfolding(vh_syntax::specs::Statements::event_stmt))]
+#[tactic(auto, unfolding(vh_parse_syntax::specs::Statements::event_stmt))]
 fn event_stmt<'t>(alloc: Global, depth: usize, inside: bool, at: At<'t>) -> Read<'t, Boxed<Stmt>>
     ensures { Reads stmt_tree depth (parts.event_stmt inside) at.entry result }
 {
@@ -77,7 +77,7 @@ fn event_stmt<'t>(alloc: Global, depth: usize, inside: bool, at: At<'t>) -> Read
 
 // `"wait" "(" expr ")" stmt`
 #[cycle(statement)]
-#[tactic(auto, unfolding(vh_syntax::specs::Statements::wait_stmt))]
+#[tactic(auto, unfolding(vh_parse_syntax::specs::Statements::wait_stmt))]
 fn wait_stmt<'t>(alloc: Global, depth: usize, inside: bool, at: At<'t>) -> Read<'t, Boxed<Stmt>>
     ensures { Reads stmt_tree depth (parts.wait_stmt inside) at.entry result }
 {
@@ -89,7 +89,7 @@ fn wait_stmt<'t>(alloc: Global, depth: usize, inside: bool, at: At<'t>) -> Read<
 
 // `[ "else" stmt ]`
 #[cycle(statement)]
-#[tactic(auto, unfolding(vh_syntax::specs::Statements::otherwise))]
+#[tactic(auto, unfolding(vh_parse_syntax::specs::Statements::otherwise))]
 fn otherwise<'t>(
     alloc: Global,
     depth: usize,
@@ -108,7 +108,7 @@ fn otherwise<'t>(
 
 // `"if" "(" expr ")" stmt [ "else" stmt ]`
 #[cycle(statement)]
-#[tactic(auto, unfolding(vh_syntax::specs::Statements::if_stmt))]
+#[tactic(auto, unfolding(vh_parse_syntax::specs::Statements::if_stmt))]
 fn if_stmt<'t>(alloc: Global, depth: usize, inside: bool, at: At<'t>) -> Read<'t, Boxed<Stmt>>
     ensures { Reads stmt_tree depth (parts.if_stmt inside) at.entry result }
 {
@@ -131,7 +131,7 @@ fn written_colon<'t>(at: At<'t>) -> Read<'t, Option<()>>
 
 // `"default" [ ":" ] stmt`
 #[cycle(statement)]
-#[tactic(auto, unfolding(vh_syntax::specs::Statements::default_item))]
+#[tactic(auto, unfolding(vh_parse_syntax::specs::Statements::default_item))]
 fn default_item<'t>(
     alloc: Global,
     depth: usize,
@@ -177,7 +177,7 @@ fn values_item<'t>(
 
 // `citem`
 #[cycle(statement)]
-#[tactic(auto, unfolding(vh_syntax::specs::Statements::citem))]
+#[tactic(auto, unfolding(vh_parse_syntax::specs::Statements::citem))]
 fn citem<'t>(alloc: Global, depth: usize, inside: bool, at: At<'t>) -> Read<'t, Boxed<Citem<Stmt>>>
     ensures { Reads citem_tree depth (parts.citem inside) at.entry result }
 {
@@ -226,7 +226,7 @@ fn case_stmt<'t>(alloc: Global, depth: usize, inside: bool, at: At<'t>) -> Read<
 
 // `"for" "(" lv "=" expr ";" expr ";" lv "=" expr ")" stmt`
 #[cycle(statement)]
-#[tactic(auto, unfolding(vh_syntax::specs::Statements::for_stmt))]
+#[tactic(auto, unfolding(vh_parse_syntax::specs::Statements::for_stmt))]
 fn for_stmt<'t>(alloc: Global, depth: usize, inside: bool, at: At<'t>) -> Read<'t, Boxed<Stmt>>
     ensures { Reads stmt_tree depth (parts.for_stmt inside) at.entry result }
 {
@@ -238,7 +238,7 @@ fn for_stmt<'t>(alloc: Global, depth: usize, inside: bool, at: At<'t>) -> Read<'
 
 // `( "while" | "repeat" ) "(" expr ")" stmt`
 #[cycle(statement)]
-#[tactic(auto, unfolding(vh_syntax::specs::Statements::loop_stmt))]
+#[tactic(auto, unfolding(vh_parse_syntax::specs::Statements::loop_stmt))]
 fn loop_stmt<'t>(alloc: Global, depth: usize, inside: bool, at: At<'t>) -> Read<'t, Boxed<Stmt>>
     ensures { Reads stmt_tree depth (parts.loop_stmt inside) at.entry result }
 {
@@ -250,7 +250,7 @@ fn loop_stmt<'t>(alloc: Global, depth: usize, inside: bool, at: At<'t>) -> Read<
 
 // `"forever" stmt`
 #[cycle(statement)]
-#[tactic(auto, unfolding(vh_syntax::specs::Statements::forever_stmt))]
+#[tactic(auto, unfolding(vh_parse_syntax::specs::Statements::forever_stmt))]
 fn forever_stmt<'t>(alloc: Global, depth: usize, inside: bool, at: At<'t>) -> Read<'t, Boxed<Stmt>>
     ensures { Reads stmt_tree depth (parts.forever_stmt inside) at.entry result }
 {
@@ -261,7 +261,7 @@ fn forever_stmt<'t>(alloc: Global, depth: usize, inside: bool, at: At<'t>) -> Re
 
 // `{ stmt }`
 #[cycle(statement)]
-#[tactic(auto, unfolding(vh_syntax::specs::Statements::stmts))]
+#[tactic(auto, unfolding(vh_parse_syntax::specs::Statements::stmts))]
 fn stmts<'t>(alloc: Global, depth: usize, inside: bool, at: At<'t>) -> Read<'t, Items<Stmt>>
     ensures { Reads stmts_seen depth (parts.stmts inside) at.entry result }
 {
@@ -296,7 +296,7 @@ fn block<'t>(
 
 // The statements that begin with a word behind which one stands, or none.
 #[cycle(statement)]
-#[tactic(auto, unfolding(vh_syntax::specs::Statements::begin_stmt, vh_syntax::specs::Statements::fork_stmt))]
+#[tactic(auto, unfolding(vh_parse_syntax::specs::Statements::begin_stmt, vh_parse_syntax::specs::Statements::fork_stmt))]
 fn control<'t>(alloc: Global, depth: usize, inside: bool, at: At<'t>) -> Read<'t, Boxed<Stmt>>
     ensures { Reads stmt_tree depth (control inside) at.entry result }
 {
@@ -322,7 +322,7 @@ fn control<'t>(alloc: Global, depth: usize, inside: bool, at: At<'t>) -> Read<'t
 
 // `stmt`
 #[cycle(statement)]
-#[tactic(auto, unfolding(vh_syntax::specs::Statements::statement))]
+#[tactic(auto, unfolding(vh_parse_syntax::specs::Statements::statement))]
 fn statement<'t>(alloc: Global, depth: usize, inside: bool, at: At<'t>) -> Read<'t, Boxed<Stmt>>
     ensures { Reads stmt_tree depth (statement inside) at.entry result }
 {

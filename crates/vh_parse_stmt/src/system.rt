@@ -3,8 +3,8 @@
 ghost use Rattle.std.specs.Prelude.{Bool, Option, option_map, map};
 ghost use Rattle.vh_ast.specs.Expressions as trees;
 ghost use Rattle.vh_ast.specs.Views.{expr_tree, stmt_tree};
-ghost use Rattle.vh_syntax.specs.Statements as parts;
-ghost use Rattle.vh_syntax.specs.Statements.{slot, slots};
+ghost use Rattle.vh_parse_syntax.specs.Statements as parts;
+ghost use Rattle.vh_parse_syntax.specs.Statements.{slot, slots};
 ghost use Rattle.vh_parse_expr.specs.Views.{Reads};
 ghost use Rattle.vh_parse_stmt.specs.Pieces.{any_slots, bracketed_slots};
 ghost use Rattle.vh_parse_stmt.specs.Views.{slots_seen};
@@ -16,10 +16,10 @@ use std::alloc::Global;
 use vh_ast::{Expr, Id, Simple, Stmt};
 use vh_parse_decl::{Listed, list};
 use vh_parse_expr::{At, Read, calls_in, expression, system_name, then_sign};
-use vh_syntax::{Class, Sign, Start};
+use vh_parse_syntax::{Class, Sign, Start};
 
 // `[ expr ]`
-#[tactic(auto, unfolding(vh_syntax::specs::Statements::slot))]
+#[tactic(auto, unfolding(vh_parse_syntax::specs::Statements::slot))]
 fn slot<'t>(alloc: Global, depth: usize, calls: bool, at: At<'t>) -> Read<'t, Option<Expr>>
     ensures { Reads (option_map expr_tree) depth (slot calls) at.entry result }
 {
@@ -80,7 +80,7 @@ fn bracketed_slots<'t>(
 }
 
 // `[ "(" [ expr ] { "," [ expr ] } ")" ]`
-#[tactic(auto, unfolding(vh_syntax::specs::Statements::slots))]
+#[tactic(auto, unfolding(vh_parse_syntax::specs::Statements::slots))]
 fn slots<'t>(alloc: Global, depth: usize, calls: bool, at: At<'t>) -> Read<'t, Items<Option<Expr>>>
     ensures { Reads slots_seen depth (slots calls) at.entry result }
 {
@@ -91,7 +91,7 @@ fn slots<'t>(alloc: Global, depth: usize, calls: bool, at: At<'t>) -> Read<'t, I
 }
 
 // `[ "(" [ expr ] { "," [ expr ] } ")" ] ";"`, behind a system name.
-#[tactic(auto, unfolding(vh_syntax::specs::Statements::system_task))]
+#[tactic(auto, unfolding(vh_parse_syntax::specs::Statements::system_task))]
 fn system_task<'t>(alloc: Global, depth: usize, id: Id, at: At<'t>) -> Read<'t, Boxed<Stmt>>
     ensures { Reads stmt_tree depth (parts.system_task id) at.entry result }
 {
@@ -103,7 +103,7 @@ fn system_task<'t>(alloc: Global, depth: usize, id: Id, at: At<'t>) -> Read<'t, 
 }
 
 // `SYS [ "(" [ expr ] { "," [ expr ] } ")" ] ";"`
-#[tactic(auto, unfolding(vh_syntax::specs::Statements::system_stmt))]
+#[tactic(auto, unfolding(vh_parse_syntax::specs::Statements::system_stmt))]
 pub(crate) fn system<'t>(alloc: Global, depth: usize, at: At<'t>) -> Read<'t, Boxed<Stmt>>
     ensures { Reads stmt_tree depth parts.system_stmt at.entry result }
 {

@@ -2,29 +2,29 @@
 use Rattle.std.proofs.Common.{◌≡◌, ℕ, List, [], ◌∷◌, Bool, true, false, cond, nat_lt, Option, Some, None, IfSome, Ok, refl, subst}
 use Rattle.std.specs.List.{AllByRecursion}
 use Rattle.vh_base.specs.declared.faults.Fault.{Fault}
-use Rattle.vh_code.specs.declared.code.Block.{Block}
-use Rattle.vh_code.specs.declared.code.Goes.{Goes}
-use Rattle.vh_code.specs.declared.code.Goes.TheVariants as goes
-use Rattle.vh_code.specs.declared.code.Instruction.{Instruction}
-use Rattle.vh_code.specs.declared.operation.Drive.{Drive}
-use Rattle.vh_code.specs.declared.operation.Loop.{Loop}
-use Rattle.vh_code.specs.declared.operation.Loop.TheVariants as turn
-use Rattle.vh_code.specs.declared.operation.Operation.{Operation}
-use Rattle.vh_code.specs.declared.operation.Operation.TheVariants as op
-use Rattle.vh_code.specs.declared.operation.Pause.{Pause}
-use Rattle.vh_code.specs.declared.operation.Pause.TheVariants as pause
-use Rattle.vh_code.specs.declared.operation.Single.{Single}
-use Rattle.vh_code.specs.declared.target.Delay.{Delay}
+use Rattle.vh_design_code.specs.declared.code.Block.{Block}
+use Rattle.vh_design_code.specs.declared.code.Goes.{Goes}
+use Rattle.vh_design_code.specs.declared.code.Goes.TheVariants as goes
+use Rattle.vh_design_code.specs.declared.code.Instruction.{Instruction}
+use Rattle.vh_design_code.specs.declared.operation.Drive.{Drive}
+use Rattle.vh_design_code.specs.declared.operation.Loop.{Loop}
+use Rattle.vh_design_code.specs.declared.operation.Loop.TheVariants as turn
+use Rattle.vh_design_code.specs.declared.operation.Operation.{Operation}
+use Rattle.vh_design_code.specs.declared.operation.Operation.TheVariants as op
+use Rattle.vh_design_code.specs.declared.operation.Pause.{Pause}
+use Rattle.vh_design_code.specs.declared.operation.Pause.TheVariants as pause
+use Rattle.vh_design_code.specs.declared.operation.Single.{Single}
+use Rattle.vh_design_code.specs.declared.target.Delay.{Delay}
 use Rattle.vh_design.specs.Shape.{Shape}
-use Rattle.vh_thread.specs.declared.call.Call.{Call}
-use Rattle.vh_thread.specs.Control.{Control, behind, gone, past, or_these, outermost, is_within, is_call_of, blocks_of, block_around, left_task, left_block, left, disabled, in_block, block_at, next_of, start_of, call_at, routine_of, process_of, branch_of}
-use Rattle.vh_turn.specs.declared.process.Process.{Process}
-use Rattle.vh_turn.specs.declared.next.Next.TheVariants as next
-use Rattle.vh_turn.specs.Drives.{all_driven, driving}
-use Rattle.vh_turn.specs.Own.{Own, Turn, arriving}
-use Rattle.vh_turn.specs.Own as O
-use Rattle.vh_turn.specs.Turns.{turn_of, turn_at}
-use Rattle.vh_turn.specs.Turns as T
+use Rattle.vh_proc_thread.specs.declared.call.Call.{Call}
+use Rattle.vh_proc_thread.specs.Control.{Control, behind, gone, past, or_these, outermost, is_within, is_call_of, blocks_of, block_around, left_task, left_block, left, disabled, in_block, block_at, next_of, start_of, call_at, routine_of, process_of, branch_of}
+use Rattle.vh_proc_turn.specs.declared.process.Process.{Process}
+use Rattle.vh_proc_turn.specs.declared.next.Next.TheVariants as next
+use Rattle.vh_proc_turn.specs.Drives.{all_driven, driving}
+use Rattle.vh_proc_turn.specs.Own.{Own, Turn, arriving}
+use Rattle.vh_proc_turn.specs.Own as O
+use Rattle.vh_proc_turn.specs.Turns.{turn_of, turn_at}
+use Rattle.vh_proc_turn.specs.Turns as T
 use Rattle.vh_proc.specs.Families.{called_by}
 use Rattle.vh_proc.proofs.KinLemmas.{ok-then, unless-then, some-then, ok-same, Gives}
 

@@ -10,9 +10,9 @@ use Rattle.std.specs.Prelude.{unwrap_or}
 use Rattle.std.specs.Option.{option_map}
 use Rattle.std.specs.Ordering.{nat_cmp, match_ordering, is_eq}
 use Rattle.vh_design.specs.Shape.{Shape}
-use Rattle.vh_thread.specs.declared.call.Call.{Call}
-use Rattle.vh_thread.specs.Control.{Control, Runs, process_of, branch_of}
-use Rattle.vh_turn.specs.declared.process.Process.{Process}
+use Rattle.vh_proc_thread.specs.declared.call.Call.{Call}
+use Rattle.vh_proc_thread.specs.Control.{Control, Runs, process_of, branch_of}
+use Rattle.vh_proc_turn.specs.declared.process.Process.{Process}
 use Rattle.vh_proc.specs.declared.families.Families.{Families}
 use Rattle.vh_proc.specs.declared.layout.Owner.TheVariants as owner
 use Rattle.vh_proc.specs.Families.{is_of, root_of, is_caller, NotesCalls, Joins, Leaves, Calls, IsParent, IsKept, IsExact, AreKept, IsPassed, HasAll, ComeFrom}

@@ -5,15 +5,15 @@ use Rattle.std.proofs.lemmas.Bool.{eqb-true, ltb-true, ltb-false}
 use Rattle.std.specs.BTreeSet.{BTreeSet}
 use Rattle.std.specs.List.{AllByRecursion}
 use Rattle.std.specs.Option.{option_map, option_and_then}
-use Rattle.vh_code.specs.declared.code.Block.{Block}
-use Rattle.vh_code.specs.declared.code.Code.{Code}
+use Rattle.vh_design_code.specs.declared.code.Block.{Block}
+use Rattle.vh_design_code.specs.declared.code.Code.{Code}
 use Rattle.vh_design.specs.Shape.{Shape}
 use Rattle.vh_design.specs.Validity.{body_at}
-use Rattle.vh_nodes.specs.declared.object.ObjectInfo.{ObjectInfo}
-use Rattle.vh_nodes.specs.Fits.{body_of, body_number, has_body}
-use Rattle.vh_thread.specs.declared.call.Call.{Call}
-use Rattle.vh_thread.specs.Blocks.{block_or, block_below, block_of}
-use Rattle.vh_thread.specs.Control.{Control, Runs, HasBody, code_of, blocks_of, block_around, is_routine, is_within, outermost, or_these, is_inside}
+use Rattle.vh_design_nodes.specs.declared.object.ObjectInfo.{ObjectInfo}
+use Rattle.vh_design_nodes.specs.Fits.{body_of, body_number, has_body}
+use Rattle.vh_proc_thread.specs.declared.call.Call.{Call}
+use Rattle.vh_proc_thread.specs.Blocks.{block_or, block_below, block_of}
+use Rattle.vh_proc_thread.specs.Control.{Control, Runs, HasBody, code_of, blocks_of, block_around, is_routine, is_within, outermost, or_these, is_inside}
 use Rattle.vh_proc.specs.declared.layout.Owner.{Owner}
 use Rattle.vh_proc.specs.declared.layout.Owner.TheVariants as owner
 use Rattle.vh_proc.specs.declared.layout.Home.{Home}

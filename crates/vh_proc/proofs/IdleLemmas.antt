@@ -10,9 +10,9 @@ use Rattle.std.specs.Map.{lookup, keys_of}
 use Rattle.std.specs.Option.{is_some}
 use Rattle.std.specs.Ordering.{nat_cmp}
 use Rattle.vh_design.specs.Shape.{Shape}
-use Rattle.vh_thread.specs.declared.call.Call.{Call}
-use Rattle.vh_thread.specs.Control.{Control, is_routine, is_call_of, is_within, block_around, outermost, or_these, is_inside}
-use Rattle.vh_turn.specs.declared.process.Process.{Process}
+use Rattle.vh_proc_thread.specs.declared.call.Call.{Call}
+use Rattle.vh_proc_thread.specs.Control.{Control, is_routine, is_call_of, is_within, block_around, outermost, or_these, is_inside}
+use Rattle.vh_proc_turn.specs.declared.process.Process.{Process}
 use Rattle.vh_proc.specs.declared.families.Families.{Families}
 use Rattle.vh_proc.specs.Families.{is_of, is_caller, IsParent, AreKept, is_in_call, Forgets}
 use Rattle.vh_proc.proofs.CallsLemmas.{AllCalls}

@@ -11,8 +11,8 @@ use Rattle.vh_base.specs.Checks.{with_ok}
 use Rattle.vh_base.specs.declared.faults.Fault.{Fault}
 use Rattle.vh_design.specs.Shape.{Shape}
 use Rattle.vh_proc.specs.Disabled.{ended_in, left_in, all_ended, all_left, resumed_but, all_resumed}
-use Rattle.vh_thread.specs.Control.{Control, process_of}
-use Rattle.vh_turn.specs.declared.process.Process.{Process}
+use Rattle.vh_proc_thread.specs.Control.{Control, process_of}
+use Rattle.vh_proc_turn.specs.declared.process.Process.{Process}
 use Rattle.vh_proc.specs.Processes.{Queued, Scheduled, process_at, opening_process, branch_begun, branches_begun}
 
 -- The element at a place, and those behind it.

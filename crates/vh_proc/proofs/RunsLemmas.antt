@@ -7,10 +7,10 @@ use Rattle.std.specs.List.{AllByRecursion}
 use Rattle.std.specs.Map.{lookup, set_value, remove_entry}
 use Rattle.std.specs.Ordering.{nat_cmp, match_ordering}
 use Rattle.vh_design.specs.Shape.{Shape}
-use Rattle.vh_code.specs.declared.code.Goes.{Goes}
-use Rattle.vh_nodes.specs.Fits.{has_body}
-use Rattle.vh_thread.specs.Control.{Control, Runs, goes_on, disabled, block_at, next_of, arrived}
-use Rattle.vh_turn.specs.declared.process.Process.{Process}
+use Rattle.vh_design_code.specs.declared.code.Goes.{Goes}
+use Rattle.vh_design_nodes.specs.Fits.{has_body}
+use Rattle.vh_proc_thread.specs.Control.{Control, Runs, goes_on, disabled, block_at, next_of, arrived}
+use Rattle.vh_proc_turn.specs.declared.process.Process.{Process}
 use Rattle.vh_proc.specs.Processes.{Processes, AllRun, process_at, changed, changed_in}
 use Rattle.vh_proc.proofs.CallsLemmas.{calls-gone, calls-in, calls-disabled}
 use Rattle.vh_proc.proofs.KinLemmas.{root-disabled}

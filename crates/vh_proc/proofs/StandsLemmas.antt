@@ -2,17 +2,17 @@
 use Rattle.std.proofs.Common.{◌≡◌, ◌&&◌, ℕ, zero, suc, Bool, true, List, [], ◌∷◌, length, Option, Some, None, slice_get, refl, subst}
 use Rattle.std.specs.List.{list_all}
 use Rattle.std.specs.Option.{option_and_then}
-use Rattle.vh_nodes.proofs.FitsLemmas.{and_left, and_right}
-use Rattle.vh_nodes.specs.Fits.{before, body_number}
-use Rattle.vh_code.specs.declared.code.Code.{Code}
-use Rattle.vh_code.specs.declared.code.Instruction.{Instruction}
-use Rattle.vh_code.specs.Codes.{fits_instruction, fits_blocks}
-use Rattle.vh_code.specs.Operations.{fits_goes, fits_operation}
+use Rattle.vh_design_nodes.proofs.FitsLemmas.{and_left, and_right}
+use Rattle.vh_design_nodes.specs.Fits.{before, body_number}
+use Rattle.vh_design_code.specs.declared.code.Code.{Code}
+use Rattle.vh_design_code.specs.declared.code.Instruction.{Instruction}
+use Rattle.vh_design_code.specs.Codes.{fits_instruction, fits_blocks}
+use Rattle.vh_design_code.specs.Operations.{fits_goes, fits_operation}
 use Rattle.vh_design.specs.Shape.{Shape}
 use Rattle.vh_design.specs.Validity.{IsValid, CodeFits, limits_of}
-use Rattle.vh_thread.specs.declared.call.Call.{Call}
-use Rattle.vh_thread.specs.Control.{Control, code_of, instruction_of, next_of}
-use Rattle.vh_turn.specs.Own.{Fits}
+use Rattle.vh_proc_thread.specs.declared.call.Call.{Call}
+use Rattle.vh_proc_thread.specs.Control.{Control, code_of, instruction_of, next_of}
+use Rattle.vh_proc_turn.specs.Own.{Fits}
 
 -- What all of a list pass, the one at a place passes.
 passes-at : {X : Type 0} (test : X → Bool) (xs : List X) (k : ℕ) (x : X) → list_all test xs ≡ true → slice_get xs k ≡ Some x → test x ≡ true

@@ -10,8 +10,8 @@ use Rattle.std.specs.Cmp.{nat_cmp_is}
 use Rattle.std.proofs.lemmas.Map.Keys.{sorted_head, sorted_tail}
 use Rattle.std.specs.Ordering.{nat_cmp}
 use Rattle.vh_design.specs.Shape.{Shape}
-use Rattle.vh_thread.specs.Control.{is_inside}
-use Rattle.vh_turn.specs.declared.process.Process.{Process}
+use Rattle.vh_proc_thread.specs.Control.{is_inside}
+use Rattle.vh_proc_turn.specs.declared.process.Process.{Process}
 use Rattle.vh_proc.specs.Disabled.{Stopped, is_among, is_begun_by, begun_by, with_stopped, stopped_of}
 use Rattle.vh_proc.specs.Families.{IsPassed, HasAll}
 use Rattle.vh_proc.specs.Views.{nobody, with_noted}

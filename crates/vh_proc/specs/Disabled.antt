@@ -7,8 +7,8 @@ use Rattle.vh_base.specs.declared.faults.Fault.{Fault}
 use Rattle.vh_design.specs.Shape.{Shape}
 use Rattle.vh_sense.specs.Sensitivity.{without_wait}
 use Rattle.vh_queue.specs.Events.{Events, without}
-use Rattle.vh_thread.specs.Control.{is_inside, disabled}
-use Rattle.vh_turn.specs.declared.process.Process.{Process}
+use Rattle.vh_proc_thread.specs.Control.{is_inside, disabled}
+use Rattle.vh_proc_turn.specs.declared.process.Process.{Process}
 use Rattle.vh_proc.specs.Processes.{Processes, Queued, Scheduled, queued, scheduled, process_at, changed, without_process, resumed}
 
 -- The processes that a disable stops, by rising number: the branches that end with what has begun them, and any others

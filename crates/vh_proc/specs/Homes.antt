@@ -3,11 +3,11 @@ use Rattle.std.specs.Prelude.{◌≡◌, ℕ, List, Bool, true, false, ◌==◌,
 use Rattle.std.specs.BTreeMap.{is_at}
 use Rattle.std.specs.Map.{lookup}
 use Rattle.std.specs.Ordering.{nat_cmp}
-use Rattle.vh_code.specs.declared.code.Block.{Block}
-use Rattle.vh_code.specs.declared.code.Code.{Code}
+use Rattle.vh_design_code.specs.declared.code.Block.{Block}
+use Rattle.vh_design_code.specs.declared.code.Code.{Code}
 use Rattle.vh_design.specs.Shape.{Shape}
 use Rattle.vh_design.specs.Validity.{body_at}
-use Rattle.vh_nodes.specs.Fits.{has_body}
+use Rattle.vh_design_nodes.specs.Fits.{has_body}
 use Rattle.vh_proc.specs.declared.layout.Owner.{Owner}
 use Rattle.vh_proc.specs.declared.layout.Owner.TheVariants as owner
 use Rattle.vh_proc.specs.declared.layout.Home.{Home}

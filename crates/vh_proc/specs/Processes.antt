@@ -9,20 +9,20 @@ use Rattle.vh_base.specs.Checks.{unless, with_ok}
 use Rattle.vh_base.specs.declared.faults.Fault.{Fault}
 use Rattle.vh_base.specs.declared.faults.Fault.TheVariants as fault
 use Rattle.vh_base.specs.declared.limits.TheConstants.{MOST_NUMBERS}
-use Rattle.vh_code.specs.declared.change.Made.{Made}
-use Rattle.vh_code.specs.declared.code.Goes.{Goes}
-use Rattle.vh_code.specs.declared.code.Goes.TheVariants as goes
-use Rattle.vh_code.specs.declared.code.Instruction.{Instruction}
+use Rattle.vh_design_code.specs.declared.change.Made.{Made}
+use Rattle.vh_design_code.specs.declared.code.Goes.{Goes}
+use Rattle.vh_design_code.specs.declared.code.Goes.TheVariants as goes
+use Rattle.vh_design_code.specs.declared.code.Instruction.{Instruction}
 use Rattle.vh_design.specs.Shape.{Shape}
 use Rattle.vh_store.specs.Contents.{Contents}
 use Rattle.vh_sense.specs.Sensitivity.{Sensitivity}
 use Rattle.vh_queue.specs.declared.region.Region.TheVariants as region
 use Rattle.vh_queue.specs.declared.work.Work.TheVariants as work
 use Rattle.vh_queue.specs.Events.{Events}
-use Rattle.vh_thread.specs.Control.{Runs, next_of, process_of, branch_of}
-use Rattle.vh_turn.specs.declared.next.Next.{Next}
-use Rattle.vh_turn.specs.declared.process.Process.{Process}
-use Rattle.vh_turn.specs.Own.{going, arriving, with_entry}
+use Rattle.vh_proc_thread.specs.Control.{Runs, next_of, process_of, branch_of}
+use Rattle.vh_proc_turn.specs.declared.next.Next.{Next}
+use Rattle.vh_proc_turn.specs.declared.process.Process.{Process}
+use Rattle.vh_proc_turn.specs.Own.{going, arriving, with_entry}
 
 -- The processes that haven't ended, by rising number, and the least number that no process has had: one of the
 -- design has its number there, and a branch of a fork gets the next.

@@ -3,20 +3,20 @@
 use Rattle.std.specs.Prelude.{◌≡◌, IfSome, IsSome, ℕ, List, [], ◌∷◌, length, if◌then◌else◌, Option, Some, None, Result, Ok, Err}
 use Rattle.vh_base.specs.Checks.{with_ok}
 use Rattle.vh_base.specs.declared.faults.Fault.{Fault}
-use Rattle.vh_code.specs.declared.code.Goes.{Goes}
-use Rattle.vh_code.specs.declared.code.Instruction.{Instruction}
-use Rattle.vh_code.specs.declared.operation.Operation.{Operation}
-use Rattle.vh_code.specs.declared.operation.Operation.TheVariants as op
-use Rattle.vh_code.specs.declared.operation.Single.{Single}
-use Rattle.vh_code.specs.declared.operation.Single.TheVariants as single
+use Rattle.vh_design_code.specs.declared.code.Goes.{Goes}
+use Rattle.vh_design_code.specs.declared.code.Instruction.{Instruction}
+use Rattle.vh_design_code.specs.declared.operation.Operation.{Operation}
+use Rattle.vh_design_code.specs.declared.operation.Operation.TheVariants as op
+use Rattle.vh_design_code.specs.declared.operation.Single.{Single}
+use Rattle.vh_design_code.specs.declared.operation.Single.TheVariants as single
 use Rattle.vh_design.specs.Shape.{Shape}
 use Rattle.vh_design.specs.Validity.{IsValid}
-use Rattle.vh_thread.specs.Control.{next_of, is_inside}
-use Rattle.vh_turn.specs.declared.next.Next.{Next}
-use Rattle.vh_turn.specs.declared.next.Next.TheVariants as next
-use Rattle.vh_turn.specs.declared.process.Process.{Process}
-use Rattle.vh_turn.specs.Own.{Own, Turn, own_of}
-use Rattle.vh_turn.specs.Turns.{turn_of}
+use Rattle.vh_proc_thread.specs.Control.{next_of, is_inside}
+use Rattle.vh_proc_turn.specs.declared.next.Next.{Next}
+use Rattle.vh_proc_turn.specs.declared.next.Next.TheVariants as next
+use Rattle.vh_proc_turn.specs.declared.process.Process.{Process}
+use Rattle.vh_proc_turn.specs.Own.{Own, Turn, own_of}
+use Rattle.vh_proc_turn.specs.Turns.{turn_of}
 use Rattle.vh_proc.specs.Disabled.{Stopped, begun_by, stopped, disable_all}
 use Rattle.vh_proc.specs.Processes.{AllRun, Processes, World, Queued, Scheduled, Outcome, queued, scheduled, world_of, step_with, process_at, with_process, without_process, changed, arrived_in, gone_on, with_left, branches_begun, joined}
 

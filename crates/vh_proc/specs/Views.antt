@@ -5,7 +5,7 @@ use Rattle.std.specs.Ordering.{nat_cmp}
 use Rattle.vh_proc.specs.declared.disable.Stopped.{Stopped as Found}
 use Rattle.vh_proc.specs.Disabled.{Stopped, is_among, with_stopped}
 use Rattle.vh_design.specs.Shape.{Shape}
-use Rattle.vh_turn.specs.declared.process.Process.{Process}
+use Rattle.vh_proc_turn.specs.declared.process.Process.{Process}
 
 -- The processes that a disable stops.
 abbrev pub found_seen : Found → Stopped

@@ -4,14 +4,14 @@ ghost use Rattle.std.specs.List.{AllByRecursion};
 ghost use Rattle.std.specs.Map.{lookup};
 ghost use Rattle.std.specs.Ordering.{nat_cmp};
 ghost use Rattle.vh_sense.specs.Sensitivity.{without_wait};
-ghost use Rattle.vh_thread.specs.Control.{Runs};
+ghost use Rattle.vh_proc_thread.specs.Control.{Runs};
 ghost use Rattle.vh_proc.specs.Processes.{AllRun, process_at, queued, scheduled};
 ghost use Rattle.vh_proc.specs.Disabled.{begun_by, with_stopped, stopped, stopped_of, without_entry, ended_in, left_in, all_ended, all_left, resumed_but, all_resumed};
 ghost use Rattle.vh_design.specs.Shape.{Shape};
 ghost use Rattle.vh_proc.specs.Steps.{before_disable, disabled_by, after_disable};
 ghost use Rattle.vh_proc.specs.Views.{HoldsAll, found_seen, nobody, with_noted};
 ghost use Rattle.vh_proc.specs.Families.{HasAll};
-ghost use Rattle.vh_turn.specs.Own.{FailsBy};
+ghost use Rattle.vh_proc_turn.specs.Own.{FailsBy};
 
 use crate::families::Family;
 use crate::layout::{Layout, Owner};
@@ -20,9 +20,9 @@ use std::alloc::Global;
 use std::collections::{BTreeMap, BTreeSet};
 use vh_base::{NoMemory, ObjId, ProcId};
 use vh_design::{Design, Goes};
+use vh_proc_turn::{Next, Process, StepFault};
 use vh_queue::Queue;
 use vh_sense::Sense;
-use vh_turn::{Next, Process, StepFault};
 
 // The processes that a disable stops, by rising number: those that end, and those that leave; and
 // all of them, to ask for one.

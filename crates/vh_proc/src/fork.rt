@@ -2,14 +2,14 @@ ghost use Rattle.std.specs.Prelude.{◌≡◌, Ok, IfSome, IfErr, OnOk};
 ghost use Rattle.vh_design.specs.Shape.{Shape};
 ghost use Rattle.vh_proc.specs.Processes.{AllRun, process_at, without_process, branch_begun, branches_begun, joined, queued};
 ghost use Rattle.vh_proc.specs.Steps.{forked};
-ghost use Rattle.vh_turn.specs.Own.{FailsBy};
+ghost use Rattle.vh_proc_turn.specs.Own.{FailsBy};
 
 use crate::threads::{Threads, keep};
 use std::alloc::Global;
 use vh_base::{Fault, MOST_NUMBERS, ProcId};
 use vh_design::{Design, Goes};
+use vh_proc_turn::{Process, StepFault, Updates, add_entry};
 use vh_queue::{Queue, Region, Work};
-use vh_turn::{Process, StepFault, Updates, add_entry};
 
 impl Threads {
     // A branch of a fork begins at a place of the code, with the next number and an entry.

@@ -4,7 +4,7 @@ ghost use Rattle.std.specs.BTreeSet.{contains};
 ghost use Rattle.std.specs.List.{AllByRecursion};
 ghost use Rattle.std.specs.Map.{lookup};
 ghost use Rattle.std.specs.Ordering.{nat_cmp};
-ghost use Rattle.vh_thread.specs.Control.{Runs};
+ghost use Rattle.vh_proc_thread.specs.Control.{Runs};
 ghost use Rattle.vh_proc.specs.Families.{Forgets, IsIdle, is_in_call};
 
 use crate::families::{Families, Family};
@@ -12,7 +12,7 @@ use std::alloc::Global;
 use std::collections::{BTreeMap, BTreeSet};
 use vh_base::{NoMemory, ObjId};
 use vh_design::Design;
-use vh_turn::Process;
+use vh_proc_turn::Process;
 
 // The processes, by their numbers.
 type All = BTreeMap<u64, Process, Global>;

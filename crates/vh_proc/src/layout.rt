@@ -1,7 +1,7 @@
 ghost use Rattle.std.specs.Prelude.{◌≡◌, ◌<◌, Some, IfSome, IfOk, OnOk, true, length, slice_get};
-ghost use Rattle.vh_code.specs.declared.code.Code.{Code};
+ghost use Rattle.vh_design_code.specs.declared.code.Code.{Code};
 ghost use Rattle.vh_design.specs.Validity.{body_at};
-ghost use Rattle.vh_nodes.specs.Fits.{has_body};
+ghost use Rattle.vh_design_nodes.specs.Fits.{has_body};
 ghost use Rattle.vh_proc.specs.declared.layout.Owner.TheVariants.{Process, Routine};
 ghost use Rattle.vh_proc.specs.Homes.{IsOwner, is_same, Says, SaysAll, Grow, AreHomes};
 

@@ -7,7 +7,7 @@
 //! kind of label; a fault comes in its place exactly where the row says so, and want of memory is
 //! the one free answer.
 //!
-//! It stands on `vh_turn` for labels that touch no other process, on `vh_thread` for where a
+//! It stands on `vh_proc_turn` for labels that touch no other process, on `vh_proc_thread` for where a
 //! process goes on, and on `vh_sense` and `vh_queue` for what it waits for.
 #![tactic(auto)]
 
@@ -22,4 +22,4 @@ mod threads;
 pub use layout::Layout;
 pub use stepped::{MadeList, Stepped};
 pub use threads::Threads;
-pub use vh_turn::{Next, StepFault};
+pub use vh_proc_turn::{Next, StepFault};

@@ -1,6 +1,6 @@
 use vh_base::Sequence;
 use vh_design::Made;
-use vh_turn::Next;
+use vh_proc_turn::Next;
 
 /// What a label changed, forced or released, in order, which contracts see as a list.
 pub type MadeList = Sequence<Made>;

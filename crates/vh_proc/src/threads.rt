@@ -5,8 +5,8 @@ ghost use Rattle.vh_design.specs.Shape.{Shape};
 ghost use Rattle.vh_design.specs.Validity.{IsValid};
 ghost use Rattle.vh_proc.specs.Processes.{AllRun, process_at, without_process, changed, arrived_in, gone_on, with_left, one_less, opening, noted, resumed, queued, world_of, step_with};
 ghost use Rattle.vh_proc.specs.Steps.{StandsBefore, step_of, step_at, single_step, alone, after_fork};
-ghost use Rattle.vh_turn.specs.Turns.{is_own};
-ghost use Rattle.vh_turn.specs.Own.{FailsBy};
+ghost use Rattle.vh_proc_turn.specs.Turns.{is_own};
+ghost use Rattle.vh_proc_turn.specs.Own.{FailsBy};
 
 use crate::families::Families;
 use crate::layout::Layout;
@@ -17,11 +17,11 @@ use std::marker::Model;
 use std::mem;
 use vh_base::{NoMemory, ProcId, Sequence, Serial};
 use vh_design::{Design, Goes, Instruction, Made, Operation, Single};
+use vh_proc_thread::Thread;
+use vh_proc_turn::{Next, Process, Room, StepFault, Updates, add_entry, turn};
 use vh_queue::{Queue, Region, Work};
 use vh_sense::Sense;
 use vh_store::Store;
-use vh_thread::Thread;
-use vh_turn::{Next, Process, Room, StepFault, Updates, add_entry, turn};
 
 /// The processes of a simulation, which contracts see as `Processes`.
 #[derive(Drop)]

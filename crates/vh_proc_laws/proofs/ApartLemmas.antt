@@ -3,8 +3,8 @@ use Rattle.std.proofs.Common.{◌≡◌, ◌∙◌, ℕ, ◌+◌, ◌<◌, ◌�
 use Rattle.std.proofs.lemmas.Bool.{eqb-true, eq-eqb}
 use Rattle.vh_callbacks.specs.Callbacks.{Rise}
 use Rattle.vh_design.specs.Shape.{Shape}
-use Rattle.vh_thread.specs.Control.{is_inside}
-use Rattle.vh_turn.specs.declared.process.Process.{Process}
+use Rattle.vh_proc_thread.specs.Control.{is_inside}
+use Rattle.vh_proc_turn.specs.declared.process.Process.{Process}
 use Rattle.vh_proc.specs.Disabled.{Stopped, is_among, begun_by, with_stopped, stopped, stopped_of}
 use Rattle.vh_proc.specs.Processes.{Processes}
 use Rattle.vh_proc_laws.specs.Disable.{AreNumbered}

@@ -6,8 +6,8 @@ use Rattle.vh_base.specs.declared.orders.Object.{Object}
 use Rattle.vh_logic.specs.declared.digits.Digit.TheVariants.{X}
 use Rattle.vh_logic.specs.Vector.{Vector, width_of}
 use Rattle.vh_logic.specs.Parts.{part_of}
-use Rattle.vh_assign.specs.Pieces.{piece_above, piece_below}
-use Rattle.vh_assign.specs.Assigned.{with_digits}
+use Rattle.vh_proc_assign.specs.Pieces.{piece_above, piece_below}
+use Rattle.vh_proc_assign.specs.Assigned.{with_digits}
 use Rattle.vh_proc_laws.specs.Digits.{taken, digit_or, digit_behind}
 use Rattle.vh_proc_laws.specs.Laws.{AssignsDigits}
 

@@ -4,8 +4,8 @@ use Rattle.std.proofs.lemmas.Bool.{eqb-true, eqb-false, cases_lt}
 use Rattle.vh_callbacks.specs.Callbacks.{Rise, live_at}
 use Rattle.vh_callbacks.proofs.CallbacksLemmas.{at_apart, at_same, live_below}
 use Rattle.vh_design.specs.Shape.{Shape}
-use Rattle.vh_thread.specs.Control.{is_inside}
-use Rattle.vh_turn.specs.declared.process.Process.{Process}
+use Rattle.vh_proc_thread.specs.Control.{is_inside}
+use Rattle.vh_proc_turn.specs.declared.process.Process.{Process}
 use Rattle.vh_proc.specs.Disabled.{Stopped, is_among, is_begun_by, begun_by, with_stopped, stopped_of}
 use Rattle.vh_proc.specs.Processes.{Processes, process_at}
 use Rattle.vh_proc_laws.specs.Disable.{AreNumbered, IsStopped, Ends, Leaves}

@@ -11,14 +11,14 @@ use Rattle.vh_base.specs.declared.limits.TheConstants.{MOST_NUMBERS}
 use Rattle.vh_callbacks.specs.Callbacks.{Rise, live_at, without}
 use Rattle.vh_callbacks.specs.Callbacks as C
 use Rattle.vh_callbacks.proofs.CallbacksLemmas.{known_below, rise_without, live_without_same, live_without_other, live_insert, rise_insert, rise_to, live_changed_same, live_changed_other, rise_changed}
-use Rattle.vh_code.specs.declared.code.Goes.{Goes}
-use Rattle.vh_code.specs.declared.code.Instruction.{Instruction}
-use Rattle.vh_code.specs.declared.operation.Loop.TheVariants as turn
+use Rattle.vh_design_code.specs.declared.code.Goes.{Goes}
+use Rattle.vh_design_code.specs.declared.code.Instruction.{Instruction}
+use Rattle.vh_design_code.specs.declared.operation.Loop.TheVariants as turn
 use Rattle.vh_design.specs.Shape.{Shape}
-use Rattle.vh_thread.specs.Control.{next_of, is_inside}
-use Rattle.vh_turn.specs.declared.process.Process.{Process}
-use Rattle.vh_turn.specs.Own.{Own, Turn, own_of, going, arriving}
-use Rattle.vh_turn.specs.Turns.{turn_of}
+use Rattle.vh_proc_thread.specs.Control.{next_of, is_inside}
+use Rattle.vh_proc_turn.specs.declared.process.Process.{Process}
+use Rattle.vh_proc_turn.specs.Own.{Own, Turn, own_of, going, arriving}
+use Rattle.vh_proc_turn.specs.Turns.{turn_of}
 use Rattle.vh_proc.proofs.KinLemmas.{ok-same, ok-then, turn-kept, unless-then}
 use Rattle.vh_proc.specs.Disabled.{Stopped, stopped, left_by, ended_in, left_in, all_ended, all_left, resumed_but, all_resumed, all_stopped, disable_all}
 use Rattle.vh_proc.specs.Processes.{Processes, Queued, Scheduled, Step, World, opening, opening_process, queued, process_at, with_process, without_process, changed, changed_in, with_branch, branch, branch_in, branch_begun, branches_begun, evaluated_now, resumed, noted, with_serial, one_less, one_joined, joined_in, joined, gone_on, goes_behind, with_left}

@@ -1,14 +1,14 @@
 -- What holds after each way in which a process steps holds after every step of one.
 use Rattle.std.proofs.Common.{◌≡◌, ℕ, List, Option, Some, None, Ok, refl}
-use Rattle.vh_code.specs.declared.code.Goes.{Goes}
-use Rattle.vh_code.specs.declared.code.Instruction.{Instruction}
-use Rattle.vh_code.specs.declared.operation.Operation.{Operation}
-use Rattle.vh_code.specs.declared.operation.Operation.TheVariants as op
-use Rattle.vh_code.specs.declared.operation.Single.{Single}
-use Rattle.vh_code.specs.declared.operation.Single.TheVariants as single
+use Rattle.vh_design_code.specs.declared.code.Goes.{Goes}
+use Rattle.vh_design_code.specs.declared.code.Instruction.{Instruction}
+use Rattle.vh_design_code.specs.declared.operation.Operation.{Operation}
+use Rattle.vh_design_code.specs.declared.operation.Operation.TheVariants as op
+use Rattle.vh_design_code.specs.declared.operation.Single.{Single}
+use Rattle.vh_design_code.specs.declared.operation.Single.TheVariants as single
 use Rattle.vh_design.specs.Shape.{Shape}
-use Rattle.vh_thread.specs.Control.{next_of}
-use Rattle.vh_turn.specs.declared.process.Process.{Process}
+use Rattle.vh_proc_thread.specs.Control.{next_of}
+use Rattle.vh_proc_turn.specs.declared.process.Process.{Process}
 use Rattle.vh_proc.specs.Processes.{Step, World, Outcome, process_at}
 use Rattle.vh_proc.specs.Steps.{alone, initializing, ending, forking, disabling, single_step, step_at, step_in, step_of_process, step_of}
 

@@ -16,10 +16,10 @@ use Rattle.vh_queue.specs.declared.work.Work.TheVariants as work
 use Rattle.vh_queue.specs.Events as Q
 use Rattle.vh_queue.specs.Events.{Events, entry_of, added, is_full}
 use Rattle.vh_queue.proofs.LawsLemmas.{one-is-gone, others-stand}
-use Rattle.vh_turn.specs.declared.process.Process.{Process}
-use Rattle.vh_code.specs.declared.code.Goes.{Goes}
-use Rattle.vh_thread.specs.Control.{is_inside, disabled}
-use Rattle.vh_turn.specs.Own.{going, arriving}
+use Rattle.vh_proc_turn.specs.declared.process.Process.{Process}
+use Rattle.vh_design_code.specs.declared.code.Goes.{Goes}
+use Rattle.vh_proc_thread.specs.Control.{is_inside, disabled}
+use Rattle.vh_proc_turn.specs.Own.{going, arriving}
 use Rattle.vh_proc.specs.Disabled.{is_among, without_entry, left_by, ended_in, left_in, all_ended, all_left, resumed_but, all_resumed, stopped, disable_all}
 use Rattle.vh_proc.specs.Processes.{Processes, Queued, Scheduled, Step, queued, scheduled, process_at, evaluated_now, noted, with_serial, arrived_in}
 use Rattle.vh_proc.specs.Steps.{before_disable, before_disable_of, disabled_by}

@@ -3,26 +3,26 @@ use Rattle.std.proofs.Common.{◌≡◌, ◌∙◌, ℕ, ◌+◌, ◌⊎◌, ⊎
 use Rattle.vh_base.specs.declared.faults.Fault.{Fault}
 use Rattle.vh_callbacks.specs.Callbacks.{Rise}
 use Rattle.vh_callbacks.proofs.CallbacksLemmas.{rise_without, rise_insert, rise_to}
-use Rattle.vh_code.specs.declared.code.Goes.{Goes}
-use Rattle.vh_code.specs.declared.code.Instruction.{Instruction}
-use Rattle.vh_code.specs.declared.operation.Operation.{Operation}
-use Rattle.vh_code.specs.declared.operation.Operation.TheVariants as op
-use Rattle.vh_code.specs.declared.operation.Single.{Single}
-use Rattle.vh_code.specs.declared.operation.Pause.{Pause}
-use Rattle.vh_code.specs.declared.operation.Pause.TheVariants as pause
-use Rattle.vh_code.specs.declared.operation.Drive.{Drive}
-use Rattle.vh_code.specs.declared.target.Delay.{Delay}
-use Rattle.vh_assign.specs.declared.piece.Piece.{Piece}
-use Rattle.vh_assign.specs.Values.{right_side}
+use Rattle.vh_design_code.specs.declared.code.Goes.{Goes}
+use Rattle.vh_design_code.specs.declared.code.Instruction.{Instruction}
+use Rattle.vh_design_code.specs.declared.operation.Operation.{Operation}
+use Rattle.vh_design_code.specs.declared.operation.Operation.TheVariants as op
+use Rattle.vh_design_code.specs.declared.operation.Single.{Single}
+use Rattle.vh_design_code.specs.declared.operation.Pause.{Pause}
+use Rattle.vh_design_code.specs.declared.operation.Pause.TheVariants as pause
+use Rattle.vh_design_code.specs.declared.operation.Drive.{Drive}
+use Rattle.vh_design_code.specs.declared.target.Delay.{Delay}
+use Rattle.vh_proc_assign.specs.declared.piece.Piece.{Piece}
+use Rattle.vh_proc_assign.specs.Values.{right_side}
 use Rattle.vh_design.specs.Shape.{Shape}
 use Rattle.vh_sense.specs.Sensitivity.{Sensitivity, with_wait, without_wait}
-use Rattle.vh_turn.specs.declared.next.Next.TheVariants as next
-use Rattle.vh_turn.specs.declared.process.Process.{Process}
-use Rattle.vh_turn.specs.Drives.{digits_driven, all_driven, driving}
-use Rattle.vh_turn.specs.Own.{Own, Turn, own_of, arriving}
-use Rattle.vh_turn.specs.Own as O
-use Rattle.vh_turn.specs.Turns.{turn_of, turn_at}
-use Rattle.vh_turn.specs.Turns as T
+use Rattle.vh_proc_turn.specs.declared.next.Next.TheVariants as next
+use Rattle.vh_proc_turn.specs.declared.process.Process.{Process}
+use Rattle.vh_proc_turn.specs.Drives.{digits_driven, all_driven, driving}
+use Rattle.vh_proc_turn.specs.Own.{Own, Turn, own_of, arriving}
+use Rattle.vh_proc_turn.specs.Own as O
+use Rattle.vh_proc_turn.specs.Turns.{turn_of, turn_at}
+use Rattle.vh_proc_turn.specs.Turns as T
 use Rattle.vh_proc.proofs.KinLemmas.{Gives, ok-then, ok-same, some-then, unless-then}
 use Rattle.vh_proc.specs.Disabled.{Stopped, stopped, left_in, ended_in, all_ended, all_left, all_resumed, all_stopped, disable_all}
 use Rattle.vh_proc.specs.Processes.{Scheduled, Step, World, queued, process_at, without_process, changed, joined}

@@ -3,8 +3,8 @@ use Rattle.std.specs.Prelude.{ℕ, ◌+◌, ◌-◌, ℤ, pos, negsuc, nat_lt, i
 use Rattle.vh_logic.specs.declared.digits.Digit.{Digit}
 use Rattle.vh_logic.specs.declared.digits.Digit.TheVariants.{X}
 use Rattle.vh_logic.specs.Vector.{Vector, width_of}
-use Rattle.vh_assign.specs.declared.piece.Piece.{Piece}
-use Rattle.vh_assign.specs.Assigned.{with_digits}
+use Rattle.vh_proc_assign.specs.declared.piece.Piece.{Piece}
+use Rattle.vh_proc_assign.specs.Assigned.{with_digits}
 
 -- An object that takes a piece, or none.
 abbrev pub taken : Option Piece → Vector → Vector

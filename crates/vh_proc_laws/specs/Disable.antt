@@ -4,8 +4,8 @@ use Rattle.vh_design.specs.Shape.{Shape}
 use Rattle.vh_callbacks.specs.Callbacks.{Rise}
 use Rattle.vh_queue.specs.Events.{entry_of}
 use Rattle.vh_sense.specs.Sensitivity.{Sensitivity, wait_of}
-use Rattle.vh_thread.specs.Control.{is_inside, disabled}
-use Rattle.vh_turn.specs.declared.process.Process.{Process}
+use Rattle.vh_proc_thread.specs.Control.{is_inside, disabled}
+use Rattle.vh_proc_turn.specs.declared.process.Process.{Process}
 use Rattle.vh_proc.specs.Processes.{Processes, Scheduled, process_at}
 
 -- Each process stands once, by rising numbers below the next one, and what has begun a branch has a lesser number.

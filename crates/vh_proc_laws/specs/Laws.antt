@@ -4,11 +4,11 @@ use Rattle.std.specs.Prelude.{◌≡◌, ℕ, ◌≤◌, ◌<◌, ℤ, ◌⊎◌
 use Rattle.vh_base.specs.declared.orders.Object.{Object}
 use Rattle.vh_logic.specs.declared.digits.Digit.TheVariants.{X}
 use Rattle.vh_logic.specs.Vector.{Vector, width_of}
-use Rattle.vh_assign.specs.Pieces.{piece_at}
+use Rattle.vh_proc_assign.specs.Pieces.{piece_at}
 use Rattle.vh_design.specs.Shape.{Shape}
-use Rattle.vh_turn.specs.declared.process.Process.{Process}
+use Rattle.vh_proc_turn.specs.declared.process.Process.{Process}
 use Rattle.vh_proc.specs.Disabled.{is_among, stopped}
-use Rattle.vh_code.specs.declared.code.Goes.{Goes}
+use Rattle.vh_design_code.specs.declared.code.Goes.{Goes}
 use Rattle.vh_sense.specs.Sensitivity.{Sensitivity, IsOpening, after_woken}
 use Rattle.vh_proc.specs.Processes.{Processes, Step, World, opening, process_at, noted, arrived_in, scheduled}
 use Rattle.vh_proc.specs.Steps.{step_of, before_disable, disabling}

@@ -6,7 +6,7 @@ ghost use Rattle.vh_queue.specs.Serials.{later_of, last_of};
 
 use crate::marks::Marks;
 use crate::region::Region::{Active, Inactive, Monitor, Nonblocking};
-use vh_near::Near;
+use vh_queue_maps::Near;
 
 // Where an entry with a time waits: by its time, its region's rank and its serial.
 #[derive(Clone, Copy, PartialEq, Eq, PartialOrd, Ord)]

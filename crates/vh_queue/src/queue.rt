@@ -18,7 +18,7 @@ use crate::work::Work;
 use std::alloc::Global;
 use std::marker::Model;
 use vh_base::{MOST_ENTRIES, MOST_NUMBERS, NoMemory, Serial};
-use vh_near::Recent;
+use vh_queue_maps::Recent;
 
 /// The event queue, which contracts see as `Events`: its entries by rising serial, the
 /// next serial, and the present time. Inside, entries stay as they were added; they wait in sets that are

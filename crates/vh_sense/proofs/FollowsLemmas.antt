@@ -18,21 +18,21 @@ use Rattle.std.specs.Ordering.{nat_cmp, bool_cmp, ordering_then, match_ordering,
 use Rattle.std.specs.declared.cmp.Ordering.{Ordering}
 use Rattle.std.specs.declared.cmp.Ordering.TheVariants.{Less, Equal, Greater}
 use Rattle.std.specs.declared.ops.Bound.TheVariants.{Unbounded}
-use Rattle.vh_nodes.specs.declared.driver.DriverInfo.{DriverInfo}
-use Rattle.vh_nodes.specs.declared.expr.ExprNode.{ExprNode}
-use Rattle.vh_nodes.specs.declared.object.ObjectInfo.{ObjectInfo}
-use Rattle.vh_nodes.specs.Fits.{has_kind, before}
-use Rattle.vh_nodes.specs.Kinds.{is_forcible, is_variable}
-use Rattle.vh_nodes.proofs.FitsLemmas.{and_left, and_right}
-use Rattle.vh_code.specs.declared.code.Code.{Code}
-use Rattle.vh_code.specs.declared.code.Instruction.{Instruction}
-use Rattle.vh_code.specs.declared.codes.Limits.{Limits}
-use Rattle.vh_code.specs.declared.operation.Operation.{Operation}
-use Rattle.vh_code.specs.declared.operation.Operation.TheVariants as operation
-use Rattle.vh_code.specs.declared.operation.Single.{Single}
-use Rattle.vh_code.specs.declared.operation.Single.TheVariants as single
-use Rattle.vh_code.specs.Codes.{fits_code, fits_instruction, fits_blocks}
-use Rattle.vh_code.specs.Operations.{fits_goes, fits_operation, fits_single}
+use Rattle.vh_design_nodes.specs.declared.driver.DriverInfo.{DriverInfo}
+use Rattle.vh_design_nodes.specs.declared.expr.ExprNode.{ExprNode}
+use Rattle.vh_design_nodes.specs.declared.object.ObjectInfo.{ObjectInfo}
+use Rattle.vh_design_nodes.specs.Fits.{has_kind, before}
+use Rattle.vh_design_nodes.specs.Kinds.{is_forcible, is_variable}
+use Rattle.vh_design_nodes.proofs.FitsLemmas.{and_left, and_right}
+use Rattle.vh_design_code.specs.declared.code.Code.{Code}
+use Rattle.vh_design_code.specs.declared.code.Instruction.{Instruction}
+use Rattle.vh_design_code.specs.declared.codes.Limits.{Limits}
+use Rattle.vh_design_code.specs.declared.operation.Operation.{Operation}
+use Rattle.vh_design_code.specs.declared.operation.Operation.TheVariants as operation
+use Rattle.vh_design_code.specs.declared.operation.Single.{Single}
+use Rattle.vh_design_code.specs.declared.operation.Single.TheVariants as single
+use Rattle.vh_design_code.specs.Codes.{fits_code, fits_instruction, fits_blocks}
+use Rattle.vh_design_code.specs.Operations.{fits_goes, fits_operation, fits_single}
 use Rattle.vh_sense.specs.declared.follow.Follow.{Follow}
 use Rattle.vh_sense.specs.declared.follow.Key.{Key}
 use Rattle.vh_sense.specs.contracts.follow.KeyOrd.TheImpl.{cmp-value}

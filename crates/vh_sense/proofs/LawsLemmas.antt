@@ -18,7 +18,7 @@ use Rattle.std.specs.Option.{is_some}
 use Rattle.std.specs.Ordering.{nat_cmp, is_lt, is_eq, ordering_reverse, match_ordering}
 use Rattle.std.specs.declared.cmp.Ordering.{Ordering}
 use Rattle.std.specs.declared.cmp.Ordering.TheVariants.{Less, Equal, Greater}
-use Rattle.vh_code.specs.declared.change.Change.{Change}
+use Rattle.vh_design_code.specs.declared.change.Change.{Change}
 use Rattle.vh_sense.specs.declared.follow.Follow.{Follow}
 use Rattle.vh_sense.specs.Waits.{is_met_at}
 use Rattle.vh_sense.specs.Reads.{reads}

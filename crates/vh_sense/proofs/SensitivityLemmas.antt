@@ -18,9 +18,9 @@ use Rattle.std.specs.Set.{is_member}
 use Rattle.std.specs.declared.cmp.Ordering.TheVariants.{Less, Equal, Greater}
 use Rattle.std.specs.declared.ops.Bound.{Bound}
 use Rattle.std.specs.declared.ops.Bound.TheVariants.{Unbounded}
-use Rattle.vh_code.specs.declared.change.Change.{Change}
-use Rattle.vh_code.specs.declared.wait.Term.{Term}
-use Rattle.vh_code.specs.declared.wait.WaitInfo.{WaitInfo}
+use Rattle.vh_design_code.specs.declared.change.Change.{Change}
+use Rattle.vh_design_code.specs.declared.wait.Term.{Term}
+use Rattle.vh_design_code.specs.declared.wait.WaitInfo.{WaitInfo}
 use Rattle.vh_sense.specs.Waits.{object_of, is_met_by, meets, met_by, is_met_at}
 use Rattle.vh_sense.specs.declared.follow.Follow.{Follow}
 use Rattle.vh_sense.specs.declared.follow.Key.{Key}

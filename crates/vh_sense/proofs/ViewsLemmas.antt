@@ -13,14 +13,14 @@ use Rattle.std.specs.List.Sorted.{IsStrictlySortedBy}
 use Rattle.std.specs.Map.{keys_of, lookup}
 use Rattle.std.specs.Ordering.{nat_cmp, is_eq}
 use Rattle.std.specs.declared.cmp.Ordering.TheVariants.{Less, Equal, Greater}
-use Rattle.vh_nodes.specs.declared.object.ObjectInfo.{ObjectInfo}
-use Rattle.vh_nodes.specs.Fits.{has_kind, is_width}
-use Rattle.vh_nodes.specs.Kinds.{is_vector, is_memory, is_event}
-use Rattle.vh_nodes.proofs.FitsLemmas.{and_left, and_right, has_kind-inside}
-use Rattle.vh_code.specs.declared.wait.Term.{Term}
-use Rattle.vh_code.specs.declared.wait.Term.TheVariants as term
-use Rattle.vh_code.specs.declared.wait.WaitInfo.{WaitInfo}
-use Rattle.vh_code.specs.Codes.{fits_term, fits_wait}
+use Rattle.vh_design_nodes.specs.declared.object.ObjectInfo.{ObjectInfo}
+use Rattle.vh_design_nodes.specs.Fits.{has_kind, is_width}
+use Rattle.vh_design_nodes.specs.Kinds.{is_vector, is_memory, is_event}
+use Rattle.vh_design_nodes.proofs.FitsLemmas.{and_left, and_right, has_kind-inside}
+use Rattle.vh_design_code.specs.declared.wait.Term.{Term}
+use Rattle.vh_design_code.specs.declared.wait.Term.TheVariants as term
+use Rattle.vh_design_code.specs.declared.wait.WaitInfo.{WaitInfo}
+use Rattle.vh_design_code.specs.Codes.{fits_term, fits_wait}
 use Rattle.vh_design.specs.Shape.{Shape}
 use Rattle.vh_design.specs.Validity.{IsValid}
 use Rattle.vh_sense.specs.declared.follow.Key.{Key}

@@ -4,8 +4,8 @@ use Rattle.vh_logic.specs.declared.digits.Digit.{Digit}
 use Rattle.vh_logic.specs.declared.digits.Digit.TheVariants.{Zero, One, X, Z}
 use Rattle.vh_logic.specs.Digit.{is_zero, is_one, is_same}
 use Rattle.vh_logic.specs.Vector.{Vector, all_places}
-use Rattle.vh_code.specs.declared.wait.Edge.{Edge}
-use Rattle.vh_code.specs.declared.wait.Edge.TheVariants as edge
+use Rattle.vh_design_code.specs.declared.wait.Edge.{Edge}
+use Rattle.vh_design_code.specs.declared.wait.Edge.TheVariants as edge
 
 -- `posedge`: from 0 to 1, x or z, and from x or z to 1. (9.7.2)
 abbrev pub is_rising : Digit → Digit → Bool

@@ -3,7 +3,7 @@ use Rattle.std.specs.Prelude.{◌≡◌, ◌≢◌, ℕ, true, false, List, [], 
 use Rattle.std.specs.List.Sorted.{IsStrictlySortedBy}
 use Rattle.std.specs.Map.{keys_of}
 use Rattle.std.specs.Ordering.{nat_cmp}
-use Rattle.vh_code.specs.declared.change.Change.{Change}
+use Rattle.vh_design_code.specs.declared.change.Change.{Change}
 use Rattle.vh_design.specs.Shape.{Shape}
 use Rattle.vh_sense.specs.declared.follow.Follow.{Follow}
 use Rattle.vh_sense.specs.Waits.{is_met_at}

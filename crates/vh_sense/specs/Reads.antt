@@ -1,9 +1,9 @@
 -- Which objects an expression reads; a memory counts with all its words. (IEEE 1364-2005, 5.2 and 9.3.2)
 use Rattle.std.specs.Prelude.{ℕ, zero, suc, Bool, true, false, ◌||◌, ◌==◌, List, Option, Some, None, length, slice_get}
 use Rattle.std.specs.List.{list_any}
-use Rattle.vh_nodes.specs.declared.expr.ExprKind.{ExprKind}
-use Rattle.vh_nodes.specs.declared.expr.ExprKind.TheVariants as kind
-use Rattle.vh_nodes.specs.declared.expr.ExprNode.{ExprNode}
+use Rattle.vh_design_nodes.specs.declared.expr.ExprKind.{ExprKind}
+use Rattle.vh_design_nodes.specs.declared.expr.ExprKind.TheVariants as kind
+use Rattle.vh_design_nodes.specs.declared.expr.ExprNode.{ExprNode}
 use Rattle.vh_design.specs.Laws.{parts_of}
 
 -- The object whose value an expression itself reads, where it reads one: whole, in part, or a word of it. A call of a

@@ -2,10 +2,10 @@
 use Rattle.std.specs.Prelude.{ℕ, Bool, true, false, ◌&&◌, ◌==◌, List, Option, Some, None, slice_get}
 use Rattle.std.specs.List.{list_any}
 use Rattle.std.specs.Option.{option_and_then}
-use Rattle.vh_code.specs.declared.change.Change.{Change}
-use Rattle.vh_code.specs.declared.wait.Term.{Term}
-use Rattle.vh_code.specs.declared.wait.Term.TheVariants as term
-use Rattle.vh_code.specs.declared.wait.WaitInfo.{WaitInfo}
+use Rattle.vh_design_code.specs.declared.change.Change.{Change}
+use Rattle.vh_design_code.specs.declared.wait.Term.{Term}
+use Rattle.vh_design_code.specs.declared.wait.Term.TheVariants as term
+use Rattle.vh_design_code.specs.declared.wait.WaitInfo.{WaitInfo}
 use Rattle.vh_sense.specs.Edges.{is_change}
 
 -- The object that a term names. (own)

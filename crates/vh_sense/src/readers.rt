@@ -1,6 +1,6 @@
 ghost use Rattle.std.specs.Prelude.{◌≡◌, ◌<◌, ◌==◌, ℕ, List, [], ◌∷◌, true, length, OnOk, IfOk, slice_get};
 ghost use Rattle.std.specs.List.{flat_map, range_with_len};
-ghost use Rattle.vh_nodes.specs.Widths.{operands};
+ghost use Rattle.vh_design_nodes.specs.Widths.{operands};
 ghost use Rattle.vh_design.specs.Validity.{CodeFits, body_at};
 ghost use Rattle.vh_design.specs.Laws.{select_exprs, selected_exprs, parts_of};
 ghost use Rattle.vh_sense.specs.Reads.{object_in, is_the, reads_below, reads};

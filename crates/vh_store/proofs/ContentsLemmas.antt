@@ -5,7 +5,7 @@ use Rattle.std.specs.List.{fold}
 use Rattle.std.proofs.lemmas.List.{at_drop_more, map-set, map-append, take_more}
 use Rattle.std.proofs.lemmas.Bool.Decides.{nat_tests}
 use Rattle.std.proofs.lemmas.Option.{slice_get-map, slice_get_past, slice_get_within, get_or_from_slice_get}
-use Rattle.vh_nodes.proofs.FitsLemmas.{and_left, and_right}
+use Rattle.vh_design_nodes.proofs.FitsLemmas.{and_left, and_right}
 use Rattle.std.specs.Map.{lookup, set_value}
 use Rattle.vh_logic.specs.declared.digits.Digit.{Digit}
 use Rattle.vh_logic.specs.declared.digits.Digit.TheVariants.{Zero, One, X, Z}
@@ -13,10 +13,10 @@ use Rattle.vh_logic.specs.Digit.{is_same, test_digit}
 use Rattle.vh_logic.specs.Compare.{case_equality}
 use Rattle.vh_logic.specs.Vector.{Vector, width_of, all_places}
 use Rattle.vh_logic.proofs.Tables.{same_digit}
-use Rattle.vh_nodes.specs.Fits.{same_sign}
+use Rattle.vh_design_nodes.specs.Fits.{same_sign}
 use Rattle.vh_store.specs.declared.record.Record.{Record as Kept}
 use Rattle.vh_store.specs.Contents.{Record, with_record, same_value}
-use Rattle.vh_nodes.specs.declared.driver.DriverInfo.{DriverInfo}
+use Rattle.vh_design_nodes.specs.declared.driver.DriverInfo.{DriverInfo}
 use Rattle.vh_store.specs.Opening.{count_in, count_at, Wired, wired}
 use Rattle.vh_store.specs.Views.{record_of}
 

@@ -10,9 +10,9 @@ use Rattle.vh_logic.specs.declared.digits.Digit.TheVariants.{Z}
 use Rattle.vh_logic.specs.Vector.{Vector, width_of, filled, zip_digits}
 use Rattle.vh_logic.specs.Digit.{is_same}
 use Rattle.vh_logic.proofs.Tables.{same_digit, all_digits, at_digit}
-use Rattle.vh_nodes.specs.declared.object.NetType.{NetType}
-use Rattle.vh_nodes.specs.declared.object.NetType.TheVariants as net
-use Rattle.vh_nodes.proofs.FitsLemmas.{and_left}
+use Rattle.vh_design_nodes.specs.declared.object.NetType.{NetType}
+use Rattle.vh_design_nodes.specs.declared.object.NetType.TheVariants as net
+use Rattle.vh_design_nodes.proofs.FitsLemmas.{and_left}
 use Rattle.vh_store.specs.declared.net.Driven.{Driven}
 use Rattle.vh_store.specs.Resolution.{wire_digit, wired_and_digit, wired_or_digit, digit_joined, digits_inside, placed, with_driver}
 use Rattle.vh_store.specs.Laws.{digit_given, JoinsDigits, HasNoOrder}

@@ -5,11 +5,11 @@ use Rattle.std.specs.Option.{option_map}
 use Rattle.std.proofs.lemmas.Bool.{eqb-true, eqb-false}
 use Rattle.std.proofs.lemmas.List.{append-nil}
 use Rattle.std.proofs.lemmas.Option.{slice_get-map}
-use Rattle.vh_nodes.specs.declared.driver.DriverInfo.{DriverInfo}
-use Rattle.vh_nodes.specs.declared.object.Kind.{Kind}
-use Rattle.vh_nodes.specs.declared.object.Kind.TheVariants as of
-use Rattle.vh_nodes.specs.declared.object.ObjectInfo.{ObjectInfo}
-use Rattle.vh_nodes.specs.Kinds.{rank, is_net, is_memory}
+use Rattle.vh_design_nodes.specs.declared.driver.DriverInfo.{DriverInfo}
+use Rattle.vh_design_nodes.specs.declared.object.Kind.{Kind}
+use Rattle.vh_design_nodes.specs.declared.object.Kind.TheVariants as of
+use Rattle.vh_design_nodes.specs.declared.object.ObjectInfo.{ObjectInfo}
+use Rattle.vh_design_nodes.specs.Kinds.{rank, is_net, is_memory}
 use Rattle.vh_design.specs.Shape.{Shape}
 use Rattle.vh_store.specs.declared.net.Driven.{Driven}
 use Rattle.vh_store.specs.declared.store.DriverPlace.{DriverPlace}

@@ -9,9 +9,9 @@ use Rattle.vh_base.specs.declared.orders.Object.{Object}
 use Rattle.vh_logic.specs.declared.digits.Digit.TheVariants.{X}
 use Rattle.vh_logic.specs.Digit.{is_same}
 use Rattle.vh_logic.specs.Vector.{Vector, width_of, filled, all_places}
-use Rattle.vh_nodes.specs.declared.object.NetType.{NetType}
-use Rattle.vh_nodes.specs.Fits.{same_sign}
-use Rattle.vh_code.specs.declared.change.Change.{Change}
+use Rattle.vh_design_nodes.specs.declared.object.NetType.{NetType}
+use Rattle.vh_design_nodes.specs.Fits.{same_sign}
+use Rattle.vh_design_code.specs.declared.change.Change.{Change}
 use Rattle.vh_store.specs.declared.net.Driven.{Driven}
 use Rattle.vh_store.specs.declared.record.Held.{Held}
 use Rattle.vh_store.specs.declared.store.DriverPlace.{DriverPlace}

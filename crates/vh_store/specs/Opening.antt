@@ -5,17 +5,17 @@ use Rattle.std.specs.List.{fold}
 use Rattle.vh_logic.specs.declared.digits.Digit.TheVariants.{X, Z}
 use Rattle.vh_logic.specs.Vector.{Vector, filled}
 use Rattle.vh_logic.specs.Parts.{resized}
-use Rattle.vh_nodes.specs.declared.expr.ExprKind.{ExprKind}
-use Rattle.vh_nodes.specs.declared.expr.ExprKind.TheVariants as kind
-use Rattle.vh_nodes.specs.declared.expr.ExprNode.{ExprNode}
-use Rattle.vh_nodes.specs.declared.object.Detail.{Detail}
-use Rattle.vh_nodes.specs.declared.object.Detail.TheVariants as detail
-use Rattle.vh_nodes.specs.declared.object.ObjectInfo.{ObjectInfo}
-use Rattle.vh_nodes.specs.declared.object.NetType.{NetType}
-use Rattle.vh_nodes.specs.declared.object.NetType.TheVariants as type
-use Rattle.vh_nodes.specs.declared.driver.DriverInfo.{DriverInfo}
-use Rattle.vh_nodes.specs.Fits.{lowest_of}
-use Rattle.vh_nodes.specs.Kinds.{is_memory, is_net}
+use Rattle.vh_design_nodes.specs.declared.expr.ExprKind.{ExprKind}
+use Rattle.vh_design_nodes.specs.declared.expr.ExprKind.TheVariants as kind
+use Rattle.vh_design_nodes.specs.declared.expr.ExprNode.{ExprNode}
+use Rattle.vh_design_nodes.specs.declared.object.Detail.{Detail}
+use Rattle.vh_design_nodes.specs.declared.object.Detail.TheVariants as detail
+use Rattle.vh_design_nodes.specs.declared.object.ObjectInfo.{ObjectInfo}
+use Rattle.vh_design_nodes.specs.declared.object.NetType.{NetType}
+use Rattle.vh_design_nodes.specs.declared.object.NetType.TheVariants as type
+use Rattle.vh_design_nodes.specs.declared.driver.DriverInfo.{DriverInfo}
+use Rattle.vh_design_nodes.specs.Fits.{lowest_of}
+use Rattle.vh_design_nodes.specs.Kinds.{is_memory, is_net}
 use Rattle.vh_design.specs.Shape.{Shape}
 use Rattle.vh_store.specs.declared.net.Driven.{Driven}
 use Rattle.vh_store.specs.declared.store.DriverPlace.{DriverPlace}

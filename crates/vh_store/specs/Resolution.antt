@@ -6,8 +6,8 @@ use Rattle.vh_logic.specs.declared.digits.Digit.TheVariants.{Z}
 use Rattle.vh_logic.specs.Digit.{digit_and, digit_or, digit_merge}
 use Rattle.vh_logic.specs.Vector.{Vector, width_of, zip_digits}
 use Rattle.vh_logic.specs.Parts.{part_of, replaced}
-use Rattle.vh_nodes.specs.declared.object.NetType.{NetType}
-use Rattle.vh_nodes.specs.declared.object.NetType.TheVariants as net
+use Rattle.vh_design_nodes.specs.declared.object.NetType.{NetType}
+use Rattle.vh_design_nodes.specs.declared.object.NetType.TheVariants as net
 use Rattle.vh_store.specs.declared.net.Driven.{Driven}
 
 -- A z yields, equal digits stay, and all else is x. (4.6.1)

@@ -9,8 +9,8 @@ use crate::same::is_same_value;
 use std::alloc::Global;
 use std::marker::Model;
 use vh_base::NoMemory;
+use vh_design_nodes::NetType;
 use vh_logic::{Vec4, replace, select};
-use vh_nodes::NetType;
 
 // A driver of a net: its value, of whose digits so many lie below the net's lowest, and the place
 // of the next.

@@ -5,8 +5,8 @@ ghost use Rattle.vh_store.specs.Contents.{same_value, IsChange};
 
 use vh_base::Object;
 use vh_design::Change;
+use vh_design_nodes::same_sign;
 use vh_logic::{Digit, Vec4, case_equal};
-use vh_nodes::same_sign;
 
 /// Whether two values have the same width, sign and digits.
 pub fn is_same_value(a: &Vec4, b: &Vec4) -> bool

@@ -15,11 +15,11 @@ use vh_app::{Script, Vars};
 use vh_base::{NoMemory, ObjId, Reason};
 use vh_callbacks::Registry;
 use vh_design::{Design, lowest_of};
+use vh_design_names::full_name;
 use vh_dispatch::Dispatch;
 use vh_handles::Handles;
-use vh_names::full_name;
 use vh_orders::{Named, Names, World};
-use vh_simulation::Simulation;
+use vh_proc_simulation::Simulation;
 
 // Every variable of every script is null.
 fn all_vars(alloc: Global, scripts: &[Script]) -> Result<Vec<Vars>, NoMemory>

@@ -1,8 +1,8 @@
 ghost use Rattle.std.specs.Prelude.{◌≡◌, ◌++◌, true, map, OnOk};
 ghost use Rattle.vh_kernel.specs.Occurrences.{change_at, by_made, all_by};
 ghost use Rattle.vh_kernel.specs.Statements.{next_on};
-ghost use Rattle.vh_nodes.specs.Fits.{has_kind};
-ghost use Rattle.vh_nodes.specs.Kinds.{is_event};
+ghost use Rattle.vh_design_nodes.specs.Fits.{has_kind};
+ghost use Rattle.vh_design_nodes.specs.Kinds.{is_event};
 
 use crate::control::{Control, Stack};
 use crate::kernel::Kernel;
@@ -12,8 +12,8 @@ use std::alloc::Global;
 use vh_base::{Cause, NoMemory, ObjId, Object, ProcId};
 use vh_design::{Change, Design, Made};
 use vh_logic::Vec4;
+use vh_proc_simulation::{Next, StepFault};
 use vh_queue::{Entry, Work};
-use vh_simulation::{Next, StepFault};
 
 // The occurrences of a change of an object or a word are pending.
 fn pend_change(
@@ -91,7 +91,7 @@ impl Kernel {
     ghost use Rattle.vh_kernel.specs.Step.{item_move};
     ghost use Rattle.vh_kernel.specs.Outcome.{move_of};
     ghost use Rattle.vh_kernel.specs.Statements.{work_outcome, worked_outcome};
-    ghost use Rattle.vh_simulation.specs.Labels.{worked};
+    ghost use Rattle.vh_proc_simulation.specs.Labels.{worked};
     ghost use Rattle.vh_kernel.specs.Views.{state_of, given_by, Moves};
 
     // A process that was on top of control performs its next label. It stands apart, so that other labels

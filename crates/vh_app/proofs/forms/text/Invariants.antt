@@ -1,5 +1,5 @@
 use Rattle.std.proofs.Common.{◌≡◌, ◌≤◌, ◌++◌, false, length, take, drop}
-use Rattle.vh_script.specs.Spelling.{unescaped}
+use Rattle.vh_app_script.specs.Spelling.{unescaped}
 use Rattle.vh_app.proofs.forms.text.Given as goal
 
 abbrev pub invariant-loop-byte : goal.invariant-loop-byte

@@ -1,7 +1,7 @@
 use Rattle.std.proofs.Common.{◌≡◌, map, drop}
 use Rattle.vh_app.specs.Layout.{with_commands}
-use Rattle.vh_script.specs.Tree.{commands}
-use Rattle.vh_script.specs.Views.{command_tree}
+use Rattle.vh_app_script.specs.Tree.{commands}
+use Rattle.vh_app_script.specs.Views.{command_tree}
 use Rattle.vh_app.proofs.laying.+lay.Given as goal
 
 -- What is laid so far, with the commands that are left, is all of them.

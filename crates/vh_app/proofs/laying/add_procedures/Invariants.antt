@@ -1,7 +1,7 @@
 use Rattle.std.proofs.Common.{◌≡◌, map, drop}
 use Rattle.vh_app.specs.Layout.{with_procedures}
 use Rattle.vh_app.specs.Views.{laid_seen}
-use Rattle.vh_script.specs.Views.{procedure_seen}
+use Rattle.vh_app_script.specs.Views.{procedure_seen}
 use Rattle.vh_app.proofs.laying.add_procedures.Given as goal
 
 -- The procedures so far, with those that are left, are all of them.

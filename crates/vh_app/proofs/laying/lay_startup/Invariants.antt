@@ -1,6 +1,6 @@
 use Rattle.std.proofs.Common.{◌≡◌, ◌++◌, map, drop}
 use Rattle.vh_app.specs.Layout.{asked}
-use Rattle.vh_script.specs.Views.{order_seen}
+use Rattle.vh_app_script.specs.Views.{order_seen}
 use Rattle.vh_app.proofs.laying.lay_startup.Given as goal
 
 -- The orders so far, with those that are left, are all of them.

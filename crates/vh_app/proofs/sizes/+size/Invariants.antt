@@ -1,7 +1,7 @@
 use Rattle.std.proofs.Common.{◌≡◌, ◌+◌, map, drop}
 use Rattle.vh_app.specs.Layout.{sizes_of}
-use Rattle.vh_script.specs.Tree.{commands}
-use Rattle.vh_script.specs.Views.{command_tree}
+use Rattle.vh_app_script.specs.Tree.{commands}
+use Rattle.vh_app_script.specs.Views.{command_tree}
 use Rattle.vh_app.proofs.sizes.+size.Given as goal
 
 -- The sum so far, with the commands that are left, is the whole.

@@ -1,6 +1,6 @@
 use Rattle.std.proofs.Common.{◌≡◌, ◌∙◌, ◌<◌, ◌++◌, ◌∷◌, [], true, length, rules}
-use Rattle.vh_nodes.specs.Fits.{is_width}
-use Rattle.vh_nodes.specs.Widths.{kind_width, kind_signed}
+use Rattle.vh_design_nodes.specs.Fits.{is_width}
+use Rattle.vh_design_nodes.specs.Widths.{kind_width, kind_signed}
 use Rattle.vh_bind.specs.declared.nodes.TheConstants.{MOST_EXPRS}
 use Rattle.vh_bind.specs.Nodes.{node_of}
 use Rattle.vh_bind.specs.Scopes.{objects_of, precision_of}

@@ -1,6 +1,6 @@
 use Rattle.std.proofs.Common.{◌∙◌, ap, length}
-use Rattle.vh_nodes.specs.declared.expr.ExprKind.{ExprKind}
-use Rattle.vh_nodes.specs.Fits.{fits_kind}
+use Rattle.vh_design_nodes.specs.declared.expr.ExprKind.{ExprKind}
+use Rattle.vh_design_nodes.specs.Fits.{fits_kind}
 use Rattle.vh_bind.specs.Scopes.{objects_of, precision_of}
 use Rattle.vh_bind.specs.Views.{scope_seen}
 use Rattle.vh_bind.proofs.NodesLemmas.{chain_fits}

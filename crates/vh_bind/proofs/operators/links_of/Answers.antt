@@ -1,6 +1,6 @@
 use Rattle.std.proofs.Common.{◌≡◌, ◌∙◌, ◌++◌, [], List, inl, inr, sym, ap}
 use Rattle.std.proofs.lemmas.List.{append-nil}
-use Rattle.vh_nodes.specs.declared.expr.Link.{Link}
+use Rattle.vh_design_nodes.specs.declared.expr.Link.{Link}
 use Rattle.vh_bind.specs.Nodes.{links_by}
 use Rattle.vh_bind.proofs.NodesLemmas.{links-no_operator, links-no_operand}
 use Rattle.vh_bind.proofs.operators.links_of.Goals as goal

@@ -1,6 +1,6 @@
 use Rattle.std.proofs.Common.{◌≡◌, ◌∙◌, rules}
 use Rattle.std.specs.Prelude.{max}
-use Rattle.vh_nodes.specs.Widths.{width_of, signed_of}
+use Rattle.vh_design_nodes.specs.Widths.{width_of, signed_of}
 use Rattle.vh_eval.specs.Value.{value_of}
 use Rattle.vh_store.specs.Opening.{IsOpening}
 use Rattle.vh_bind.specs.Constants.{bare}

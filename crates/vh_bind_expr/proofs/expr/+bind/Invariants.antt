@@ -1,6 +1,6 @@
 use Rattle.std.proofs.Common.{◌≡◌, ◌≤◌, ◌*◌, ◌+◌, drop, length, true}
 use Rattle.std.specs.Prelude.{map}
-use Rattle.vh_nodes.specs.Fits.{all_before}
+use Rattle.vh_design_nodes.specs.Fits.{all_before}
 use Rattle.vh_ast.specs.Expressions.{exprs}
 use Rattle.vh_ast.specs.Views.{expr_tree}
 use Rattle.vh_bind.specs.declared.scope.Mode.TheVariants as mode

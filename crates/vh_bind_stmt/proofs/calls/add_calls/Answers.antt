@@ -1,7 +1,7 @@
 use Rattle.std.proofs.Common.{◌≡◌, ◌∙◌, ◌<◌, ◌≤◌, ◌++◌, [], length, sym, ap, arith, rules}
 use Rattle.std.proofs.lemmas.List.{append-nil, append_assoc}
 use Rattle.std.specs.Prelude.{List}
-use Rattle.vh_code.specs.declared.operation.Operation.{Operation}
+use Rattle.vh_design_code.specs.declared.operation.Operation.{Operation}
 use Rattle.vh_bind_stmt.specs.Views.{surroundings_seen}
 use Rattle.vh_bind_stmt.proofs.CallsLemmas.{calls-more, calls-none}
 use Rattle.vh_bind_stmt.proofs.calls.add_calls.Goals as goal

@@ -1,6 +1,6 @@
 use Rattle.std.proofs.Common.{◌≡◌, ◌∙◌, ◌<◌, ◌≤◌, ◌++◌, [], length, sym, ap, arith, rules}
 use Rattle.std.proofs.lemmas.List.{append-nil, append_assoc}
-use Rattle.vh_code.specs.declared.wait.Term.{Term}
+use Rattle.vh_design_code.specs.declared.wait.Term.{Term}
 use Rattle.std.specs.Prelude.{List}
 use Rattle.vh_bind_stmt.proofs.CallsLemmas.{reads-more, reads-none}
 use Rattle.vh_bind_stmt.proofs.calls.reads_of.Goals as goal

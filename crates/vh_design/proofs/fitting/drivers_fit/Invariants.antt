@@ -1,4 +1,4 @@
-use Rattle.vh_nodes.specs.Fits.{fits_driver}
+use Rattle.vh_design_nodes.specs.Fits.{fits_driver}
 use Rattle.vh_design.proofs.ValidityLemmas.{FitBelow}
 use Rattle.vh_design.proofs.fitting.drivers_fit.Given as goal
 

@@ -1,5 +1,5 @@
 use Rattle.std.proofs.Common.{refl}
-use Rattle.vh_nodes.specs.Fits.{fits_node}
+use Rattle.vh_design_nodes.specs.Fits.{fits_node}
 use Rattle.vh_design.proofs.ValidityLemmas.{FitBelow-more, AllFit-below}
 use Rattle.vh_design.proofs.fitting.exprs_fit.Goals as goal
 

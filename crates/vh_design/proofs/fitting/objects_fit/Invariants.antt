@@ -1,4 +1,4 @@
-use Rattle.vh_nodes.specs.Fits.{fits_object}
+use Rattle.vh_design_nodes.specs.Fits.{fits_object}
 use Rattle.vh_design.proofs.ValidityLemmas.{FitBelow}
 use Rattle.vh_design.proofs.fitting.objects_fit.Given as goal
 

@@ -1,5 +1,5 @@
 use Rattle.std.proofs.Common.{length, refl}
-use Rattle.vh_code.specs.Codes.{fits_show}
+use Rattle.vh_design_code.specs.Codes.{fits_show}
 use Rattle.vh_design.proofs.ValidityLemmas.{FitBelow-more, AllFit-below, AllFit-at}
 use Rattle.vh_design.proofs.fitting.shows_fit.Goals as goal
 

@@ -1,5 +1,5 @@
 use Rattle.std.proofs.Common.{length}
-use Rattle.vh_code.specs.Codes.{fits_show}
+use Rattle.vh_design_code.specs.Codes.{fits_show}
 use Rattle.vh_design.proofs.ValidityLemmas.{FitBelow}
 use Rattle.vh_design.proofs.fitting.shows_fit.Given as goal
 

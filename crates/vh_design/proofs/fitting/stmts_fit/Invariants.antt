@@ -1,4 +1,4 @@
-use Rattle.vh_code.specs.Codes.{fits_statement}
+use Rattle.vh_design_code.specs.Codes.{fits_statement}
 use Rattle.vh_design.proofs.ValidityLemmas.{FitBelow}
 use Rattle.vh_design.proofs.fitting.stmts_fit.Given as goal
 

@@ -1,7 +1,7 @@
 use Rattle.std.proofs.Common.{◌≡◌, map, drop}
 use Rattle.std.specs.List.{list_any}
 use Rattle.vh_ast.specs.Views.{conn_tree}
-use Rattle.vh_walk.specs.Overrides.{is_ordered}
+use Rattle.vh_elab_walk.specs.Overrides.{is_ordered}
 use Rattle.vh_elab.proofs.connected.any_ordered.Given as goal
 
 -- Those so far are none: whether one is, is whether one of those is that are left.

@@ -1,6 +1,6 @@
 use Rattle.std.proofs.Common.{◌≡◌, map, drop}
 use Rattle.vh_ast.specs.Views.{conn_tree, module_tree}
-use Rattle.vh_ports.specs.Views.{ids_seen}
+use Rattle.vh_elab_ports.specs.Views.{ids_seen}
 use Rattle.vh_elab.specs.Connected.{ports_coded}
 use Rattle.vh_elab.specs.Views.{HasSound, IsSame, around_of, coding_of, ready_of}
 use Rattle.vh_elab.proofs.connected.code_row.Given as goal

@@ -1,5 +1,5 @@
 use Rattle.std.proofs.Common.{◌≡◌, map, drop}
-use Rattle.vh_walk.specs.Views.{placed_seen, source_seen}
+use Rattle.vh_elab_walk.specs.Views.{placed_seen, source_seen}
 use Rattle.vh_elab.specs.Elaborated.{instances_made}
 use Rattle.vh_elab.specs.Views.{AreSoundIn, coding_seen, ready_seen}
 use Rattle.vh_elab.proofs.design.code_instances.Given as goal

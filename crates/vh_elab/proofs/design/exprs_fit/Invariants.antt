@@ -1,5 +1,5 @@
 use Rattle.std.proofs.Common.{◌≡◌, drop}
-use Rattle.vh_nodes.specs.Fits.{fits_node}
+use Rattle.vh_design_nodes.specs.Fits.{fits_node}
 use Rattle.vh_elab.specs.Fitting.{all_fit, exprs_fit}
 use Rattle.vh_elab.proofs.design.exprs_fit.Given as goal
 

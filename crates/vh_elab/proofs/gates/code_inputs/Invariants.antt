@@ -1,6 +1,6 @@
 use Rattle.std.proofs.Common.{◌≡◌, length, true, map, drop}
 use Rattle.std.specs.Prelude.{IfSome}
-use Rattle.vh_nodes.specs.Fits.{all_before}
+use Rattle.vh_design_nodes.specs.Fits.{all_before}
 use Rattle.vh_ast.specs.Views.{expr_tree}
 use Rattle.vh_bind.specs.Views.{numbers_of}
 use Rattle.vh_elab.specs.Coded.{inputs_coded}

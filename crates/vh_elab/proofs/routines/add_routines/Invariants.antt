@@ -1,5 +1,5 @@
 use Rattle.std.proofs.Common.{◌≡◌, drop}
-use Rattle.vh_sites.specs.Views.{all_seen}
+use Rattle.vh_elab_sites.specs.Views.{all_seen}
 use Rattle.vh_elab.specs.Routines.{routines_in}
 use Rattle.vh_elab.specs.Views.{routines_seen}
 use Rattle.vh_elab.proofs.routines.add_routines.Given as goal

@@ -1,5 +1,5 @@
 use Rattle.std.proofs.Common.{◌≡◌, ◌++◌, drop}
-use Rattle.vh_sites.specs.Views.{all_seen}
+use Rattle.vh_elab_sites.specs.Views.{all_seen}
 use Rattle.vh_elab.specs.Routines.{arguments_from}
 use Rattle.vh_elab.proofs.routines.arguments_from.Given as goal
 

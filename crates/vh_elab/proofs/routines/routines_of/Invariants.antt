@@ -1,5 +1,5 @@
 use Rattle.std.proofs.Common.{◌≡◌, map, drop}
-use Rattle.vh_walk.specs.Views.{placed_seen}
+use Rattle.vh_elab_walk.specs.Views.{placed_seen}
 use Rattle.vh_elab.specs.Routines.{routines_from, routines_of}
 use Rattle.vh_elab.specs.Views.{routines_seen}
 use Rattle.vh_elab.proofs.routines.routines_of.Given as goal

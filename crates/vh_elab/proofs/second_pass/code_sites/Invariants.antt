@@ -1,6 +1,6 @@
 use Rattle.std.proofs.Common.{◌≡◌, drop}
-use Rattle.vh_sites.specs.Views.{all_seen}
-use Rattle.vh_walk.specs.Views.{source_seen}
+use Rattle.vh_elab_sites.specs.Views.{all_seen}
+use Rattle.vh_elab_walk.specs.Views.{source_seen}
 use Rattle.vh_elab.specs.Elaborated.{sites_coded}
 use Rattle.vh_elab.specs.Views.{AreSoundIn, coding_seen, ready_seen}
 use Rattle.vh_elab.proofs.second_pass.code_sites.Given as goal

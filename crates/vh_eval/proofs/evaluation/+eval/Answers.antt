@@ -1,18 +1,18 @@
 use Rattle.std.proofs.Common.{◌≡◌, ◌∙◌, ◌<◌, ◌≤◌, ◌+◌, ℕ, Bool, true, false, List, Option, drop, sym, ap, subst, arith}
 use Rattle.vh_logic.specs.declared.digits.Digit.{Digit}
 use Rattle.vh_logic.specs.Vector.{Vector, width_of as digits_in}
-use Rattle.vh_nodes.specs.declared.expr.Arithmetic.{Arithmetic}
-use Rattle.vh_nodes.specs.declared.expr.Comparison.{Comparison}
-use Rattle.vh_nodes.specs.declared.expr.ExprKind.{ExprKind}
-use Rattle.vh_nodes.specs.declared.expr.Link.{Link}
-use Rattle.vh_nodes.specs.declared.expr.ExprNode.{ExprNode}
-use Rattle.vh_nodes.specs.declared.expr.Logic.{Logic}
-use Rattle.vh_nodes.specs.declared.expr.Shift.{Shift}
-use Rattle.vh_nodes.specs.declared.expr.Access.TheVariants as access
-use Rattle.vh_nodes.specs.Fits.{fits_kind, fits_word, fits_select}
-use Rattle.vh_nodes.proofs.FitsLemmas.{and_left, and_right}
-use Rattle.vh_nodes.specs.Widths.{width_of, widest, summed, operands, kind_width, object_width}
-use Rattle.vh_nodes.proofs.WidthsLemmas.{widest-first}
+use Rattle.vh_design_nodes.specs.declared.expr.Arithmetic.{Arithmetic}
+use Rattle.vh_design_nodes.specs.declared.expr.Comparison.{Comparison}
+use Rattle.vh_design_nodes.specs.declared.expr.ExprKind.{ExprKind}
+use Rattle.vh_design_nodes.specs.declared.expr.Link.{Link}
+use Rattle.vh_design_nodes.specs.declared.expr.ExprNode.{ExprNode}
+use Rattle.vh_design_nodes.specs.declared.expr.Logic.{Logic}
+use Rattle.vh_design_nodes.specs.declared.expr.Shift.{Shift}
+use Rattle.vh_design_nodes.specs.declared.expr.Access.TheVariants as access
+use Rattle.vh_design_nodes.specs.Fits.{fits_kind, fits_word, fits_select}
+use Rattle.vh_design_nodes.proofs.FitsLemmas.{and_left, and_right}
+use Rattle.vh_design_nodes.specs.Widths.{width_of, widest, summed, operands, kind_width, object_width}
+use Rattle.vh_design_nodes.proofs.WidthsLemmas.{widest-first}
 use Rattle.vh_logic.specs.declared.vector.TheConstants.{MAX_WIDTH}
 use Rattle.vh_logic.specs.Parts.{resized, concatenation}
 use Rattle.vh_logic.specs.Reduce.{truth_of}

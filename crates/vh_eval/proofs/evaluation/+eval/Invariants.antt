@@ -2,7 +2,7 @@
 use Rattle.std.proofs.Common.{◌≡◌, ◌+◌, ◌*◌, ◌≤◌, drop}
 use Rattle.vh_logic.specs.declared.vector.TheConstants.{MAX_WIDTH}
 use Rattle.vh_logic.specs.Vector.{width_of as digits_in}
-use Rattle.vh_nodes.specs.Widths.{summed}
+use Rattle.vh_design_nodes.specs.Widths.{summed}
 use Rattle.vh_eval.specs.Value.{value_below, arithmetic_chain, shift_chain, comparison_chain, logic_chain, joined}
 use Rattle.vh_eval.proofs.evaluation.+eval.Given as goal
 

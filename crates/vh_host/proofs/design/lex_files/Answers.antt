@@ -2,7 +2,7 @@ use Rattle.std.proofs.Common.{◌≡◌, ◌∙◌, ◌+◌, length, drop, ap, s
 use Rattle.std.proofs.lemmas.Result.{err_from_is_err_and}
 use Rattle.vh_lex.specs.declared.fault.LexFault.TheVariants.{NoMemory}
 use Rattle.vh_host.specs.declared.file.TextFile.{TextFile}
-use Rattle.vh_words.specs.Words.{is_design_word}
+use Rattle.vh_host_words.specs.Words.{is_design_word}
 use Rattle.vh_host.specs.Acceptance.{design_files}
 use Rattle.vh_host.specs.Reading.{files_seen}
 use Rattle.vh_host.proofs.Sources.{bytes-at, files-more, file-stops}

@@ -1,7 +1,7 @@
 use Rattle.std.proofs.Common.{List, subst}
 use Rattle.std.specs.declared.alloc.Global.{Global}
 use Rattle.std.specs.Prelude.{String}
-use Rattle.vh_words.specs.Words.{texts}
+use Rattle.vh_host_words.specs.Words.{texts}
 use Rattle.vh_host.specs.Headline.{Accounts}
 use Rattle.vh_host.proofs.JudgingLemmas.{transcribes_of, refuses_of}
 use Rattle.vh_host.proofs.host.run.Goals as goal

@@ -1,4 +1,4 @@
-use Rattle.vh_laws.proofs.LawsLemmas.{runs-keep-laws, opens-fresh}
+use Rattle.vh_kernel_laws.proofs.LawsLemmas.{runs-keep-laws, opens-fresh}
 use Rattle.vh_host.specs.Acceptance.{accepts}
 use Rattle.vh_host.proofs.JudgingLemmas.{no_memory}
 use Rattle.vh_host.proofs.host.run_design.Goals as goal

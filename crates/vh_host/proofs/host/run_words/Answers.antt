@@ -1,6 +1,6 @@
 use Rattle.std.proofs.Common.{refl}
-use Rattle.vh_words.specs.Words.{texts}
-use Rattle.vh_words.specs.Views.{asked}
+use Rattle.vh_host_words.specs.Words.{texts}
+use Rattle.vh_host_words.specs.Views.{asked}
 use Rattle.vh_host.specs.Reading.{files_seen}
 use Rattle.vh_host.proofs.JudgingLemmas.{accounts_files, accounts_long, accounts_failed, accounts_none}
 use Rattle.vh_host.proofs.host.run_words.Goals as goal

@@ -1,7 +1,7 @@
 use Rattle.std.proofs.Common.{◌∷◌, [], ◌∙◌, length-append, arith}
 use Rattle.std.proofs.lemmas.List.{length-map, map-append}
 use Rattle.std.specs.Prelude.{string_bytes}
-use Rattle.vh_words.specs.Words.{texts}
+use Rattle.vh_host_words.specs.Words.{texts}
 use Rattle.vh_host.specs.Reading.{file_seen, files_seen}
 use Rattle.vh_host.proofs.ReadingLemmas.{with_short, with_more, word_at}
 use Rattle.vh_host.proofs.plain.files_with.Goals as goal

@@ -1,5 +1,5 @@
 use Rattle.std.proofs.Common.{◌≡◌, length}
-use Rattle.vh_words.specs.Words.{texts}
+use Rattle.vh_host_words.specs.Words.{texts}
 use Rattle.vh_host.specs.Reading.{files_seen}
 use Rattle.vh_host.proofs.ReadingLemmas.{AreWith}
 use Rattle.vh_host.proofs.plain.files_with.Given as goal

@@ -1,7 +1,7 @@
 use Rattle.std.proofs.Common.{◌≡◌, Option, Some, subst}
 use Rattle.std.specs.Prelude.{IfOk}
-use Rattle.vh_words.specs.Words.{Reading, reading, texts, order_of}
-use Rattle.vh_words.specs.Views.{asked}
+use Rattle.vh_host_words.specs.Words.{Reading, reading, texts, order_of}
+use Rattle.vh_host_words.specs.Views.{asked}
 use Rattle.vh_host.specs.Acceptance.{Verdict, verdict}
 use Rattle.vh_host.specs.Headline.{IsTextBy}
 use Rattle.vh_host.specs.Reading.{files_seen}

@@ -3,7 +3,7 @@ use Rattle.std.proofs.lemmas.List.{length-map, map-append}
 use Rattle.std.specs.Prelude.{string_bytes}
 use Rattle.vh_host.specs.declared.reading.Unread.{Unread}
 use Rattle.vh_host.specs.declared.reading.Unread.TheVariants as unread
-use Rattle.vh_words.specs.Words.{texts}
+use Rattle.vh_host_words.specs.Words.{texts}
 use Rattle.vh_host.specs.Reading.{file_seen, files_seen}
 use Rattle.vh_host.proofs.ReadingLemmas.{read_more, read_all, meets_long, meets_none_long, word_at, word_numbered, answered_same}
 use Rattle.vh_host.proofs.reading.read_files.Goals as goal

@@ -1,5 +1,5 @@
 use Rattle.std.proofs.Common.{◌≡◌, ℕ, List}
-use Rattle.vh_words.specs.Words.{texts}
+use Rattle.vh_host_words.specs.Words.{texts}
 use Rattle.vh_host.specs.Reading.{files_seen}
 use Rattle.vh_host.proofs.ReadingLemmas.{ReadUpTo}
 use Rattle.vh_host.proofs.reading.read_files.Given as goal

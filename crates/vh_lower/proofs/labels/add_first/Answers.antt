@@ -1,6 +1,6 @@
 use Rattle.std.proofs.Common.{rules, sym, refl, append_assoc, ◌≡◌, [], ◌∷◌, ◌++◌}
 use Rattle.std.proofs.lemmas.List.{map-append}
-use Rattle.vh_flow.specs.Views.{flow_tree}
+use Rattle.vh_lower_flow.specs.Views.{flow_tree}
 use Rattle.vh_lower.specs.Labels.{label, from_first}
 use Rattle.vh_lower.proofs.LabelsLemmas.{first-more, more-there}
 use Rattle.vh_lower.proofs.labels.add_first.Goals as goal

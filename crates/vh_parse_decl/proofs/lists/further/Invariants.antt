@@ -1,7 +1,7 @@
 -- What has been read stands in front of what is left.
 use Rattle.std.proofs.Common.{◌≡◌, length, map}
-use Rattle.vh_grammar.specs.Marking.{joined_marks}
-use Rattle.vh_syntax.specs.Parts.{comma_more}
+use Rattle.vh_parse_grammar.specs.Marking.{joined_marks}
+use Rattle.vh_parse_syntax.specs.Parts.{comma_more}
 use Rattle.vh_parse_expr.specs.Views.{read_from}
 use Rattle.vh_parse_decl.proofs.lists.further.Given as goal
 

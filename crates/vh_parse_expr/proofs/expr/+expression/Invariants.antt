@@ -1,11 +1,11 @@
 -- Depth falls first, and then what a construct is made of. What a loop has read stands in front of
 -- what is left.
 use Rattle.std.proofs.Common.{◌≡◌, ℕ, length, ◌+◌, ◌*◌}
-use Rattle.vh_grammar.specs.Reading.{got}
-use Rattle.vh_grammar.specs.Marking.{joined_marks}
+use Rattle.vh_parse_grammar.specs.Reading.{got}
+use Rattle.vh_parse_grammar.specs.Marking.{joined_marks}
 use Rattle.vh_ast.specs.Views.{expr_tree}
-use Rattle.vh_syntax.specs.Expressions.{chain_tail}
-use Rattle.vh_syntax.specs.Parts.{comma_more}
+use Rattle.vh_parse_syntax.specs.Expressions.{chain_tail}
+use Rattle.vh_parse_syntax.specs.Parts.{comma_more}
 use Rattle.vh_parse_expr.specs.declared.expr.Standing.{Standing}
 use Rattle.vh_parse_expr.specs.declared.expr.Standing.TheVariants as standing
 use Rattle.vh_parse_expr.specs.Pieces.{expr_at, steps_of, links_part}

@@ -1,7 +1,7 @@
 -- What is left are the last tokens.
 use Rattle.std.proofs.Common.{ap, ◌∙◌, map, drop}
 use Rattle.std.proofs.lemmas.List.{take_rest}
-use Rattle.vh_syntax.specs.Tokens.{token_seen}
+use Rattle.vh_parse_syntax.specs.Tokens.{token_seen}
 use Rattle.vh_parse_expr.specs.Views.{tokens_seen}
 use Rattle.vh_parse_expr.proofs.AnswersLemmas.{parsed}
 use Rattle.vh_parse_expr.proofs.parse.parse_expr.Goals as goal

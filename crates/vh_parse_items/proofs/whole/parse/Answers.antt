@@ -1,6 +1,6 @@
 -- The tokens of a source are spelled so.
 use Rattle.std.proofs.Common.{refl, map}
-use Rattle.vh_syntax.specs.Tokens.{token_seen}
+use Rattle.vh_parse_syntax.specs.Tokens.{token_seen}
 use Rattle.vh_parse_items.proofs.AnswersLemmas.{spelled}
 use Rattle.vh_parse_items.proofs.whole.parse.Goals as goal
 

@@ -1,6 +1,6 @@
 -- What is read from the start on is what is read from here on.
 use Rattle.std.proofs.Common.{◌≡◌, length}
-use Rattle.vh_syntax.specs.Items.{more_delayed}
+use Rattle.vh_parse_syntax.specs.Items.{more_delayed}
 use Rattle.vh_parse_expr.specs.Views.{read_from}
 use Rattle.vh_parse_parts.specs.Views.{delayed_tree}
 use Rattle.vh_parse_parts.proofs.nets.more_delayed.Given as goal

@@ -1,6 +1,6 @@
 -- What has been read stands in front of what is left.
 use Rattle.std.proofs.Common.{◌≡◌, length, map}
-use Rattle.vh_grammar.specs.Marking.{joined_marks}
+use Rattle.vh_parse_grammar.specs.Marking.{joined_marks}
 use Rattle.vh_ast.specs.Views.{local_tree}
 use Rattle.vh_parse_expr.specs.Views.{read_from}
 use Rattle.vh_parse_parts.specs.Pieces.{locals}

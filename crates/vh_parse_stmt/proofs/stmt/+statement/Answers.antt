@@ -1,9 +1,9 @@
 -- A level is taken off; a block goes on by a statement, and a case by one with its values.
 use Rattle.std.proofs.Common.{◌≡◌, subst, suc, ◌-◌, sym, ◌∙◌, arith}
 use Rattle.std.proofs.lemmas.List.{map-append}
-use Rattle.vh_grammar.specs.Says.{Says}
+use Rattle.vh_parse_grammar.specs.Says.{Says}
 use Rattle.vh_ast.specs.Views.{stmt_tree, citem_tree}
-use Rattle.vh_syntax.specs.Tokens.{token_seen}
+use Rattle.vh_parse_syntax.specs.Tokens.{token_seen}
 use Rattle.vh_parse_expr.specs.Views.{tokens_seen}
 use Rattle.vh_parse_expr.proofs.Loops.{fewer}
 use Rattle.vh_parse_stmt.proofs.Pieces.{values-listed, case-listed}

@@ -1,8 +1,8 @@
 -- Depth falls first, and then what a statement is made of. What a loop has read stands in front of what
 -- is left.
 use Rattle.std.proofs.Common.{◌≡◌, length, ◌+◌, ◌*◌}
-use Rattle.vh_grammar.specs.Marking.{joined_marks}
-use Rattle.vh_syntax.specs.Statements.{stmts}
+use Rattle.vh_parse_grammar.specs.Marking.{joined_marks}
+use Rattle.vh_parse_syntax.specs.Statements.{stmts}
 use Rattle.vh_parse_expr.specs.Views.{read_from}
 use Rattle.vh_parse_stmt.specs.Pieces.{more_citems}
 use Rattle.vh_parse_stmt.specs.Views.{stmts_seen, citems_seen}

@@ -1,5 +1,5 @@
 use Rattle.std.proofs.Common.{◌≡◌, ◌∙◌, List, ℕ, sym, ap, subst, rules}
-use Rattle.vh_turn.specs.declared.process.Process.{Process}
+use Rattle.vh_proc_turn.specs.declared.process.Process.{Process}
 use Rattle.vh_proc.specs.Disabled.{Stopped, stopped_of}
 use Rattle.vh_proc.specs.Views.{nobody}
 use Rattle.vh_proc.proofs.RunsLemmas.{EachRuns}

@@ -1,5 +1,5 @@
 use Rattle.std.proofs.Common.{◌≡◌, ◌<◌, ℕ, Some, slice_get}
-use Rattle.vh_code.specs.declared.code.Block.{Block}
+use Rattle.vh_design_code.specs.declared.code.Block.{Block}
 use Rattle.vh_proc.specs.Homes.{Says, Grow}
 use Rattle.vh_proc.proofs.layout.note_blocks.Given as goal
 

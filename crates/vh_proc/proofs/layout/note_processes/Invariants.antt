@@ -1,5 +1,5 @@
 use Rattle.std.proofs.Common.{◌≡◌, ◌<◌, ℕ, Some, slice_get}
-use Rattle.vh_code.specs.declared.code.Code.{Code}
+use Rattle.vh_design_code.specs.declared.code.Code.{Code}
 use Rattle.vh_proc.specs.declared.layout.Owner.TheVariants as owner
 use Rattle.vh_proc.specs.Homes.{SaysAll, Grow}
 use Rattle.vh_proc.proofs.layout.note_processes.Given as goal

@@ -1,7 +1,7 @@
 use Rattle.std.proofs.Common.{◌≡◌, ◌<◌, ℕ, true, Some}
-use Rattle.vh_code.specs.declared.code.Code.{Code}
+use Rattle.vh_design_code.specs.declared.code.Code.{Code}
 use Rattle.vh_design.specs.Validity.{body_at}
-use Rattle.vh_nodes.specs.Fits.{has_body}
+use Rattle.vh_design_nodes.specs.Fits.{has_body}
 use Rattle.vh_proc.specs.declared.layout.Owner.TheVariants as owner
 use Rattle.vh_proc.specs.Homes.{Says, SaysAll, Grow}
 use Rattle.vh_proc.proofs.layout.note_routines.Given as goal

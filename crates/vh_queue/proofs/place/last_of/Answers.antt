@@ -1,5 +1,5 @@
 use Rattle.std.proofs.Common.{◌≡◌, ◌∙◌, ◌∷◌, [], ℕ, List, map, Some, None, sym, ap, refl}
-use Rattle.vh_near.specs.Rows.{from_to, last_key}
+use Rattle.vh_queue_maps.specs.Rows.{from_to, last_key}
 use Rattle.vh_queue.specs.declared.place.Place.{Place}
 use Rattle.vh_queue.specs.contracts.place.PlaceOrd.TheImpl.{cmp-value}
 use Rattle.vh_queue.specs.Serials.{last_of}

@@ -1,7 +1,7 @@
 use Rattle.std.proofs.Common.{◌≡◌, ◌<◌, Some, length, refl, rules}
 use Rattle.std.proofs.lemmas.Option.{slice_get_read}
-use Rattle.vh_nodes.specs.Fits.{body_number}
-use Rattle.vh_code.specs.Codes.{fits_code}
+use Rattle.vh_design_nodes.specs.Fits.{body_number}
+use Rattle.vh_design_code.specs.Codes.{fits_code}
 use Rattle.vh_design.specs.Shape.{Shape}
 use Rattle.vh_design.specs.Handed.{shape_of}
 use Rattle.vh_design.specs.Validity.{limits_of}

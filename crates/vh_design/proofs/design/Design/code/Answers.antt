@@ -1,7 +1,7 @@
 use Rattle.std.proofs.Common.{◌≡◌, true}
 use Rattle.vh_design.specs.Shape.{Shape}
 use Rattle.vh_design.specs.Handed.{shape_of}
-use Rattle.vh_code.specs.Codes.{fits_code}
+use Rattle.vh_design_code.specs.Codes.{fits_code}
 use Rattle.vh_design.specs.Validity.{limits_of}
 use Rattle.vh_design.proofs.ValidityLemmas.{AllFit-at}
 use Rattle.vh_design.proofs.design.Design.code.Goals as goal

@@ -1,7 +1,7 @@
 use Rattle.std.proofs.Common.{◌≡◌, true}
 use Rattle.vh_design.specs.Shape.{Shape}
 use Rattle.vh_design.specs.Handed.{shape_of}
-use Rattle.vh_nodes.specs.Fits.{fits_driver}
+use Rattle.vh_design_nodes.specs.Fits.{fits_driver}
 use Rattle.vh_design.proofs.ValidityLemmas.{AllFit-at, driver_net, driver_least, driver_most}
 use Rattle.vh_design.proofs.design.Design.driver.Goals as goal
 

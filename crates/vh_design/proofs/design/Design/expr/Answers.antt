@@ -1,7 +1,7 @@
 use Rattle.std.proofs.Common.{◌≡◌, true}
 use Rattle.vh_design.specs.Shape.{Shape}
 use Rattle.vh_design.specs.Handed.{shape_of}
-use Rattle.vh_nodes.specs.Fits.{fits_node}
+use Rattle.vh_design_nodes.specs.Fits.{fits_node}
 use Rattle.vh_design.proofs.ValidityLemmas.{AllFit-at, node_kind, node_measured}
 use Rattle.vh_design.proofs.design.Design.expr.Goals as goal
 

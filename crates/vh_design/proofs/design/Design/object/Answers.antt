@@ -1,7 +1,7 @@
 use Rattle.std.proofs.Common.{◌≡◌, true, length}
 use Rattle.vh_design.specs.Shape.{Shape}
 use Rattle.vh_design.specs.Handed.{shape_of}
-use Rattle.vh_nodes.specs.Fits.{fits_object}
+use Rattle.vh_design_nodes.specs.Fits.{fits_object}
 use Rattle.vh_design.proofs.ValidityLemmas.{AllFit-at, object_scope, object_least, object_most, object_detail}
 use Rattle.vh_design.proofs.design.Design.object.Goals as goal
 

@@ -1,10 +1,10 @@
 use Rattle.std.proofs.Common.{◌≡◌, ◌∙◌, Err, Some, ap, subst, rules}
 use Rattle.vh_kernel.specs.Statements.{performed_outcome, statement_outcome}
 use Rattle.vh_kernel.specs.Views.{state_of}
-use Rattle.vh_simulation.specs.Labels.{performed, IsOver}
-use Rattle.vh_turn.specs.Own.{FailsBy}
-use Rattle.vh_turn.specs.declared.fault.StepFault.{StepFault}
-use Rattle.vh_turn.specs.declared.fault.StepFault.TheVariants.{Run}
+use Rattle.vh_proc_simulation.specs.Labels.{performed, IsOver}
+use Rattle.vh_proc_turn.specs.Own.{FailsBy}
+use Rattle.vh_proc_turn.specs.declared.fault.StepFault.{StepFault}
+use Rattle.vh_proc_turn.specs.declared.fault.StepFault.TheVariants.{Run}
 use Rattle.vh_kernel.proofs.kernel.Kernel.perform_next.Goals as goal
 
 pub returns-in_ok-push_process-in-Err-Run : goal.returns-in_ok-push_process-in-Err-Run

@@ -1,11 +1,11 @@
 use Rattle.std.proofs.Common.{◌≡◌, ◌∙◌, ◌++◌, ◌∷◌, [], ℕ, List, Option, Some, slice_get, unwrap_or, sym, ap}
 use Rattle.std.specs.Option.{option_map}
-use Rattle.vh_names.specs.Names.{full_name}
-use Rattle.vh_nodes.specs.declared.object.Kind.{Kind}
-use Rattle.vh_nodes.specs.declared.object.Kind.TheVariants as of
-use Rattle.vh_nodes.specs.declared.object.ObjectInfo.{ObjectInfo}
+use Rattle.vh_design_names.specs.Names.{full_name}
+use Rattle.vh_design_nodes.specs.declared.object.Kind.{Kind}
+use Rattle.vh_design_nodes.specs.declared.object.Kind.TheVariants as of
+use Rattle.vh_design_nodes.specs.declared.object.ObjectInfo.{ObjectInfo}
 use Rattle.vh_orders.specs.declared.names.Named.{Named}
-use Rattle.vh_nodes.specs.Fits.{lowest_of}
+use Rattle.vh_design_nodes.specs.Fits.{lowest_of}
 use Rattle.vh_orders.specs.Names.{named_at, kind_at, lowest_at, words_at}
 use Rattle.vh_kernel.proofs.Opening.{map-more}
 use Rattle.vh_kernel.proofs.kernel.opening.all_names.Goals as goal

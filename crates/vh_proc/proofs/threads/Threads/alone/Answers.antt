@@ -1,6 +1,6 @@
 use Rattle.std.proofs.Common.{◌≡◌, ◌∙◌, ℕ, Option, Some, true, sym, ap, subst, rules}
 use Rattle.std.specs.Option.{option_copied_mut}
-use Rattle.vh_thread.specs.Control.{next_of}
+use Rattle.vh_proc_thread.specs.Control.{next_of}
 use Rattle.vh_proc.specs.Families.{IsKept, called_by, is_caller}
 use Rattle.vh_proc.specs.Processes.{AllRun}
 use Rattle.vh_proc.proofs.RunsLemmas.{EachRuns, runs-found, runs-set}

@@ -6,8 +6,8 @@ use Rattle.vh_proc.specs.Processes.{AllRun, arrived_in}
 use Rattle.vh_proc.proofs.RunsLemmas.{runs-found, runs-changed}
 use Rattle.vh_proc.proofs.FamiliesLemmas.{kept-through}
 use Rattle.vh_proc.proofs.CallsLemmas.{calls-in}
-use Rattle.vh_thread.specs.Control.{block_at, next_of}
-use Rattle.vh_turn.specs.Own.{arriving}
+use Rattle.vh_proc_thread.specs.Control.{block_at, next_of}
+use Rattle.vh_proc_turn.specs.Own.{arriving}
 use Rattle.vh_proc.proofs.threads.Threads.arrive.Goals as goal
 
 pub arrive-requires : goal.arrive-requires

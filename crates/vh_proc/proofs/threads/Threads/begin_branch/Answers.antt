@@ -1,7 +1,7 @@
 use Rattle.std.proofs.Common.{◌∙◌, ℕ, refl, sym, ap, subst}
 use Rattle.std.specs.Prelude.{option_copied}
 use Rattle.vh_design.specs.Shape.{Shape}
-use Rattle.vh_thread.specs.Control.{Control}
+use Rattle.vh_proc_thread.specs.Control.{Control}
 use Rattle.vh_proc.specs.Families.{IsParent, IsKept}
 use Rattle.vh_proc.specs.Processes.{AllRun}
 use Rattle.vh_proc.proofs.FamiliesLemmas.{kept-more, kept-found, begun-by, branch-notes}

@@ -1,5 +1,5 @@
 use Rattle.std.proofs.Common.{◌≡◌, ◌∙◌, Option, None, sym, ap}
-use Rattle.vh_turn.specs.declared.process.Process.{Process}
+use Rattle.vh_proc_turn.specs.declared.process.Process.{Process}
 use Rattle.vh_proc.specs.Disabled.{ended_in}
 use Rattle.vh_proc.specs.Processes.{Processes, process_at, scheduled}
 use Rattle.vh_proc.proofs.FamiliesLemmas.{none-gone}

@@ -6,7 +6,7 @@ use Rattle.vh_proc.specs.Processes.{AllRun, gone_on}
 use Rattle.vh_proc.proofs.RunsLemmas.{runs-found, runs-changed}
 use Rattle.vh_proc.proofs.FamiliesLemmas.{kept-through}
 use Rattle.vh_proc.proofs.CallsLemmas.{calls-gone}
-use Rattle.vh_turn.specs.Own.{going}
+use Rattle.vh_proc_turn.specs.Own.{going}
 use Rattle.vh_proc.proofs.threads.Threads.go_on.Goals as goal
 
 pub go_on-requires : goal.go_on-requires

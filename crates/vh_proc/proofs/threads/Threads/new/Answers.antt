@@ -1,5 +1,5 @@
 use Rattle.std.proofs.Common.{◌∙◌, ℕ, refl, sym, ap, subst}
-use Rattle.vh_thread.specs.Control.{Control, process_of}
+use Rattle.vh_proc_thread.specs.Control.{Control, process_of}
 use Rattle.vh_proc.proofs.FamiliesLemmas.{kept-more, process-notes}
 use Rattle.vh_proc.proofs.LoopsLemmas.{one-more}
 use Rattle.vh_proc.proofs.RunsLemmas.{EachRuns, runs-inserted}

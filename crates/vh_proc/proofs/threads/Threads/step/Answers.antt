@@ -1,7 +1,7 @@
 use Rattle.std.proofs.Common.{◌∙◌, sym, ap, subst}
 use Rattle.std.specs.Prelude.{option_copied}
 use Rattle.vh_design.specs.Shape.{Shape}
-use Rattle.vh_thread.specs.Control.{Runs}
+use Rattle.vh_proc_thread.specs.Control.{Runs}
 use Rattle.vh_proc.specs.Processes.{AllRun}
 use Rattle.vh_proc.proofs.RunsLemmas.{runs-found}
 use Rattle.vh_proc.proofs.threads.Threads.step.Goals as goal

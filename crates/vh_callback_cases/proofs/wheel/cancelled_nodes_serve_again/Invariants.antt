@@ -1,4 +1,0 @@
-use Rattle.vh_callback_cases.proofs.wheel.cancelled_nodes_serve_again.Given as goal
-
-abbrev pub ghosts-cancelled : goal.ghosts-cancelled
-ghosts-cancelled g a = record { name = a.blank.name; parts = a.blank.parts }

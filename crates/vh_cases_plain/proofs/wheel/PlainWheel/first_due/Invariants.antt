@@ -1,0 +1,6 @@
+use Rattle.std.proofs.Common.{ℕ, ◌<◌, ◌≢◌, true}
+use Rattle.vh_wheel.specs.Schedule.{entry_at, is_of}
+use Rattle.vh_cases_plain.proofs.wheel.PlainWheel.first_due.Given as goal
+
+abbrev pub invariant-loop-node : goal.invariant-loop-node
+invariant-loop-node l = (x : ℕ) → x < l.node → is_of l.time (entry_at x l.self.entries) ≢ true

@@ -1,5 +1,0 @@
-use Rattle.vh_thread.specs.Control.{Runs}
-use Rattle.vh_design_cases.proofs.thread.after.Given as goal
-
-abbrev pub invariant-loop-action : goal.invariant-loop-action
-invariant-loop-action l = Runs l.d l.thread

@@ -1,5 +1,0 @@
-use Rattle.vh_thread.specs.Control.{Runs}
-use Rattle.vh_design_cases.proofs.thread.calls_left.Given as goal
-
-abbrev pub invariant-loop-k : goal.invariant-loop-k
-invariant-loop-k l = Runs l.d l.thread

@@ -1,6 +1,0 @@
-use Rattle.std.proofs.Common.{◌≡◌, ◌∷◌, map, take}
-use Rattle.vh_first_design.specs.Designs.{module_info, register_info}
-use Rattle.vh_first_design.proofs.nodes.objects.Given as goal
-
-abbrev pub invariant-loop-reg : goal.invariant-loop-reg
-invariant-loop-reg l = l.all.items ≡ module_info l.name ∷ map register_info (take l.reg-index l.regs)

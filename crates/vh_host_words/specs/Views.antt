@@ -1,0 +1,16 @@
+-- What the code says of words, as contracts see it.
+use Rattle.vh_host_words.specs.declared.said.Said.{Said}
+use Rattle.vh_host_words.specs.declared.reading.Asked.{Asked}
+use Rattle.vh_host_words.specs.Words.{Reading, Saying, texts}
+
+abbrev pub saying : Said → Saying
+saying s = record {
+  mode = s.mode;
+  files = texts s.files.items;
+  order = s.order;
+  budget = s.budget;
+  expects = s.expects;
+}
+
+abbrev pub asked : Asked → Reading
+asked a = record { files = texts a.files.items; order = a.order; budget = a.budget }

@@ -1,0 +1,331 @@
+-- Worked rows with one label changed: each is refused by a law.
+use Rattle.std.proofs.Common.{◌≡◌, ℕ, List, [], ◌∷◌, ◌++◌, take, drop, Bool, true, false, Option, Some, None, slice_get, refl, sym, ap, ◌∙◌, inl, inr, append_assoc}
+use Rattle.std.specs.Prelude.{codes, unwrap_or}
+use Rattle.std.specs.Option.{option_map}
+use Rattle.vh_base.specs.declared.first.First.{First}
+use Rattle.vh_base.specs.declared.orders.Answer.TheVariants as answer
+use Rattle.vh_base.specs.declared.orders.Order.TheVariants as order
+use Rattle.vh_base.specs.declared.words.Code.TheVariants as code
+use Rattle.vh_base.specs.declared.words.Reason.TheVariants as reason
+use Rattle.vh_app.specs.declared.form.Atom.TheVariants as atom
+use Rattle.vh_app.specs.declared.form.Body.TheVariants as body
+use Rattle.vh_app.specs.declared.form.Form.{Form}
+use Rattle.vh_app.specs.declared.form.Form.TheVariants as form
+use Rattle.vh_app.specs.declared.form.Node.TheVariants.{Ask, Return}
+use Rattle.vh_app.specs.Script.{ScriptData}
+use Rattle.vh_callbacks.specs.Callbacks.{is_live}
+use Rattle.vh_orders.specs.declared.who.Who.TheVariants as who_is
+use Rattle.vh_handles.specs.declared.handles.Thing.TheVariants as thing
+use Rattle.vh_kernel.specs.declared.label.Label.{Label}
+use Rattle.vh_kernel.specs.declared.label.Label.TheVariants as label
+use Rattle.vh_callbacks.specs.Marks.{is_among}
+use Rattle.vh_kernel_laws.specs.Firing.{Frame}
+use Rattle.vh_base.specs.declared.words.Reason.{Reason}
+use Rattle.vh_base.specs.declared.orders.Object.{Object}
+use Rattle.vh_handles.specs.declared.handles.Thing.{Thing}
+use Rattle.vh_handles.specs.Handles.{Handles, thing_at, opened}
+use Rattle.vh_kernel.specs.Occurrences.{Occurrence, set_of}
+use Rattle.vh_kernel.specs.Outcome.{Move}
+use Rattle.vh_kernel_choice.specs.declared.chooser.Chooser.TheVariants.{Fifo}
+use Rattle.vh_kernel.specs.Run.{moves_of}
+use Rattle.vh_kernel_laws.proofs.Openings.{opening}
+use Rattle.vh_kernel.specs.State.{State}
+use Rattle.vh_kernel_laws.specs.Firing.{frames_of, IsTelling, TellsOnce, WasTold, FiresOnce, LeavesNone, DoneOnce, IsRemoval, RemovesForGood}
+use Rattle.vh_kernel_laws.specs.HandleLaw.{GivesOnce, GivesLive, GivesRight, FindsLive, RemovalFrees, StaysFreed}
+use Rattle.vh_kernel_laws.specs.Paths.{is_told, is_fire, is_fire_of, is_done, any, was_removed, end_of}
+use Rattle.vh_kernel_laws.proofs.Splits.{not_both, or_left, or_right}
+use Rattle.vh_design_first.specs.Designs.{instructions_of, codes_of}
+use Rattle.vh_design_names.specs.Names.{scopes_below, dotted}
+
+-- Module top; reg r; endmodule
+abbrev still : First
+still = record { name = codes "top"; regs = codes "r" ∷ []; blocks = [] }
+
+-- App a; var r, one, two, three, x; startup { register cbEndOfCompile null 0 proc init 0; }
+-- proc init {
+--   r = by_name "top.r" null; one = register cbStartOfSimulation null 0 proc p1 1;
+--   two = register cbStartOfSimulation null 0 proc p2 2; three = register cbStartOfSimulation null 0 proc p3 3;
+-- }
+-- proc p1 { remove two; x = register cbStartOfSimulation null 0 proc p4 4; } proc p2 { } proc p3 { } proc p4 { }
+abbrev registers : Reason → List ℕ → ℕ → Form
+registers reason name n = form.Register reason atom.Null (atom.Number 0) (body.Proc name) (atom.Number n)
+
+abbrev removes_another : ScriptData
+removes_another = record {
+  name = codes "a";
+  variables = 5;
+  procedures =
+      record { name = codes "init"; start = 2 } ∷ record { name = codes "p1"; start = 7 }
+      ∷ record { name = codes "p2"; start = 10 } ∷ record { name = codes "p3"; start = 11 }
+      ∷ record { name = codes "p4"; start = 12 } ∷ [];
+  nodes =
+      Ask None (registers reason.CbEndOfCompile (codes "init") 0)
+      ∷ Return
+      ∷ Ask (Some 0) (form.ByName (atom.Text (codes "top.r")) atom.Null)
+      ∷ Ask (Some 1) (registers reason.CbStartOfSimulation (codes "p1") 1)
+      ∷ Ask (Some 2) (registers reason.CbStartOfSimulation (codes "p2") 2)
+      ∷ Ask (Some 3) (registers reason.CbStartOfSimulation (codes "p3") 3)
+      ∷ Return
+      ∷ Ask None (form.Remove (atom.Variable 2))
+      ∷ Ask (Some 4) (registers reason.CbStartOfSimulation (codes "p4") 4)
+      ∷ Return
+      ∷ Return
+      ∷ Return
+      ∷ Return
+      ∷ [];
+}
+
+-- The run, and its state before all.
+abbrev start : State
+start = opening still (removes_another ∷ [])
+
+abbrev moves : List Move
+moves = moves_of Fifo 100 start
+
+-- The labels up to one and those behind it, and the state after one.
+abbrev up_to : ℕ → List Move
+up_to k = take k moves
+
+abbrev from : ℕ → List Move
+from k = drop k moves
+
+abbrev state_at : ℕ → State
+state_at k = unwrap_or (option_map (λ m. m.1) (slice_get moves k)) start
+
+-- The telling of an occurrence is one.
+holds : (p : Label → Bool) (us : List Move) (n : Move) (vs : List Move) → p n.0 ≡ true → any p (us ++ n ∷ vs) ≡ true
+holds p [] n vs at = or_left (p n.0) (any p vs) at
+holds p (u ∷ us) n vs at = or_right (p u.0) (any p (us ++ n ∷ vs)) (holds p us n vs at)
+
+tells-apart : (p : Label → Bool) (xs us : List Move) (m n : Move) (ys vs : List Move) → xs ++ m ∷ ys ≡ us ++ n ∷ vs
+    → p m.0 ≡ true → p n.0 ≡ true → any p ys ≡ false → any p vs ≡ false → m ≡ n
+tells-apart p [] [] m n ys vs same is at none rest = cc
+tells-apart p [] (u ∷ us) m n ys vs same is at none rest =
+    let there : ys ≡ us ++ n ∷ vs = cc in
+    absurd (not_both (any p ys) (ap (λ (ms : List Move). any p ms) there ∙ holds p us n vs at) none)
+tells-apart p (x ∷ xs) [] m n ys vs same is at none rest =
+    let there : xs ++ m ∷ ys ≡ vs = cc in
+    absurd (not_both (any p vs) (ap (λ (ms : List Move). any p ms) (sym there) ∙ holds p xs m ys is) rest)
+tells-apart p (x ∷ xs) (u ∷ us) m n ys vs same is at none rest =
+    tells-apart p xs us m n ys vs (let there : xs ++ m ∷ ys ≡ us ++ n ∷ vs = cc in there) is at none rest
+
+-- What each law says of such a list, whatever stands in it.
+no-second-fire : (front behind : List Move) (t : State) → any (is_fire 2 4) front ≡ true
+    → FiresOnce (front ++ (label.Fire 2 4, t) ∷ behind) → ⊥
+no-second-fire front behind t fired law = not_both (any (is_fire 2 4) front) fired (law front behind 2 4 t refl).once
+
+no-second-end : (front behind : List Move) (t : State) → any (is_done 1) front ≡ true
+    → DoneOnce (front ++ (label.Done 1, t) ∷ behind) → ⊥
+no-second-end front behind t ended law = not_both (any (is_done 1) front) ended (law front behind 1 t refl).1
+
+no-missing-fire : (front mid : List Move) (reason : Reason) (object : Option Object) (what : Occurrence) (told t : State)
+    → IsTelling (label.Occ 2 reason object, told) 2 what → is_among 4 (set_of what told.world.callbacks) ≡ true
+    → any (is_fire 2 4) mid ≡ false → was_removed 4 mid ≡ false
+    → LeavesNone (front ++ (label.Occ 2 reason object, told) ∷ mid ++ (label.Done 2, t) ∷ []) → ⊥
+no-missing-fire front mid reason object what told t telling among silent stays law =
+    elim (law front mid [] (label.Occ 2 reason object, told) 2 4 what t refl telling among) [
+      | inl fires ↦ not_both (any (is_fire 2 4) mid) fires silent
+      | inr gone ↦ not_both (was_removed 4 mid) gone stays
+    ]
+
+no-fire-of-removed : (s : State) (front behind : List Move) (removal : Move) → IsRemoval 3 (end_of s front) removal.0
+    → any (is_fire_of 3) behind ≡ true → RemovesForGood s (front ++ removal ∷ behind) → ⊥
+no-fire-of-removed s front behind removal is fires law =
+    not_both (any (is_fire_of 3) behind) fires (law front behind removal 3 refl is).silent
+
+no-removal-of-nothing : (s : State) (front : List Move) (removal : Move) → IsRemoval 3 (end_of s front) removal.0
+    → is_live 3 removal.1.world.callbacks ≡ true → RemovesForGood s (front ++ removal ∷ []) → ⊥
+no-removal-of-nothing s front removal is lives law =
+    not_both (is_live 3 removal.1.world.callbacks) lives (law front [] removal 3 refl is).dead
+
+no-handle-left : (front : List Move) (t : State) (x : Thing) → thing_at 3 t.world.handles ≡ Some x
+    → RemovalFrees (front ++ (label.Do (who_is.Callback 2) (order.Remove (Some 3)) (answer.Number 1), t) ∷ []) → ⊥
+no-handle-left front t x there law =
+    let gone : thing_at 3 t.world.handles ≡ None = law front [] (who_is.Callback 2) 3 t refl in absurd (cc)
+
+no-later-fire : (front mid behind : List Move) (here : Move) (f : Frame) (t : State) → is_told 2 here.0 ≡ true
+    → any (is_told 2) (mid ++ (label.Fire 2 5, t) ∷ behind) ≡ false → slice_get (frames_of here.1) 0 ≡ Some f → is_among 5 f.left ≡ false
+    → TellsOnce ((front ++ here ∷ mid) ++ (label.Fire 2 5, t) ∷ behind) → FiresOnce ((front ++ here ∷ mid) ++ (label.Fire 2 5, t) ∷ behind) → ⊥
+no-later-fire front mid behind here f t at none stands among once law =
+    let told : WasTold 2 5 (front ++ here ∷ mid) = (law (front ++ here ∷ mid) behind 2 5 t refl).told in
+    let rest : List Move = (label.Fire 2 5, t) ∷ behind in
+    let is : is_told 2 told.move.0 ≡ true = ap (λ (l : Label). is_told 2 l) told.tells.told in
+    let whole_list : (front ++ here ∷ mid) ++ rest ≡ told.front ++ told.move ∷ (told.rest ++ rest) =
+    ap (λ (ms : List Move). ms ++ rest) told.splits ∙ append_assoc told.front (told.move ∷ told.rest) rest in
+    let label_is : told.move ≡ (label.Occ 2 told.what.reason told.what.object, told.move.1) =
+    ap (λ (l : Label). (let m : Move = (l, told.move.1) in m)) told.tells.told in
+    let later : any (is_told 2) (told.rest ++ rest) ≡ false =
+    (once told.front (told.rest ++ rest) 2 told.what.reason told.what.object told.move.1
+    (whole_list ∙ ap (λ (m : Move). told.front ++ m ∷ (told.rest ++ rest)) label_is)).1 in
+    let same : told.move ≡ here =
+    tells-apart (is_told 2) told.front front told.move here (told.rest ++ rest) (mid ++ rest)
+    (sym whole_list ∙ append_assoc front (here ∷ mid) rest) is at later none in
+    let frame : Some f ≡ Some (record { number = 2; what = told.what; left = set_of told.what told.move.1.world.callbacks }) =
+    sym stands ∙ ap (λ (m : Move). slice_get (frames_of m.1) 0) (sym same) ∙ told.tells.frame in
+    let left : Some f.left ≡ Some (set_of told.what told.move.1.world.callbacks) =
+    ap (λ (o : Option Frame). option_map (λ x. x.left) o) frame in
+    let there : is_among 5 f.left ≡ true = ap (λ (o : Option (List ℕ)). is_among 5 (unwrap_or o [])) left ∙ told.among in
+    not_both (is_among 5 f.left) there among
+
+no-second-answer : (s : State) (before mid : List Move) (t : State) → (end_of s before).world.handles.is_given 3 ≡ true
+    → thing_at 3 (end_of s before).world.handles ≡ None
+    → StaysFreed s (before ++ mid ++ (label.Do (who_is.Callback 2) (order.Remove (Some 3)) (answer.Number 1), t) ∷ []) → ⊥
+no-second-answer s before mid t given gone law =
+    elim (law before mid [] (who_is.Callback 2) (order.Remove (Some 3)) (answer.Number 1) t 3 refl given gone refl) [
+      | inl one ↦ absurd (cc)
+      | inr early ↦ absurd (let wrong = early.1 in cc)
+    ]
+
+-- Callbacks 2, 3 and 4 watch the start of simulation. Label 11 tells it as occurrence 2; label 12 fires 2;
+-- label 13 is the removal of 3 by handle 3; label 14 registers 5; label 16 fires 4; label 18 is done.
+
+fired_already : any (is_fire 2 4) (up_to 17) ≡ true
+unfolding instructions_of codes_of scopes_below dotted
+fired_already = refl
+
+-- A second fire of callback 4.
+second_fire : (t : State) → FiresOnce (up_to 17 ++ (label.Fire 2 4, t) ∷ from 17) → ⊥
+second_fire t law = no-second-fire (up_to 17) (from 17) t fired_already law
+
+-- The telling of occurrence 2, and the labels of callback 2 behind it.
+abbrev change : Occurrence
+change = record { reason = reason.CbStartOfSimulation; object = None; value = None; index = None; only = None }
+
+abbrev told_state : State
+told_state = unwrap_or (option_map (λ m. m.1) (slice_get (moves_of Fifo 12 start) 11)) start
+
+tells_two : slice_get (frames_of told_state) 0 ≡ Some (record { number = 2; what = change; left = 2 ∷ 3 ∷ 4 ∷ [] })
+unfolding instructions_of codes_of scopes_below dotted
+tells_two = refl
+
+set_is : set_of change told_state.world.callbacks ≡ 2 ∷ 3 ∷ 4 ∷ []
+unfolding instructions_of codes_of scopes_below dotted
+set_is = refl
+
+told_once : (t : State) → any (is_told 2) (drop 12 (up_to 17) ++ (label.Fire 2 5, t) ∷ []) ≡ false
+unfolding instructions_of codes_of scopes_below dotted
+told_once t = refl
+
+-- A fire of callback 5, which was registered during the occurrence.
+fires_what_came_later : (t : State)
+    → TellsOnce ((up_to 11 ++ (label.Occ 2 reason.CbStartOfSimulation None, told_state) ∷ drop 12 (up_to 17)) ++ (label.Fire 2 5, t) ∷ [])
+    → FiresOnce ((up_to 11 ++ (label.Occ 2 reason.CbStartOfSimulation None, told_state) ∷ drop 12 (up_to 17)) ++ (label.Fire 2 5, t) ∷ [])
+    → ⊥
+fires_what_came_later t once law =
+    no-later-fire (up_to 11) (drop 12 (up_to 17)) [] (label.Occ 2 reason.CbStartOfSimulation None, told_state)
+    (record { number = 2; what = change; left = 2 ∷ 3 ∷ 4 ∷ [] }) t refl (told_once t) tells_two refl once law
+
+fires_later : any (is_fire 2 4) (drop 12 (up_to 16)) ≡ false
+unfolding instructions_of codes_of scopes_below dotted
+fires_later = refl
+
+stays_there : was_removed 4 (drop 12 (up_to 16)) ≡ false
+unfolding instructions_of codes_of scopes_below dotted
+stays_there = refl
+
+-- Callback 4 doesn't fire.
+missing_fire : (t : State)
+    → LeavesNone (up_to 11 ++ (label.Occ 2 reason.CbStartOfSimulation None, told_state) ∷ drop 12 (up_to 16) ++ (label.Done 2, t) ∷ [])
+    → ⊥
+missing_fire t law =
+    let telling : IsTelling (label.Occ 2 reason.CbStartOfSimulation None, told_state) 2 change = record {
+      told = refl;
+      frame = tells_two ∙ ap (λ (xs : List ℕ). Some (let f : Frame = record { number = 2; what = change; left = xs } in f)) (sym set_is);
+    } in
+    no-missing-fire (up_to 11) (drop 12 (up_to 16)) reason.CbStartOfSimulation None change told_state t telling
+    (ap (λ (xs : List ℕ). is_among 4 xs) set_is) fires_later stays_there law
+
+done_already : any (is_done 1) (up_to 11) ≡ true
+unfolding instructions_of codes_of scopes_below dotted
+done_already = refl
+
+-- Occurrence 1 is done twice.
+done_twice : (t : State) → DoneOnce (up_to 11 ++ (label.Done 1, t) ∷ from 11) → ⊥
+done_twice t law = no-second-end (up_to 11) (from 11) t done_already law
+
+-- The removal of callback 3, with this state behind it.
+abbrev removal : State → Move
+removal t = (label.Do (who_is.Callback 2) (order.Remove (Some 3)) (answer.Number 1), t)
+
+removes_three : (t : State) → IsRemoval 3 (end_of start (up_to 13)) (removal t).0
+unfolding instructions_of codes_of scopes_below dotted
+removes_three t = record { who = who_is.Callback 2; handle = 3; is = refl; names = refl }
+
+-- Callback 3 fires after it was removed.
+fires_removed : (t : State) → RemovesForGood start (up_to 13 ++ removal (state_at 13) ∷ (label.Fire 2 3, t) ∷ from 14) → ⊥
+unfolding instructions_of codes_of scopes_below dotted
+fires_removed t law =
+    no-fire-of-removed start (up_to 13) ((label.Fire 2 3, t) ∷ from 14) (removal (state_at 13)) (removes_three (state_at 13)) refl law
+
+-- An answered removal that removes nothing.
+removes_nothing : RemovesForGood start (up_to 13 ++ removal (state_at 12) ∷ []) → ⊥
+unfolding instructions_of codes_of scopes_below dotted
+removes_nothing law = no-removal-of-nothing start (up_to 13) (removal (state_at 12)) (removes_three (state_at 12)) refl law
+
+-- The state with other handles.
+abbrev with_handles : Handles → State → State
+with_handles handles s = record s { world = record s.world { handles = handles } }
+
+-- One that frees the handle alone.
+frees_the_handle_alone :
+    RemovesForGood start (up_to 13 ++ removal (with_handles (state_at 13).world.handles (state_at 12)) ∷ []) → ⊥
+unfolding instructions_of codes_of scopes_below dotted
+frees_the_handle_alone law =
+    no-removal-of-nothing start (up_to 13) (removal (with_handles (state_at 13).world.handles (state_at 12)))
+    (removes_three (with_handles (state_at 13).world.handles (state_at 12))) refl law
+
+-- One that leaves the handle.
+leaves_the_handle : RemovalFrees (up_to 13 ++ removal (with_handles (state_at 12).world.handles (state_at 13)) ∷ []) → ⊥
+unfolding instructions_of codes_of scopes_below dotted
+leaves_the_handle law =
+    no-handle-left (up_to 13) (with_handles (state_at 12).world.handles (state_at 13)) (thing.Callback 3) refl law
+
+was_given : (end_of start (up_to 14)).world.handles.is_given 3 ≡ true
+unfolding instructions_of codes_of scopes_below dotted
+was_given = refl
+
+was_freed : thing_at 3 (end_of start (up_to 14)).world.handles ≡ None
+unfolding instructions_of codes_of scopes_below dotted
+was_freed = refl
+
+-- A handle that was freed is answered 1 again.
+freed_answers_one : (t : State) → StaysFreed start (up_to 14 ++ drop 14 (up_to 20) ++ removal t ∷ []) → ⊥
+freed_answers_one t law = no-second-answer start (up_to 14) (drop 14 (up_to 20)) t was_given was_freed law
+
+-- A handle that is live answers E1.
+every_handle_is_dead :
+    FindsLive start (up_to 13 ++ (label.Do (who_is.Callback 2) (order.Remove (Some 3)) (answer.Refused code.E1), state_at 12) ∷ []) → ⊥
+unfolding instructions_of codes_of scopes_below dotted
+every_handle_is_dead law =
+    law (up_to 13) [] (who_is.Callback 2) (order.Remove (Some 3)) (answer.Refused code.E1) (state_at 12) refl refl refl
+
+-- The registration of callback 2, with this state behind it.
+abbrev registers_two : State → Move
+registers_two t = (unwrap_or (option_map (λ m. m.0) (slice_get moves 6)) (label.Done 0), t)
+
+-- Its handle is dead when given.
+dead_when_given : GivesLive start (up_to 6 ++ registers_two (state_at 5) ∷ []) → ⊥
+unfolding instructions_of codes_of scopes_below dotted
+dead_when_given law =
+    let right : GivesRight (end_of start (up_to 6)) _ 2 (state_at 5) = law (up_to 6) [] (who_is.Callback 1) _ 2 (state_at 5) refl in
+    let none : None ≡ Some right.thing = right.names in absurd (cc)
+
+-- Its handle names callback 1.
+abbrev with_another : State
+with_another = with_handles (opened 2 (thing.Callback 1) (state_at 5).world.handles) (state_at 6)
+
+names_another : GivesLive start (up_to 6 ++ registers_two with_another ∷ []) → ⊥
+unfolding instructions_of codes_of scopes_below dotted
+names_another law =
+    let right : GivesRight (end_of start (up_to 6)) _ 2 with_another = law (up_to 6) [] (who_is.Callback 1) _ 2 with_another refl in
+    let is : Some (thing.Callback 1) ≡ Some right.thing = right.names in
+    let same : thing.Callback 1 ≡ right.thing = cc in
+    elim right.about [
+      | inl object ↦ absurd (let wrong : thing.Callback 1 ≡ thing.Object object.object = same ∙ object.names in cc)
+      | inr callback ↦ absurd (let wrong : thing.Callback 1 ≡ thing.Callback 2 = same ∙ callback.names in cc)
+    ]
+
+-- A number is given twice.
+given_twice : (t : State) → GivesOnce (up_to 7 ++ registers_two t ∷ []) → ⊥
+unfolding instructions_of codes_of scopes_below dotted
+given_twice t law = not_both true refl (law (up_to 7) [] (who_is.Callback 1) _ 2 t refl).0

@@ -1,0 +1,137 @@
+-- The handle law: what a handle names from its giving to its freeing, and what it answers after that.
+-- (IEEE 1364-2005, clause 26; that a number isn't given again is own)
+use Rattle.std.specs.Prelude.{◌≡◌, ℕ, List, ◌∷◌, ◌++◌, Bool, true, false, ◌==◌, Option, Some, None, is_some, Ok, ◌⊎◌}
+use Rattle.std.specs.List.{list_any}
+use Rattle.vh_base.specs.declared.orders.Answer.{Answer}
+use Rattle.vh_base.specs.declared.orders.Answer.TheVariants as answer
+use Rattle.vh_base.specs.declared.orders.BodyName.{BodyName}
+use Rattle.vh_base.specs.declared.orders.Object.{Object}
+use Rattle.vh_base.specs.declared.orders.Order.{Order}
+use Rattle.vh_base.specs.declared.orders.Order.TheVariants as order
+use Rattle.vh_base.specs.declared.words.Code.TheVariants as code
+use Rattle.vh_base.specs.declared.words.Reason.{Reason}
+use Rattle.vh_callbacks.specs.Callbacks.{info_of, body_of}
+use Rattle.vh_orders.specs.declared.who.Body.{Body}
+use Rattle.vh_orders.specs.declared.who.Who.{Who}
+use Rattle.vh_handles.specs.declared.handles.Thing.{Thing}
+use Rattle.vh_handles.specs.declared.handles.Thing.TheVariants as thing
+use Rattle.vh_kernel.specs.declared.label.Label.{Label}
+use Rattle.vh_kernel.specs.declared.label.Label.TheVariants as label
+use Rattle.vh_handles.specs.Handles.{thing_at}
+use Rattle.vh_orders.specs.Names.{object_named}
+use Rattle.vh_orders.specs.Orders.{is_startup, name_meant, needs_object, object_watched, body_named, registration_of, handles_read, all_named}
+use Rattle.vh_kernel.specs.Outcome.{Move}
+use Rattle.vh_kernel.specs.State.{State}
+use Rattle.vh_kernel_laws.specs.Paths.{Deed, tells, fires, closes, answers, other, deed_of, any, end_of}
+
+-- Is this the handle?
+abbrev pub is_handle : ℕ → Option ℕ → Bool
+is_handle h None = false
+is_handle h (Some n) = h == n
+
+-- Does an answer give the handle?
+abbrev pub gives : ℕ → Answer → Bool
+gives h answer.Done = false
+gives h answer.Null = false
+gives h (answer.Handle n) = h == n
+gives h (answer.Number n) = false
+gives h (answer.Text text) = false
+gives h (answer.Refused c) = false
+
+-- Does a label?
+abbrev pub gives_of : ℕ → Deed → Bool
+gives_of h (tells number) = false
+gives_of h (fires number callback) = false
+gives_of h (closes number) = false
+gives_of h (answers answer) = gives h answer
+gives_of h other = false
+
+abbrev pub is_giving : ℕ → Label → Bool
+is_giving h l = gives_of h (deed_of l)
+
+-- Does an order read the handle?
+abbrev pub reads : ℕ → Order → Bool
+reads h o = list_any (is_handle h) (handles_read o)
+
+-- No number is given twice.
+abbrev pub GivesOnce : List Move → Type 0
+GivesOnce moves =
+    (before behind : List Move) (who : Who) (o : Order) (h : ℕ) (t : State)
+    → moves ≡ before ++ (label.Do who o (answer.Handle h), t) ∷ behind
+    → (any (is_giving h) before ≡ false) × (any (is_giving h) behind ≡ false)
+
+-- A handle is given for the object, or the word, of the name that was asked for,
+pub record FindsObject (s : State) (o : Order) (x : Thing) : Type 0 where
+  pub text : List ℕ
+  pub scope : Option ℕ
+  pub name : List ℕ
+  pub object : Object
+  pub asks : o ≡ order.ByName text scope
+  pub means : name_meant scope text s.world ≡ Ok name
+  pub found : object_named name s.world.names ≡ Some object
+  pub names : x ≡ thing.Object object
+
+-- Or for the callback that was registered, which is live from then on with what was asked for.
+pub record Registers (s : State) (o : Order) (h : ℕ) (x : Thing) (t : State) : Type 0 where
+  pub reason : Reason
+  pub watched : Option ℕ
+  pub time : ℕ
+  pub user_data : ℕ
+  pub calls : BodyName
+  pub object : Option Object
+  pub body : Body
+  pub asks : o ≡ order.Register reason watched time calls user_data
+  pub watches : object_watched (needs_object reason) reason watched s.world ≡ Ok object
+  pub found : body_named calls s.world.scripts ≡ Ok body
+  pub names : x ≡ thing.Callback s.world.callbacks.next
+  pub info : info_of s.world.callbacks.next t.world.callbacks ≡ Some (registration_of reason object watched time user_data h)
+  pub is_called : body_of s.world.callbacks.next t.world.callbacks ≡ Some body
+
+-- A handle that is given is live, and names what the order was about.
+pub record GivesRight (s : State) (o : Order) (h : ℕ) (t : State) : Type 0 where
+  pub thing : Thing
+  pub names : thing_at h t.world.handles ≡ Some thing
+  pub about : FindsObject s o thing ⊎ Registers s o h thing t
+
+abbrev pub GivesLive : State → List Move → Type 0
+GivesLive s moves =
+    (before behind : List Move) (who : Who) (o : Order) (h : ℕ) (t : State)
+    → moves ≡ before ++ (label.Do who o (answer.Handle h), t) ∷ behind → GivesRight (end_of s before) o h t
+
+-- From its giving on, as long as it is live, a handle names the same thing.
+abbrev pub NamesOne : List Move → Type 0
+NamesOne moves =
+    (before mid behind : List Move) (who : Who) (o : Order) (h : ℕ) (t : State)
+    → moves ≡ before ++ (label.Do who o (answer.Handle h), t) ∷ mid ++ behind
+    → is_some (thing_at h (end_of t mid).world.handles) ≡ true
+    → thing_at h (end_of t mid).world.handles ≡ thing_at h t.world.handles
+
+-- An order that reads only handles that are live isn't answered E1.
+abbrev pub FindsLive : State → List Move → Type 0
+FindsLive s moves =
+    (before behind : List Move) (who : Who) (o : Order) (a : Answer) (t : State)
+    → moves ≡ before ++ (label.Do who o a, t) ∷ behind
+    → all_named (end_of s before).world (handles_read o) ≡ true → a ≡ answer.Refused code.E1 → ⊥
+
+-- A handle stops being live only where the callback that it names is removed by it,
+abbrev pub FreedByRemoval : State → List Move → Type 0
+FreedByRemoval s moves =
+    (before behind : List Move) (m : Move) (h : ℕ) → moves ≡ before ++ m ∷ behind
+    → is_some (thing_at h (end_of s before).world.handles) ≡ true → thing_at h m.1.world.handles ≡ None
+    → (who : Who) × (m.0 ≡ label.Do who (order.Remove (Some h)) (answer.Number 1))
+
+-- And an answered removal frees the handle.
+abbrev pub RemovalFrees : List Move → Type 0
+RemovalFrees moves =
+    (before behind : List Move) (who : Who) (h : ℕ) (t : State)
+    → moves ≡ before ++ (label.Do who (order.Remove (Some h)) (answer.Number 1), t) ∷ behind
+    → thing_at h t.world.handles ≡ None
+
+-- After it was freed, every order that reads it answers E1, or in a startup the E9 that comes before.
+abbrev pub StaysFreed : State → List Move → Type 0
+StaysFreed s moves =
+    (before mid behind : List Move) (who : Who) (o : Order) (a : Answer) (t : State) (h : ℕ)
+    → moves ≡ before ++ mid ++ (label.Do who o a, t) ∷ behind
+    → (end_of s before).world.handles.is_given h ≡ true → thing_at h (end_of s before).world.handles ≡ None
+    → reads h o ≡ true
+    → (a ≡ answer.Refused code.E1) ⊎ ((is_startup who ≡ true) × (a ≡ answer.Refused code.E9))

@@ -1,0 +1,62 @@
+-- The laws of every path, of every run and of every prefix of one.
+use Rattle.std.specs.Prelude.{◌≡◌, List, [], false}
+use Rattle.vh_design.specs.Shape.{Shape}
+use Rattle.vh_app.specs.Script.{ScriptData}
+use Rattle.vh_callbacks.specs.Callbacks.{IsSound}
+use Rattle.vh_handles.specs.Handles.{no_handles}
+use Rattle.vh_kernel.specs.Outcome.{Move}
+use Rattle.vh_kernel_choice.specs.declared.chooser.Chooser.{Chooser}
+use Rattle.vh_kernel.specs.Run.{IsRun}
+use Rattle.vh_kernel.specs.Settle.{Opens}
+use Rattle.vh_kernel.specs.State.{State}
+use Rattle.vh_kernel.specs.Step.{is_over}
+use Rattle.vh_kernel_laws.specs.Paths.{IsPath}
+use Rattle.vh_kernel_laws.specs.Firing.{TellsOnce, FiresOnce, KeepsSets, LeavesNone, DoneOnce, ClosesInOrder, GoesByRemoval, RemovesForGood}
+use Rattle.vh_kernel_laws.specs.HandleLaw.{GivesOnce, GivesLive, NamesOne, FindsLive, FreedByRemoval, RemovalFrees, StaysFreed}
+
+-- Labels that are made from a state keep the firing law.
+pub record KeepsFiringLaw (s : State) (moves : List Move) : Type 0 where
+  pub told_once : TellsOnce moves
+  pub fires_once : FiresOnce moves
+  pub sets_kept : KeepsSets moves
+  pub none_left : LeavesNone moves
+  pub done_once : DoneOnce moves
+  pub in_order : ClosesInOrder moves
+  pub goes_by_removal : GoesByRemoval s moves
+  pub removes_for_good : RemovesForGood s moves
+
+-- And the handle law.
+pub record KeepsHandleLaw (s : State) (moves : List Move) : Type 0 where
+  pub given_once : GivesOnce moves
+  pub given_live : GivesLive s moves
+  pub names_one : NamesOne moves
+  pub finds_live : FindsLive s moves
+  pub freed_by_removal : FreedByRemoval s moves
+  pub removal_frees : RemovalFrees moves
+  pub stays_freed : StaysFreed s moves
+
+pub record KeepsLaws (s : State) (moves : List Move) : Type 0 where
+  pub firing : KeepsFiringLaw s moves
+  pub handles : KeepsHandleLaw s moves
+
+-- The run isn't over, nothing is on control and no handle was given; the numbers of callbacks rise.
+pub record IsFresh (s : State) : Type 0 where
+  pub going : is_over s.phase ≡ false
+  pub alone : s.control ≡ []
+  pub none_given : s.world.handles ≡ no_handles
+  pub sound : IsSound s.world.callbacks
+
+-- The theorem: every path from such a state keeps both laws, whole or cut anywhere,
+abbrev pub PathsKeepLaws : Type 0
+PathsKeepLaws = (s : State) (moves : List Move) → IsFresh s → IsPath s moves → KeepsLaws s moves
+
+-- And so does every run under an order of choice;
+abbrev pub Lawful : Chooser → State → Type 0
+Lawful order s = (moves : List Move) → IsRun order s moves → KeepsLaws s moves
+
+abbrev pub RunsKeepLaws : Type 0
+RunsKeepLaws = (s : State) → IsFresh s → (order : Chooser) → Lawful order s
+
+-- The opening of a design with its scripts is such a state.
+abbrev pub OpensFresh : Type 0
+OpensFresh = (d : Shape) (scripts : List ScriptData) (s : State) → Opens d scripts s → IsFresh s

@@ -1,7 +1,0 @@
-use Rattle.std.proofs.Common.{◌≡◌, ◌++◌, drop}
-use Rattle.vh_names.specs.Names.{dotted}
-use Rattle.vh_names.proofs.names.push_names.Given as goal
-
--- The names of the objects from this one on are there.
-abbrev pub invariant-loop-i : goal.invariant-loop-i
-invariant-loop-i l = l.name.items ≡ l.initial.name.items ++ dotted l.d.objects (drop l.i l.scopes)

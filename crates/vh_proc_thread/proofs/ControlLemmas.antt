@@ -1,0 +1,298 @@
+-- Lemmas on `specs/Control.antt`: what becomes of the calls and repeats of a thread.
+use Rattle.std.proofs.Common.{◌≡◌, ◌∙◌, ◌<◌, ◌≤◌, ◌-◌, ◌+◌, ◌++◌, ℕ, List, [], ◌∷◌, length, reverse, filter, take, drop, slice_set, slice_index_or, Bool, true, false, not, nat_lt, cond, Option, Some, None, option_to_list, MatchOption, unwrap_or, refl, sym, ap, subst, arith}
+use Rattle.std.proofs.Math.Seq.{take-add, drop-cons}
+use Rattle.std.proofs.lemmas.Bool.Decides.{nat_tests}
+use Rattle.std.proofs.lemmas.List.{reverse-append, take-append-drop, take_all, length-reverse, length-take-le}
+use Rattle.std.specs.List.{AllByRecursion}
+use Rattle.std.specs.Option.{option_map}
+use Rattle.vh_design_code.specs.declared.code.Block.{Block}
+use Rattle.vh_design_code.specs.declared.code.Code.{Code}
+use Rattle.vh_design_code.specs.declared.code.Goes.{Goes}
+use Rattle.vh_design_code.specs.declared.code.Goes.TheVariants as goes
+use Rattle.vh_design.specs.Shape.{Shape}
+use Rattle.vh_proc_thread.specs.declared.call.Call.{Call}
+use Rattle.vh_proc_thread.specs.declared.call.Repeat.{Repeat}
+use Rattle.vh_proc_thread.specs.Control.{Control, Runs, HasBody, gone, goes_on, behind, turned, outermost, or_these, is_within, is_call_of, disabled, left, left_task, left_block, blocks_of, block_around, gone_past, repeats_within, code_of, without_block, in_block, standing_in}
+use Rattle.vh_proc_thread.proofs.LastLemmas.{Apart, apart, reverse-apart, last-at, last-set, each-back, each-turned, each-taken, each-last, filter-turned}
+
+-- The innermost call goes on at a place.
+pub to-last : (d : Shape) (root k n : ℕ) (xs : List Call) (c : Call) → n ≡ length xs - 1 → 0 < length xs → c ≡ slice_index_or xs n c
+    → reverse (slice_set xs n (record c { place = k })) ≡ gone d root (goes.To k) (reverse xs)
+unfolding gone
+to-last d root k n xs c is some at = by (apart xs some)
+  where
+    by : Apart xs → reverse (slice_set xs n (record c { place = k })) ≡ gone d root (goes.To k) (reverse xs)
+    by a =
+        let here : n ≡ length (a.front ++ a.last ∷ []) - 1 = is ∙ ap (λ (ys : List Call). length ys - 1) a.is in
+        let same : c ≡ a.last = at ∙ ap (λ (ys : List Call). slice_index_or ys n c) a.is ∙ last-at a.front a.last c n here in
+        ap (λ (ys : List Call). reverse (slice_set ys n (record c { place = k }))) a.is
+        ∙ last-set a.front a.last (record c { place = k }) n here
+        ∙ ap (λ (e : Call). (let f : Call = record e { place = k } in f) ∷ reverse a.front) same
+        ∙ sym (ap (gone d root (goes.To k)) (ap reverse a.is ∙ reverse-apart a.front a.last))
+
+pub to-none : (d : Shape) (root k : ℕ) (xs : List Call) → length xs ≡ 0 → reverse xs ≡ gone d root (goes.To k) (reverse xs)
+unfolding gone
+to-none d root k [] none = refl
+to-none d root k (x ∷ xs) none = absurd (omega (arith, none))
+
+-- It stands in a block.
+pub block-last : (block : Option ℕ) (n : ℕ) (xs : List Call) (c : Call) → n ≡ length xs - 1 → 0 < length xs → c ≡ slice_index_or xs n c
+    → reverse (slice_set xs n (record c { block = block })) ≡ in_block block (reverse xs)
+block-last block n xs c is some at = by (apart xs some)
+  where
+    by : Apart xs → reverse (slice_set xs n (record c { block = block })) ≡ in_block block (reverse xs)
+    by a =
+        let here : n ≡ length (a.front ++ a.last ∷ []) - 1 = is ∙ ap (λ (ys : List Call). length ys - 1) a.is in
+        let same : c ≡ a.last = at ∙ ap (λ (ys : List Call). slice_index_or ys n c) a.is ∙ last-at a.front a.last c n here in
+        ap (λ (ys : List Call). reverse (slice_set ys n (record c { block = block }))) a.is
+        ∙ last-set a.front a.last (record c { block = block }) n here
+        ∙ ap (λ (e : Call). (let f : Call = record e { block = block } in f) ∷ reverse a.front) same
+        ∙ sym (ap (in_block block) (ap reverse a.is ∙ reverse-apart a.front a.last))
+
+pub block-none : (block : Option ℕ) (xs : List Call) → length xs ≡ 0 → reverse xs ≡ in_block block (reverse xs)
+block-none block [] none = refl
+block-none block (x ∷ xs) none = absurd (omega (arith, none))
+
+bodies-in : (d : Shape) (block : Option ℕ) (cs : List Call) → AllByRecursion (HasBody d) cs → AllByRecursion (HasBody d) (in_block block cs)
+bodies-in d block [] all = tt
+bodies-in d block (c ∷ cs) all = all
+
+pub runs-in : (d : Shape) (block : Option ℕ) (t : Control) → Runs d t → Runs d (standing_in block t)
+runs-in d block t runs = record { root = runs.root; calls = bodies-in d block t.calls runs.calls }
+
+-- It goes back.
+pub back-more : (d : Shape) (root m n k : ℕ) (xs ys : List Call) (o : Option Call) (c : Call)
+    → xs ≡ ys ++ option_to_list o → MatchOption o ((m ≡ 0) × (n ≡ 0)) (λ _. n + 1 ≡ m) → n ≡ length ys
+    → 0 < length ys → k ≡ length ys - 1 → c ≡ slice_index_or ys k c
+    → gone d root (behind d root c) (reverse ys) ≡ gone d root goes.Back (reverse xs)
+unfolding gone
+back-more d root m n k xs ys None c is cases counted some at here = absurd (let none = cases.1 in omega (arith, none, counted, some))
+back-more d root m n k xs ys (Some x) c is cases counted some at here = by (apart ys some)
+  where
+    by : Apart ys → gone d root (behind d root c) (reverse ys) ≡ gone d root goes.Back (reverse xs)
+    by a =
+        let there : k ≡ length (a.front ++ a.last ∷ []) - 1 = at ∙ ap (λ (zs : List Call). length zs - 1) a.is in
+        let same : c ≡ a.last = here ∙ ap (λ (zs : List Call). slice_index_or zs k c) a.is ∙ last-at a.front a.last c k there in
+        let turned : reverse ys ≡ a.last ∷ reverse a.front = ap reverse a.is ∙ reverse-apart a.front a.last in
+        ap (λ (e : Call). gone d root (behind d root e) (reverse ys)) same
+        ∙ ap (gone d root (behind d root a.last)) turned
+        ∙ sym (ap (gone d root goes.Back) (ap reverse is ∙ reverse-apart ys x ∙ ap (λ (zs : List Call). x ∷ zs) turned))
+
+pub back-none : (d : Shape) (root : ℕ) (xs ys : List Call) (o : Option Call) → xs ≡ ys ++ option_to_list o → length ys ≡ 0
+    → reverse ys ≡ gone d root goes.Back (reverse xs)
+unfolding gone
+back-none d root xs [] None is none = sym (ap (λ (zs : List Call). gone d root goes.Back (reverse zs)) is)
+back-none d root xs [] (Some x) is none = sym (ap (λ (zs : List Call). gone d root goes.Back (reverse zs)) is)
+back-none d root xs (y ∷ ys) o is none = absurd (omega (arith, none))
+
+-- What runs goes on running.
+bodies-gone : (d : Shape) (root : ℕ) (g : Goes) (cs : List Call) → AllByRecursion (HasBody d) cs → AllByRecursion (HasBody d) (gone d root g cs)
+unfolding gone
+bodies-gone d root (goes.To k) [] all = tt
+bodies-gone d root (goes.To k) (c ∷ cs) all = (all.0, all.1)
+bodies-gone d root goes.Back [] all = tt
+bodies-gone d root goes.Back (c ∷ []) all = tt
+bodies-gone d root goes.Back (c ∷ e ∷ cs) all = bodies-gone d root (behind d root e) (e ∷ cs) all.1
+
+pub runs-on : (d : Shape) (g : Goes) (t : Control) → Runs d t → Runs d (goes_on d g t)
+runs-on d g t runs = record { root = runs.root; calls = bodies-gone d t.root g t.calls runs.calls }
+
+-- A repeat takes a turn.
+pub turn-last : (n : ℕ) (xs : List Repeat) (r : Repeat) → n ≡ length xs - 1 → 0 < length xs → r ≡ slice_index_or xs n r → 0 < r.left
+    → reverse (slice_set xs n (record r { left = r.left - 1 })) ≡ turned (reverse xs)
+turn-last n xs r is some at more = by (apart xs some)
+  where
+    taken : (e : Repeat) → 0 < e.left → (es : List Repeat) → (let f : Repeat = record e { left = e.left - 1 } in f) ∷ es ≡ turned (e ∷ es)
+    taken e more es =
+        let test : nat_lt 0 e.left ≡ true = grind (arith, nat_tests) in
+        sym (ap (λ (b : Bool). cond b ((let f : Repeat = record e { left = e.left - 1 } in f) ∷ es) es) test)
+
+    by : Apart xs → reverse (slice_set xs n (record r { left = r.left - 1 })) ≡ turned (reverse xs)
+    by a =
+        let here : n ≡ length (a.front ++ a.last ∷ []) - 1 = is ∙ ap (λ (ys : List Repeat). length ys - 1) a.is in
+        let same : r ≡ a.last = at ∙ ap (λ (ys : List Repeat). slice_index_or ys n r) a.is ∙ last-at a.front a.last r n here in
+        ap (λ (ys : List Repeat). reverse (slice_set ys n (record r { left = r.left - 1 }))) a.is
+        ∙ last-set a.front a.last (record r { left = r.left - 1 }) n here
+        ∙ taken r more (reverse a.front)
+        ∙ ap (λ (e : Repeat). turned (e ∷ reverse a.front)) same
+        ∙ sym (ap turned (ap reverse a.is ∙ reverse-apart a.front a.last))
+
+-- The outermost call that passes a test.
+outermost-there : (test : Call → Bool) (xs : List Call) (y : Call) (ys : List Call) → outermost test (y ∷ ys) ≡ y ∷ ys
+    → outermost test (xs ++ y ∷ ys) ≡ y ∷ ys
+outermost-there test [] y ys is = is
+outermost-there test (x ∷ xs) y ys is =
+    ap (λ (zs : List Call). or_these zs (cond (test x) (x ∷ (xs ++ y ∷ ys)) [])) (outermost-there test xs y ys is)
+
+taken-more : (xs : List Call) (k : ℕ) (d : Call) → k < length xs → reverse (take (k + 1) xs) ≡ slice_index_or xs k d ∷ reverse (take k xs)
+taken-more xs k d within =
+    ap reverse (take-add k 1 xs ∙ ap (λ (ys : List Call). take k xs ++ take 1 ys) (drop-cons xs k d within))
+    ∙ reverse-apart (take k xs) (slice_index_or xs k d)
+
+pub outermost-found : (test : Call → Bool) (xs : List Call) (k : ℕ) (d : Call) → k < length xs
+    → outermost test (reverse (take k xs)) ≡ [] → test (slice_index_or xs k d) ≡ true
+    → reverse (take (k + 1) xs) ≡ outermost test (reverse xs)
+outermost-found test xs k d within none passes =
+    let c : Call = slice_index_or xs k d in
+    let here : outermost test (c ∷ reverse (take k xs)) ≡ c ∷ reverse (take k xs) =
+    ap (λ (zs : List Call). or_these zs (cond (test c) (c ∷ reverse (take k xs)) [])) none
+    ∙ ap (λ (b : Bool). cond b (c ∷ reverse (take k xs)) []) passes in
+    taken-more xs k d within
+    ∙ sym (ap (λ (ys : List Call). outermost test (reverse ys)) (sym (take-append-drop (k + 1) xs))
+    ∙ ap (outermost test) (reverse-append (take (k + 1) xs) (drop (k + 1) xs))
+    ∙ ap (λ (ys : List Call). outermost test (reverse (drop (k + 1) xs) ++ ys)) (taken-more xs k d within)
+    ∙ outermost-there test (reverse (drop (k + 1) xs)) c (reverse (take k xs)) here)
+
+pub outermost-next : (test : Call → Bool) (xs : List Call) (k : ℕ) (d : Call) → k < length xs
+    → outermost test (reverse (take k xs)) ≡ [] → test (slice_index_or xs k d) ≡ false
+    → outermost test (reverse (take (k + 1) xs)) ≡ []
+outermost-next test xs k d within none fails =
+    let c : Call = slice_index_or xs k d in
+    ap (outermost test) (taken-more xs k d within)
+    ∙ ap (λ (zs : List Call). or_these zs (cond (test c) (c ∷ reverse (take k xs)) [])) none
+    ∙ ap (λ (b : Bool). cond b (c ∷ reverse (take k xs)) []) fails
+
+pub outermost-none : (test : Call → Bool) (xs : List Call) (k : ℕ) → length xs ≤ k → outermost test (reverse (take k xs)) ≡ []
+    → reverse (take 0 xs) ≡ outermost test (reverse xs)
+outermost-none test xs k past none = sym (ap (λ (ys : List Call). outermost test (reverse ys)) (sym (take_all k xs past)) ∙ none)
+
+-- What is left of the calls runs.
+pub bodies-back : (d : Shape) (t : Control) (xs : List Call) → Runs d t → reverse xs ≡ t.calls → AllByRecursion (HasBody d) xs
+bodies-back d t xs runs is = each-back (HasBody d) xs (subst (AllByRecursion (HasBody d)) (sym is) runs.calls)
+
+pub runs-taken : (d : Shape) (t : Control) (root outer n : ℕ) (xs ys : List Call) (rs ss : List Repeat) → Runs d t
+    → (let q : Control = record { root = root; outer = outer; calls = reverse xs; repeats = rs } in q) ≡ t → ys ≡ take n xs
+    → Runs d (record { root = root; outer = outer; calls = reverse ys; repeats = ss })
+runs-taken d t root outer n xs ys rs ss runs is taken = record {
+  root = subst (λ (q : Control). q.root < length d.codes) (sym is) runs.root;
+  calls = each-turned (HasBody d) ys (subst (AllByRecursion (HasBody d)) (sym taken)
+      (each-taken (HasBody d) n xs (bodies-back d t xs runs (ap (λ (q : Control). q.calls) is))));
+}
+
+pub body-last : (d : Shape) (ys : List Call) (c : Call) → AllByRecursion (HasBody d) ys → 0 < length ys → c ≡ slice_index_or ys (length ys - 1) c
+    → HasBody d c
+body-last d ys c all some at = by (apart ys some)
+  where
+    by : Apart ys → HasBody d c
+    by a =
+        subst (HasBody d) (sym (at ∙ ap (λ (zs : List Call). slice_index_or zs (length zs - 1) c) a.is ∙ last-at a.front a.last c _ refl))
+        (each-last (HasBody d) a.front a.last (subst (AllByRecursion (HasBody d)) a.is all))
+
+-- The innermost of the calls that are left.
+pub record Innermost (ys : List Call) (c : Call) : Type 0 where
+  pub rest : List Call
+  pub is : reverse ys ≡ c ∷ rest
+
+pub innermost : (ys : List Call) (c : Call) → 0 < length ys → c ≡ slice_index_or ys (length ys - 1) c → Innermost ys c
+innermost ys c some at = by (apart ys some)
+  where
+    by : Apart ys → Innermost ys c
+    by a = record {
+      rest = reverse a.front;
+      is = ap reverse a.is ∙ reverse-apart a.front a.last
+          ∙ ap (λ (e : Call). e ∷ reverse a.front) (sym (at ∙ ap (λ (zs : List Call). slice_index_or zs (length zs - 1) c) a.is ∙ last-at a.front a.last c _ refl));
+    }
+
+-- A thread leaves the task or block that is disabled.
+pub stays : (d : Shape) (target : ℕ) (t : Control) (cs : List Call) → cs ≡ outermost (is_within d t.root target) t.calls → cs ≡ [] → t ≡ disabled d target t
+stays d target t cs found none = sym (ap (left d target t) (sym found ∙ none))
+
+pub leaves-task : (d : Shape) (target : ℕ) (t : Control) (cs : List Call) (c : Call) (rest : List Call)
+    → cs ≡ outermost (is_within d t.root target) t.calls → cs ≡ c ∷ rest → is_call_of target c ≡ true → left_task d cs t ≡ disabled d target t
+leaves-task d target t cs c rest found is task =
+    ap (λ (ds : List Call). left_task d ds t) is
+    ∙ sym (ap (left d target t) (sym found ∙ is)
+    ∙ ap (λ (b : Bool). cond b (left_task d (c ∷ rest) t) (left_block d target (c ∷ rest) (blocks_of d t.root c) (block_around d t.root target c) t)) task)
+
+pub leaves-block : (d : Shape) (target : ℕ) (t : Control) (cs : List Call) (c : Call) (rest : List Call)
+    → cs ≡ outermost (is_within d t.root target) t.calls → cs ≡ c ∷ rest → is_call_of target c ≡ false
+    → left_block d target cs (blocks_of d t.root c) (block_around d t.root target c) t ≡ disabled d target t
+leaves-block d target t cs c rest found is other =
+    ap (λ (ds : List Call). left_block d target ds (blocks_of d t.root c) (block_around d t.root target c) t) is
+    ∙ sym (ap (left d target t) (sym found ∙ is)
+    ∙ ap (λ (b : Bool). cond b (left_task d (c ∷ rest) t) (left_block d target (c ∷ rest) (blocks_of d t.root c) (block_around d t.root target c) t)) other)
+
+abbrev pub control : ℕ → ℕ → List Call → List Repeat → Control
+control root outer calls repeats = record { root = root; outer = outer; calls = calls; repeats = repeats }
+
+-- The same as the code has them, from the outside in.
+pub task-left : (d : Shape) (target root outer n : ℕ) (xs ys : List Call) (rs ss : List Repeat) (c : Call) (t : Control)
+    → control root outer (reverse xs) (reverse rs) ≡ t → ys ≡ take n xs → n ≡ length ys
+    → reverse (take n xs) ≡ outermost (is_within d root target) (reverse xs)
+    → Innermost ys c → is_call_of target c ≡ true → ss ≡ filter (λ r. nat_lt r.depth n) rs
+    → gone_past d (goes_on d goes.Back (control root outer (reverse ys) (reverse ss))) ≡ disabled d target t
+task-left d target root outer n xs ys rs ss c t is taken many found inner task kept =
+    ap (λ (zs : List Repeat). gone_past d (goes_on d goes.Back (control root outer (reverse ys) zs)))
+    (ap reverse kept ∙ filter-turned (λ r. nat_lt r.depth n) rs ∙ ap (λ (m : ℕ). filter (λ r. nat_lt r.depth m) (reverse rs)) (many ∙ sym (length-reverse ys)))
+    ∙ leaves-task d target (control root outer (reverse xs) (reverse rs)) (reverse ys) c inner.rest (ap reverse taken ∙ found) inner.is task
+    ∙ ap (disabled d target) is
+
+pub block-left : (d : Shape) (target root outer n : ℕ) (xs ys : List Call) (rs ss : List Repeat) (c : Call) (t : Control) (bs : List Block) (b : Block)
+    → control root outer (reverse xs) (reverse rs) ≡ t → ys ≡ take n xs → n ≡ length ys
+    → reverse (take n xs) ≡ outermost (is_within d root target) (reverse xs)
+    → Innermost ys c → is_call_of target c ≡ false → bs ≡ blocks_of d root c → Some b ≡ block_around d root target c
+    → ss ≡ filter (λ r. not (repeats_within bs n target r)) rs
+    → without_block d b (control root outer (reverse ys) (reverse ss)) ≡ disabled d target t
+block-left d target root outer n xs ys rs ss c t bs b is taken many found inner other blocks around kept =
+    ap (λ (zs : List Repeat). without_block d b (control root outer (reverse ys) zs))
+    (ap reverse kept ∙ filter-turned (λ r. not (repeats_within bs n target r)) rs
+    ∙ ap (λ (m : ℕ). filter (λ r. not (repeats_within bs m target r)) (reverse rs)) (many ∙ sym (length-reverse ys))
+    ∙ ap (λ (cs : List Block). filter (λ r. not (repeats_within cs (length (reverse ys)) target r)) (reverse rs)) blocks)
+    ∙ ap (λ (o : Option Block). left_block d target (reverse ys) (blocks_of d root c) o (control root outer (reverse xs) (reverse rs))) around
+    ∙ leaves-block d target (control root outer (reverse xs) (reverse rs)) (reverse ys) c inner.rest (ap reverse taken ∙ found) inner.is other
+    ∙ ap (disabled d target) is
+
+pub none-left : (d : Shape) (target root outer n : ℕ) (xs ys : List Call) (rs : List Repeat) (c : Call) (t : Control)
+    → control root outer (reverse xs) (reverse rs) ≡ t → ys ≡ take n xs
+    → reverse (take n xs) ≡ outermost (is_within d root target) (reverse xs)
+    → Innermost ys c → is_call_of target c ≡ false → None ≡ block_around d root target c
+    → control root outer (reverse ys) (reverse rs) ≡ disabled d target t
+none-left d target root outer n xs ys rs c t is taken found inner other around =
+    ap (λ (o : Option Block). left_block d target (reverse ys) (blocks_of d root c) o (control root outer (reverse xs) (reverse rs))) around
+    ∙ leaves-block d target (control root outer (reverse xs) (reverse rs)) (reverse ys) c inner.rest (ap reverse taken ∙ found) inner.is other
+    ∙ ap (disabled d target) is
+
+-- The calls up to the outermost, as the code has them.
+pub record Cut (d : Shape) (target root n : ℕ) (xs ys : List Call) (c : Call) : Type 0 where
+  pub taken : ys ≡ take n xs
+  pub many : n ≡ length ys
+  pub found : reverse (take n xs) ≡ outermost (is_within d root target) (reverse xs)
+  pub inner : Innermost ys c
+
+pub cut : (d : Shape) (target root n : ℕ) (xs ys zs ws : List Call) (c : Call) → ys ≡ take n xs → zs ≡ xs → n ≤ length zs
+    → reverse (take n zs) ≡ outermost (is_within d root target) (reverse zs) → ws ≡ ys → 0 < length ws → c ≡ slice_index_or ws (length ws - 1) c
+    → Cut d target root n xs ys c
+cut d target root n xs ys zs ws c taken zs_is most found ws_is some at = record {
+  taken = taken;
+  many = sym (ap length taken ∙ length-take-le n xs (subst (λ (vs : List Call). n ≤ length vs) zs_is most));
+  found = subst (λ (vs : List Call). reverse (take n vs) ≡ outermost (is_within d root target) (reverse vs)) zs_is found;
+  inner = innermost ys c (subst (λ (vs : List Call). 0 < length vs) ws_is some) (at ∙ ap (λ (vs : List Call). slice_index_or vs (length vs - 1) c) ws_is);
+}
+
+pub body-cut : (d : Shape) (t : Control) (n : ℕ) (xs ys ws : List Call) (c : Call) → Runs d t → reverse xs ≡ t.calls → ys ≡ take n xs
+    → ws ≡ ys → 0 < length ws → c ≡ slice_index_or ws (length ws - 1) c → HasBody d c
+body-cut d t n xs ys ws c runs is taken ws_is some at =
+    body-last d ws c
+    (subst (AllByRecursion (HasBody d)) (sym (ws_is ∙ taken)) (each-taken (HasBody d) n xs (bodies-back d t xs runs is))) some at
+
+pub task-cut : (d : Shape) (target root outer n : ℕ) (xs ys : List Call) (rs ss : List Repeat) (c : Call) (t : Control)
+    → control root outer (reverse xs) (reverse rs) ≡ t → Cut d target root n xs ys c → is_call_of target c ≡ true
+    → ss ≡ filter (λ r. nat_lt r.depth n) rs
+    → gone_past d (goes_on d goes.Back (control root outer (reverse ys) (reverse ss))) ≡ disabled d target t
+task-cut d target root outer n xs ys rs ss c t is k task kept =
+    task-left d target root outer n xs ys rs ss c t is k.taken k.many k.found k.inner task kept
+
+pub block-cut : (d : Shape) (target root outer n : ℕ) (xs ys : List Call) (rs ss : List Repeat) (c : Call) (t : Control) (code : Code) (bs : List Block) (b : Block)
+    → control root outer (reverse xs) (reverse rs) ≡ t → Cut d target root n xs ys c → is_call_of target c ≡ false
+    → code_of d root c.routine ≡ Some code → bs ≡ code.blocks → Some b ≡ block_around d root target c
+    → ss ≡ filter (λ r. not (repeats_within bs n target r)) rs
+    → without_block d b (control root outer (reverse ys) (reverse ss)) ≡ disabled d target t
+block-cut d target root outer n xs ys rs ss c t code bs b is k other there blocks around kept =
+    block-left d target root outer n xs ys rs ss c t bs b is k.taken k.many k.found k.inner other
+    (blocks ∙ sym (ap (λ (o : Option Code). unwrap_or (option_map (λ (e : Code). e.blocks) o) []) there)) around kept
+
+pub none-cut : (d : Shape) (target root outer n : ℕ) (xs ys : List Call) (rs : List Repeat) (c : Call) (t : Control)
+    → control root outer (reverse xs) (reverse rs) ≡ t → Cut d target root n xs ys c → is_call_of target c ≡ false
+    → None ≡ block_around d root target c → control root outer (reverse ys) (reverse rs) ≡ disabled d target t
+none-cut d target root outer n xs ys rs c t is k other around =
+    none-left d target root outer n xs ys rs c t is k.taken k.found k.inner other around

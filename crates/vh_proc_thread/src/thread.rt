@@ -1,0 +1,268 @@
+ghost use Rattle.std.specs.Prelude.{◌≡◌, ◌<◌, ◌≤◌, length, option_copied, true, IfOk, OnOk, OnErr, IfErr};
+ghost use Rattle.vh_design_nodes.specs.Fits.{has_body};
+ghost use Rattle.vh_design.specs.Shape.{Shape};
+ghost use Rattle.vh_proc_thread.specs.Control.{Runs, HasCause, has_turn, next_of, process_of, branch_of, goes_on, called, is_inside, disabled, repeat_turned, repeating, depth_of, routine_of, gone_past, arrived, standing_in, without_block};
+
+use crate::call::{Call, CallFault, MOST_CALLS, Repeat};
+use crate::place::{
+    behind, block_around, code_of, is_call_of, is_repeat_within, start_of, up_to_outermost,
+};
+use std::alloc::Global;
+use std::marker::Model;
+use vh_base::{NoMemory, ObjId, ProcId};
+use vh_design::{Block, Design, Goes, Instruction};
+
+/// A process, or a branch of a `fork`, which contracts see as its `Control`.
+#[derive(Drop)]
+pub struct Thread {
+    root: ProcId,
+    outer: u32,
+    calls: Vec<Call>,
+    repeats: Vec<Repeat>,
+}
+
+impl Model for Thread {
+    ghost use Rattle.std.specs.Prelude.{reverse, ◌≤◌, ◌+◌, length};
+    ghost use Rattle.vh_proc_thread.specs.Control.{Control};
+
+    ghost Value = { Control };
+
+    ghost view = { λ t. record {
+      root = t.root;
+      outer = t.outer;
+      calls = reverse t.calls.items;
+      repeats = reverse t.repeats.items;
+    } };
+
+    ghost invariant = { λ t. (t.outer ≤ 256) × (t.outer + length t.calls.items ≤ 257) };
+}
+
+impl Thread {
+    /// A process of the design at its beginning.
+    pub fn of_process(alloc: Global, d: &Design, p: ProcId) -> Result<Thread, NoMemory>
+        requires { p < length (d.now).codes }
+        ensures process { IfOk result (λ t. t ≡ process_of d.now p) }
+        ensures runs { IfOk result (Runs d.now) }
+    {
+        let mut thread = Thread {
+            root: p,
+            outer: 0,
+            calls: Vec::new(alloc),
+            repeats: Vec::new(alloc),
+        };
+        thread.calls.push(Call {
+            routine: None,
+            place: 0,
+            block: None,
+        })?;
+        thread.go_on(d, start_of(d, p, None));
+        Ok(thread)
+    }
+
+    /// A branch that begins there, in the code of the `fork` at which this thread stands.
+    pub fn branch(&self, alloc: Global, place: u32) -> Result<Thread, NoMemory>
+        ensures branch { IfOk result (λ t. t ≡ branch_of place self.now) }
+        ensures runs { (d : Shape) → Runs d self.now → IfOk result (Runs d) }
+    {
+        let mut calls = Vec::new(alloc);
+        calls.push(Call {
+            routine: self.routine(),
+            place,
+            block: None,
+        })?;
+        Ok(Thread {
+            root: self.root,
+            outer: self.depth(),
+            calls,
+            repeats: Vec::new(alloc),
+        })
+    }
+
+    // The task or function whose code it runs.
+    fn routine(&self) -> Option<ObjId>
+        ensures { result ≡ routine_of self.now }
+    {
+        self.calls.last()?.routine
+    }
+
+    // How many calls it is in, with those around it where it began.
+    fn depth(&self) -> u32
+        ensures depth { result ≡ depth_of self.now }
+        ensures most { result ≤ 256 }
+    {
+        self.outer + (self.calls.len() as u32).saturating_sub(1)
+    }
+
+    /// Its next label; none where it has ended.
+    pub fn next<'a>(&self, d: &'a Design) -> Option<&'a Instruction>
+        requires { Runs d.now self.now }
+        ensures { option_copied result ≡ next_of d.now self.now }
+    {
+        let call = self.calls.last()?;
+        let code = code_of(d, self.root, call.routine);
+        code.instructions.as_slice().get(call.place as usize)
+    }
+
+    /// It performs the label that comes next, so it is in the block of that instruction, also
+    /// while it waits
+    /// then.
+    pub fn arrive(&mut self, d: &Design)
+        requires { Runs d.now self.old }
+        ensures arrived { self.new ≡ arrived d.now self.old }
+        ensures runs { Runs d.now self.new }
+    {
+        let block = match self.next(d) {
+            Some(instruction) => instruction.block,
+            None => None,
+        };
+        self.stand_in(block);
+    }
+
+    /// It goes on there.
+    pub fn go_on(&mut self, d: &Design, goes: Goes)
+        requires { Runs d.now self.old }
+        ensures on { self.new ≡ goes_on d.now goes self.old }
+        ensures runs { Runs d.now self.new }
+    {
+        match goes {
+            Goes::To(place) => {
+                if let Some(call) = self.calls.last_mut() {
+                    call.place = place;
+                }
+            }
+            Goes::Back => {
+                self.calls.pop();
+                if let Some(call) = self.calls.last() {
+                    let next = behind(d, self.root, call);
+                    self.go_on(d, next);
+                }
+            }
+        }
+    }
+
+    /// It calls a task or function, whose body comes next.
+    pub fn call(&mut self, d: &Design, routine: ObjId) -> Result<(), CallFault>
+        requires runs { Runs d.now self.old }
+        requires body { has_body (d.now).objects routine ≡ true }
+        ensures called { OnOk result (self.new ≡ called d.now routine self.old) }
+        ensures room { OnOk result (depth_of self.old < 256) }
+        ensures refused { IfErr result (HasCause self.old) }
+        ensures kept { OnErr result (self.new ≡ self.old) }
+        ensures runs { Runs d.now self.new }
+    {
+        if self.depth() >= MOST_CALLS {
+            return Err(CallFault::TooDeep);
+        }
+        let pushed = self.calls.push(Call {
+            routine: Some(routine),
+            place: 0,
+            block: None,
+        });
+        if pushed.is_err() {
+            return Err(CallFault::NoMemory);
+        }
+        let start = start_of(d, self.root, Some(routine));
+        self.go_on(d, start);
+        Ok(())
+    }
+
+    /// It begins a `repeat` in this block of its code, with so many turns behind the first.
+    pub fn begin_repeat(&mut self, block: Option<u32>, left: u64) -> Result<(), NoMemory>
+        ensures begun { OnOk result (self.new ≡ repeating block left self.old) }
+        ensures kept { OnErr result (self.new ≡ self.old) }
+        ensures runs { (d : Shape) → Runs d self.old → Runs d self.new }
+    {
+        let depth = self.calls.len() as u32;
+        self.repeats.push(Repeat { depth, block, left })?;
+        Ok(())
+    }
+
+    /// The innermost `repeat` takes a turn; or none is left, and it is over.
+    pub fn take_turn(&mut self) -> bool
+        ensures turn { result ≡ has_turn (self.old).repeats }
+        ensures turned { self.new ≡ repeat_turned self.old }
+        ensures runs { (d : Shape) → Runs d self.old → Runs d self.new }
+    {
+        let Some(repeat) = self.repeats.last_mut() else {
+            return false;
+        };
+        if repeat.left > 0 {
+            repeat.left -= 1;
+            return true;
+        }
+        self.repeats.pop();
+        false
+    }
+
+    /// Is it inside the named block or task?
+    pub fn is_inside(&self, d: &Design, target: ObjId) -> bool
+        requires { Runs d.now self.now }
+        ensures { result ≡ is_inside d.now target self.now }
+    {
+        up_to_outermost(d, self.root, target, &self.calls) > 0
+    }
+
+    /// The named block or task is disabled: where it is inside, it goes on behind the outermost
+    /// such block
+    /// or call (IEEE 1364-2005, 10.3).
+    pub fn disable(&mut self, d: &Design, target: ObjId)
+        requires { Runs d.now self.old }
+        ensures disabled { self.new ≡ disabled d.now target self.old }
+        ensures runs { Runs d.now self.new }
+    {
+        let depth = up_to_outermost(d, self.root, target, &self.calls);
+        if depth == 0 {
+            return;
+        }
+        self.calls.truncate(depth);
+        let Some(call) = self.calls.last() else {
+            return;
+        };
+        if is_call_of(target, call) {
+            self.repeats
+                .retain(|repeat| (repeat.depth as usize) < depth);
+            self.go_on(d, Goes::Back);
+            self.go_past(d);
+            return;
+        }
+        if let Some(block) = block_around(d, self.root, target, call) {
+            let blocks = code_of(d, self.root, call.routine).blocks.as_slice();
+            self.repeats
+                .retain(|repeat| !is_repeat_within(blocks, depth, target, repeat));
+            self.leave_block(d, &block);
+        }
+    }
+
+    // It goes on behind this block of its code, in the one around it.
+    fn leave_block(&mut self, d: &Design, block: &Block)
+        requires { Runs d.now self.old }
+        ensures left { self.new ≡ without_block d.now block.now self.old }
+        ensures runs { Runs d.now self.new }
+    {
+        self.stand_in(block.around);
+        self.go_on(d, block.after);
+    }
+
+    // The innermost call is in this block of its code.
+    fn stand_in(&mut self, block: Option<u32>)
+        ensures stands { self.new ≡ standing_in block self.old }
+        ensures runs { (d : Shape) → Runs d self.old → Runs d self.new }
+    {
+        let Some(call) = self.calls.last_mut() else {
+            return;
+        };
+        call.block = block;
+    }
+
+    // It goes on behind the instruction at which it stands, without its label.
+    fn go_past(&mut self, d: &Design)
+        requires { Runs d.now self.old }
+        ensures past { self.new ≡ gone_past d.now self.old }
+        ensures runs { Runs d.now self.new }
+    {
+        if let Some(call) = self.calls.last() {
+            let next = behind(d, self.root, call);
+            self.go_on(d, next);
+        }
+    }
+}

@@ -1,0 +1,176 @@
+ghost use Rattle.std.specs.Prelude.{◌≡◌, ◌++◌, ◌≤◌, [], None, length, OnOk, OnErr, IfOk, IsTrue, if◌then◌else◌};
+ghost use Rattle.vh_base.specs.Outside.{appended, AppendsFront};
+ghost use Rattle.vh_sim_edge.specs.Kept.{Kept, Tells};
+
+use std::alloc::Global;
+use std::rt::Clock;
+use std::time::{Duration, Instant};
+use vh_base::{Sink, SinkFault};
+
+// How many milliseconds old the oldest byte held is when a look at the clock writes it out.
+const PATIENCE: u64 = 250;
+
+// Where so many bytes or more came within so many milliseconds, the clock isn't looked at with so many pieces.
+const MUCH: usize = 4_096;
+
+const HASTE: u64 = 10;
+
+const UNSEEN: u8 = 7;
+
+/// A sink that holds what it is given, up to so many bytes, and writes it out to the sink below: when there would be more, with
+/// a piece that comes a quarter of a second after the oldest one held, and by `flush`. That piece is the first one that comes
+/// then. But where 4,096 bytes came within 10 milliseconds the clock is looked at with each eighth piece alone, and then it may
+/// be any of the first eight. With no room it writes each piece at once. It tells nothing itself, since what is held when a
+/// write fails is lost.
+#[derive(Drop)]
+pub struct Holding<'a, K, C> {
+    sink: K,
+    clock: &'a C,
+    room: usize,
+    held: Vec<u8>,
+    // when the first piece of those that are held came
+    since: Option<Instant>,
+    // with how many pieces more the clock isn't looked at
+    unseen: u8,
+}
+
+impl<'a, K: Sink, C: Clock> Holding<'a, K, C> {
+    pub fn new(sink: K, clock: &'a C, alloc: Global, room: usize) -> Holding<'a, K, C>
+        ensures sink { result.sink ≡ sink }
+        ensures nothing { result.held.items ≡ [] }
+        ensures room { result.room ≡ room }
+    {
+        Holding {
+            sink,
+            clock,
+            room,
+            held: Vec::new(alloc),
+            since: None,
+            unseen: 0,
+        }
+    }
+
+    /// Writes out what is held. Nothing is held then, also where this fails: what wasn't written is lost.
+    pub fn flush(&mut self) -> Result<(), SinkFault>
+        ensures nothing { self.new.held.items ≡ [] }
+        ensures ok { OnOk result (K.written self.new.sink
+            ≡ appended (K.written self.old.sink) self.old.held.items) }
+        ensures err { OnErr result (AppendsFront (K.written self.old.sink) (K.written self.new.sink)
+            self.old.held.items) }
+        ensures tells { Tells result (K.faults self.old.sink) (K.faults self.new.sink) }
+        ensures room { self.new.room ≡ self.old.room }
+    {
+        let written = write_whole(&mut self.sink, self.held.as_slice());
+        self.held.clear();
+        self.since = None;
+        self.unseen = 0;
+        written
+    }
+
+    // Takes a piece: keeps it, and writes out what is held where that has been held long enough.
+    fn take(&mut self, piece: &[u8]) -> Result<(), SinkFault>
+        ensures ok { OnOk result (Kept (K.written self.old.sink) (K.written self.new.sink)
+            self.new.held.items (self.old.held.items ++ piece.now)) }
+        ensures err { OnErr result (AppendsFront (K.written self.old.sink) (K.written self.new.sink)
+            (self.old.held.items ++ piece.now)) }
+        ensures nothing { OnErr result (self.new.held.items ≡ []) }
+        ensures tells { Tells result (K.faults self.old.sink) (K.faults self.new.sink) }
+        ensures bounded { length self.old.held.items ≤ self.old.room
+            → length self.new.held.items ≤ self.old.room }
+    {
+        self.keep(piece)?;
+        if self.is_due() {
+            self.flush()?;
+        }
+        Ok(())
+    }
+
+    // Holds a piece behind what is held, or where it has no room writes that out first, and the piece too where it has no
+    // room alone.
+    #[tactic(auto, using(crate::proofs::Appended::kept_all))]
+    fn keep(&mut self, piece: &[u8]) -> Result<(), SinkFault>
+        ensures ok { OnOk result (Kept (K.written self.old.sink) (K.written self.new.sink)
+            self.new.held.items (self.old.held.items ++ piece.now)) }
+        ensures err { OnErr result (AppendsFront (K.written self.old.sink) (K.written self.new.sink)
+            (self.old.held.items ++ piece.now)) }
+        ensures nothing { OnErr result (self.new.held.items ≡ []) }
+        ensures tells { Tells result (K.faults self.old.sink) (K.faults self.new.sink) }
+        ensures bounded { length self.old.held.items ≤ self.old.room
+            → length self.new.held.items ≤ self.old.room }
+        ensures room { self.new.room ≡ self.old.room }
+    {
+        if self.hold(piece) {
+            return Ok(());
+        }
+        self.flush()?;
+        if self.hold(piece) {
+            return Ok(());
+        }
+        write_whole(&mut self.sink, piece)
+    }
+
+    // Appends a piece to what is held, where there is room and memory for it.
+    fn hold(&mut self, piece: &[u8]) -> bool
+        ensures held { self.new.held.items
+            ≡ (if result then self.old.held.items ++ piece.now else self.old.held.items) }
+        ensures bounded { length self.old.held.items ≤ self.old.room
+            → length self.new.held.items ≤ self.old.room }
+        ensures sink { self.new.sink ≡ self.old.sink }
+        ensures room { self.new.room ≡ self.old.room }
+    {
+        piece.len() <= self.room.saturating_sub(self.held.len())
+            && self.held.extend_from_slice(piece).is_ok()
+    }
+
+    // Has the oldest of what is held been held long enough, as far as the clock is looked at? It has where the clock can't be
+    // read; the clock isn't read where nothing is held.
+    fn is_due(&mut self) -> bool
+        ensures held { self.new.held.items ≡ self.old.held.items }
+        ensures sink { self.new.sink ≡ self.old.sink }
+        ensures room { self.new.room ≡ self.old.room }
+    {
+        if self.held.is_empty() {
+            return false;
+        }
+        if self.unseen > 0 {
+            self.unseen -= 1;
+            return false;
+        }
+        let Ok(now) = Instant::now(self.clock) else {
+            return true;
+        };
+        let Some(since) = self.since else {
+            self.since = Some(now);
+            return false;
+        };
+        let age = now.duration_since(since);
+        if self.held.len() >= MUCH && age < Duration::from_millis(HASTE) {
+            self.unseen = UNSEEN;
+        }
+        age >= Duration::from_millis(PATIENCE)
+    }
+}
+
+impl<K: Sink, C: Clock> Sink for Holding<'_, K, C> {
+    ghost written = { λ _. None };
+
+    ghost faults = { λ s. K.faults s.sink };
+
+    fn write(&mut self, piece: &[u8]) -> Result<usize, SinkFault> {
+        self.take(piece)?;
+        Ok(piece.len())
+    }
+}
+
+// Offers the piece whole, and after a write that took a part the rest, until all is taken.
+fn write_whole<K: Sink>(out: &mut K, piece: &[u8]) -> Result<(), SinkFault>
+    ensures ok { OnOk result (K.written out.new ≡ appended (K.written out.old) piece.now) }
+    ensures err { OnErr result (AppendsFront (K.written out.old) (K.written out.new) piece.now) }
+    ensures tells { Tells result (K.faults out.old) (K.faults out.new) }
+{
+    let mut done = 0;
+    while done < piece.len() {
+        done += out.write(&piece[done..])?;
+    }
+    Ok(())
+}

@@ -1,5 +1,0 @@
-use Rattle.vh_turn.proofs.LawsLemmas.{comes-to-its-value}
-use Rattle.vh_turn.proofs.laws.turn_laws.Goals as goal
-
-pub returns : goal.returns
-returns c = record { drivers = comes-to-its-value }
