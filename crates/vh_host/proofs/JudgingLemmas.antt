@@ -2,6 +2,9 @@
 use Rattle.std.proofs.Common.{◌≡◌, ◌+◌, ◌≤◌, ℕ, List, [], ◌∷◌, ◌++◌, Bool, true, false, cond, Option, Some, None, Result, Ok, Err, IfErr, refl, sym, ap, subst, ◌∙◌, arith, inl, inr}
 use Rattle.vh_base.specs.Outside.{appended}
 use Rattle.vh_design.specs.Shape.{Shape}
+use Rattle.vh_elab.specs.Elaborated.{Elaborated, made, later, elaborated}
+use Rattle.vh_elab.specs.Elaborated as elab
+use Rattle.vh_ast.specs.Items.{SourceTree}
 use Rattle.vh_app.specs.Script.{ScriptData}
 use Rattle.vh_app.specs.Reading.{app_of}
 use Rattle.vh_base.specs.declared.faults.AppFault.{AppFault}
@@ -15,7 +18,7 @@ use Rattle.vh_host.specs.declared.status.Status.TheVariants as status
 use Rattle.vh_host.specs.declared.judging.Refusal.{Refusal}
 use Rattle.vh_host.specs.declared.judging.Refusal.TheVariants as refusal
 use Rattle.vh_host_words.specs.Words.{Reading, reading, files_of, order_of, budget_of, file_words, is_script_word}
-use Rattle.vh_host.specs.Acceptance.{Verdict, accepts, refuses, by_reading, by_files, by_length, by_texts, by_design, by_scripts, names_of, script_in, script_then, scripts_of, DesignRefusal, design_answer, verdict, File, files_with, first_too_long}
+use Rattle.vh_host.specs.Acceptance.{Verdict, accepts, refuses, by_reading, by_files, by_length, by_texts, by_source, by_scripts, by_elaboration, begin_from, names_of, script_in, script_then, scripts_of, DesignRefusal, source_of, verdict, File, files_with, first_too_long}
 use Rattle.vh_host.specs.Transcript.{WroteOf, WroteFromOpening}
 use Rattle.vh_host.specs.Headline.{Holds, FailsBefore, AnswersWith, Accounts, Transcribes, Refuses, WereAnswered, Tells}
 use Rattle.vh_host.specs.Reading.{AreRead, MeetsLong, MeetsNoneLong, contents_of}
@@ -72,26 +75,32 @@ scripts_later m n found (file ∷ files) =
     (λ scripts. scripts_later m (n + 1) scripts files))
     (scripts_later m (n + 1) found files)
 
-failed_scripts : (order : Chooser) (budget : ℕ) (design : Shape) (scripts : Result (List ScriptData) Status) (n : ℕ) (w : Option (List ℕ))
-    → IfErr scripts (FailsBefore n) → AnswersWith order budget (by_scripts design scripts) (status.ReadFault n) w w
-failed_scripts order budget design (Ok scripts) n w later = record {
+failed_elaboration : (order : Chooser) (budget : ℕ) (e : Elaborated) (scripts : List ScriptData) (n : ℕ) (w : Option (List ℕ))
+    → AnswersWith order budget (by_elaboration e scripts) (status.ReadFault n) w w
+failed_elaboration order budget (made design) scripts n w = record {
   written = [];
   appends = sym (appended_nothing w);
   answers = wrote_none order budget design scripts (status.ReadFault n) (refl, refl);
 }
-failed_scripts order budget design (Err refusal) n w later = failed_refusal order budget refusal n w later
+failed_elaboration order budget (elab.refused f) scripts n w = failed_refusal order budget _ n w tt
+failed_elaboration order budget later scripts n w = failed_refusal order budget _ n w tt
+
+failed_scripts : (order : Chooser) (budget : ℕ) (begin : Place) (source : SourceTree) (scripts : Result (List ScriptData) Status) (n : ℕ) (w : Option (List ℕ))
+    → IfErr scripts (FailsBefore n) → AnswersWith order budget (by_scripts begin source scripts) (status.ReadFault n) w w
+failed_scripts order budget begin source (Ok scripts) n w later = failed_elaboration order budget (elaborated begin source) scripts n w
+failed_scripts order budget begin source (Err refusal) n w later = failed_refusal order budget refusal n w later
 
 -- So are the texts.
-failed_design : (order : Chooser) (budget : ℕ) (design : Result Shape DesignRefusal) (files : List File) (n : ℕ) (w : Option (List ℕ))
-    → AnswersWith order budget (by_design design files) (status.ReadFault n) w w
-failed_design order budget (Err refusal) files n w = failed_refusal order budget _ n w tt
-failed_design order budget (Ok design) files n w =
-    failed_scripts order budget design (scripts_of 1 [] files) n w (scripts_later n 1 [] files)
+failed_source : (order : Chooser) (budget : ℕ) (source : Result SourceTree DesignRefusal) (files : List File) (n : ℕ) (w : Option (List ℕ))
+    → AnswersWith order budget (by_source source files) (status.ReadFault n) w w
+failed_source order budget (Err refusal) files n w = failed_refusal order budget _ n w tt
+failed_source order budget (Ok source) files n w =
+    failed_scripts order budget (begin_from 1 files) source (scripts_of 1 [] files) n w (scripts_later n 1 [] files)
 
 -- A read that failed, where no file before is too long.
 pub read_failed : (order : Chooser) (budget : ℕ) (o : Option ℕ) (files : List File) (n : ℕ) (w : Option (List ℕ))
     → ((k : ℕ) → o ≡ Some k → n ≤ k) → AnswersWith order budget (by_length o files) (status.ReadFault n) w w
-read_failed order budget None files n w before = failed_design order budget (design_answer files) files n w
+read_failed order budget None files n w before = failed_source order budget (source_of files) files n w
 read_failed order budget (Some k) files n w before = failed_refusal order budget (status.TooLong k) n w (before k refl)
 
 -- A refusal.

@@ -11,7 +11,6 @@ use Rattle.vh_callbacks.proofs.CallbacksLemmas.{at_apart, at_same}
 use Rattle.vh_logic.specs.Vector.{Vector}
 use Rattle.vh_design_nodes.specs.declared.expr.ExprNode.{ExprNode}
 use Rattle.vh_design.specs.Shape.{Shape}
-use Rattle.vh_kernel.specs.declared.phase.Phase.TheVariants as phase
 use Rattle.vh_kernel.specs.Settle.{Opens, settled}
 use Rattle.vh_kernel.specs.State.{State, IsBeforeAll, opening_agenda, world_before}
 use Rattle.vh_sense.specs.Follows.{followers}
@@ -80,16 +79,14 @@ activity-opens d = record { design = refl; entries = refl; store = store-opens d
 
 abbrev state-before : Shape → List ScriptData → State
 state-before d scripts = record {
-  world = world_before d scripts;
-  activity = activity-before d;
+  world = world_before d scripts (activity-before d);
   control = [];
   agenda = opening_agenda scripts;
   occurrence = 1;
-  phase = phase.Running;
 }
 
 is-before : (d : Shape) (scripts : List ScriptData) → IsBeforeAll d scripts (state-before d scripts)
-is-before d scripts = record { world = refl; activity = activity-opens d; control = refl; agenda = refl; occurrence = refl; phase = refl }
+is-before d scripts = record { world = refl; activity = activity-opens d; control = refl; agenda = refl; occurrence = refl }
 
 pub has-opening : (d : Shape) (scripts : List ScriptData) → (s : State) × Opens d scripts s
 has-opening d scripts =

@@ -13,10 +13,10 @@ use Rattle.vh_lex.specs.Lexed.{Lexed, reading, refused, exhausted, file_read, fi
 use Rattle.vh_lex.specs.Lexed as lexed
 use Rattle.vh_host.specs.declared.file.TextFile.{TextFile}
 use Rattle.vh_host_words.specs.Words.{is_design_word, is_script_word}
-use Rattle.vh_design.specs.Shape.{Shape}
+use Rattle.vh_ast.specs.Items.{SourceTree}
 use Rattle.vh_host.specs.Acceptance.{DesignRefusal, closed_answer, lexed_answer, File, limit_of, is_too_long, first_too_long, design_files}
 use Rattle.vh_host.specs.declared.judging.Refusal.{Refusal}
-use Rattle.vh_host.specs.Judging.{Designs, Lexes, refusal_of}
+use Rattle.vh_host.specs.Judging.{Sources, Lexes, refusal_of}
 use Rattle.vh_host.specs.Reading.{file_seen, files_seen}
 
 -- No file has more bytes than a Verilog file may have.
@@ -88,17 +88,17 @@ file-stops new target files NoMemory r is answer come =
     let P : Refusal → Type 0 = λ x. Lexes {A = Bool} target (Err x) new in subst P (sym is) tt
 
 -- The answer at the end of the last file is the first fault of the design.
-told-closed : (begin : Place) (o : Option Conditional) (tokens : List Token) (after : Place) (fault : DesignFault) (at : Place) → closed_by o ≡ Err (Refused fault at)
-    → closed_answer begin o tokens after ≡ Err (fault, at)
-told-closed begin (Some c) tokens after fault at h = cc
-told-closed begin None tokens after fault at h = absurd (cc)
+told-closed : (o : Option Conditional) (tokens : List Token) (after : Place) (fault : DesignFault) (at : Place) → closed_by o ≡ Err (Refused fault at)
+    → closed_answer o tokens after ≡ Err (fault, at)
+told-closed (Some c) tokens after fault at h = cc
+told-closed None tokens after fault at h = absurd (cc)
 
-told : (begin : Place) (l : Lexed) (fault : DesignFault) (at : Place) → end_of l ≡ Err (Refused fault at) → lexed_answer begin l ≡ Err (fault, at)
-told begin (reading first s) fault at h = told-closed begin (slice_get s.conditionals 0) s.made.tokens s.place fault at h
-told begin (refused f p) fault at h = cc
-told begin exhausted fault at h = absurd (cc)
+told : (l : Lexed) (fault : DesignFault) (at : Place) → end_of l ≡ Err (Refused fault at) → lexed_answer l ≡ Err (fault, at)
+told (reading first s) fault at h = told-closed (slice_get s.conditionals 0) s.made.tokens s.place fault at h
+told (refused f p) fault at h = cc
+told exhausted fault at h = absurd (cc)
 
-pub ended-refused : (begin : Place) (l : Lexed) (answer : Result Shape DesignRefusal) (fault : LexFault) (why : Refusal) → why ≡ refusal_of fault
-    → answer ≡ lexed_answer begin l → end_of l ≡ Err fault → Designs answer (Err why)
-ended-refused begin l answer (Refused fault at) why e a h = subst (λ (w : Refusal). Designs answer (Err w)) (sym e) (a ∙ told begin l fault at h)
-ended-refused begin l answer NoMemory why e a h = subst (λ (w : Refusal). Designs answer (Err w)) (sym e) tt
+pub ended-refused : (l : Lexed) (answer : Result SourceTree DesignRefusal) (fault : LexFault) (why : Refusal) → why ≡ refusal_of fault
+    → answer ≡ lexed_answer l → end_of l ≡ Err fault → Sources answer (Err why)
+ended-refused l answer (Refused fault at) why e a h = subst (λ (w : Refusal). Sources answer (Err w)) (sym e) (a ∙ told l fault at h)
+ended-refused l answer NoMemory why e a h = subst (λ (w : Refusal). Sources answer (Err w)) (sym e) tt

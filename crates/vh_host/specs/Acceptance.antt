@@ -5,6 +5,7 @@ use Rattle.vh_base.specs.declared.faults.DesignFault.{DesignFault}
 use Rattle.vh_base.specs.declared.faults.DesignFault.TheVariants as fault
 use Rattle.vh_base.specs.declared.place.Place.{Place}
 use Rattle.vh_base.specs.Checks.{with_ok}
+use Rattle.vh_ast.specs.Items.{SourceTree}
 use Rattle.vh_design.specs.Shape.{Shape}
 use Rattle.vh_lex.specs.declared.conditional.Conditional.{Conditional}
 use Rattle.vh_lex.specs.declared.token.Token as lexed
@@ -70,34 +71,26 @@ abbrev pub begin_from : ℕ → List File → Place
 begin_from n [] = place 0 1 1
 begin_from n (file ∷ files) = if is_design_word file.word then place n 1 1 else begin_from (n + 1) files
 
--- The design of a source, its least fault, or S3 where it has what comes later.
-abbrev pub by_elaboration : Elaborated → Result Shape DesignRefusal
-by_elaboration (made d) = Ok d
-by_elaboration (elab.refused f) = Err f
-by_elaboration later = Err (fault.S3, place 1 1 1)
-
--- What tokens mean: the first fault of the grammar, with the place behind the last byte where no token is left; or what
--- comes of their source, which begins at `begin`.
-unfoldable pub tokens_answer : Place → List lexed.Token → Place → Result Shape DesignRefusal
-tokens_answer begin tokens after =
-    with_ok (placed tokens after (source_answer (map token_seen tokens)))
-    (λ parsed. by_elaboration (elaborated begin parsed.0))
+-- The source of tokens; or the first fault of the grammar, with the place behind the last byte where no token is left.
+unfoldable pub tokens_answer : List lexed.Token → Place → Result SourceTree DesignRefusal
+tokens_answer tokens after =
+    with_ok (placed tokens after (source_answer (map token_seen tokens))) (λ parsed. Ok parsed.0)
 
 -- The same of the tokens of whole files: the outermost conditional that is open behind the last file is L2.
-abbrev pub closed_answer : Place → Option Conditional → List lexed.Token → Place → Result Shape DesignRefusal
-closed_answer begin (Some opened) tokens after = Err (fault.L2, opened.place)
-closed_answer begin None tokens after = tokens_answer begin tokens after
+abbrev pub closed_answer : Option Conditional → List lexed.Token → Place → Result SourceTree DesignRefusal
+closed_answer (Some opened) tokens after = Err (fault.L2, opened.place)
+closed_answer None tokens after = tokens_answer tokens after
 
 -- The same of what files come to: a lexical fault comes before every other.
-abbrev pub lexed_answer : Place → Lexed → Result Shape DesignRefusal
-lexed_answer begin (reading first s) = closed_answer begin (slice_get s.conditionals 0) s.made.tokens s.place
-lexed_answer begin (refused lexical at) = Err (lexical, at)
+abbrev pub lexed_answer : Lexed → Result SourceTree DesignRefusal
+lexed_answer (reading first s) = closed_answer (slice_get s.conditionals 0) s.made.tokens s.place
+lexed_answer (refused lexical at) = Err (lexical, at)
 -- Want of memory is nothing that files come to
-lexed_answer begin exhausted = tokens_answer begin [] (place 1 1 1)
+lexed_answer exhausted = tokens_answer [] (place 1 1 1)
 
--- The design of the Verilog files among these, which are one source in word order; or their first fault.
-abbrev pub design_answer : List File → Result Shape DesignRefusal
-design_answer files = lexed_answer (begin_from 1 files) (files_read (design_files 1 files))
+-- The source of the Verilog files among these, which are one text in word order; or their first fault.
+abbrev pub source_of : List File → Result SourceTree DesignRefusal
+source_of files = lexed_answer (files_read (design_files 1 files))
 
 -- The names of scripts.
 abbrev pub names_of : List ScriptData → List (List ℕ)
@@ -126,19 +119,25 @@ scripts_of n found (file ∷ files) =
     then script_then found (λ scripts. scripts_of (n + 1) scripts files) (script_in n (app_of file.bytes (names_of found)))
     else scripts_of (n + 1) found files
 
--- A design with its scripts.
-abbrev pub by_scripts : Shape → Result (List ScriptData) Status → Verdict
-by_scripts design (Ok scripts) = accepts design scripts
-by_scripts design (Err refusal) = refuses refusal
+-- The design with its scripts, or its least fault; or S3 where the source has what comes later.
+abbrev pub by_elaboration : Elaborated → List ScriptData → Verdict
+by_elaboration (made d) scripts = accepts d scripts
+by_elaboration (elab.refused f) scripts = refuses (status.DesignRefused f.0 f.1)
+by_elaboration later scripts = refuses (status.DesignRefused fault.S3 (place 1 1 1))
 
--- The Verilog text comes before the scripts.
-abbrev pub by_design : Result Shape DesignRefusal → List File → Verdict
-by_design (Err refusal) files = refuses (status.DesignRefused refusal.0 refusal.1)
-by_design (Ok design) files = by_scripts design (scripts_of 1 [] files)
+-- The scripts come before the source, which begins at this place, is elaborated.
+abbrev pub by_scripts : Place → SourceTree → Result (List ScriptData) Status → Verdict
+by_scripts begin source (Ok scripts) = by_elaboration (elaborated begin source) scripts
+by_scripts begin source (Err refusal) = refuses refusal
+
+-- What the Verilog text's tokens and grammar refuse comes before the scripts.
+abbrev pub by_source : Result SourceTree DesignRefusal → List File → Verdict
+by_source (Err refusal) files = refuses (status.DesignRefused refusal.0 refusal.1)
+by_source (Ok source) files = by_scripts (begin_from 1 files) source (scripts_of 1 [] files)
 
 -- The texts, each of which is short enough.
 abbrev pub by_texts : List File → Verdict
-by_texts files = by_design (design_answer files) files
+by_texts files = by_source (source_of files) files
 
 abbrev pub by_length : Option ℕ → List File → Verdict
 by_length (Some n) files = refuses (status.TooLong n)

@@ -2,6 +2,7 @@
 use Rattle.std.specs.Prelude.{◌≡◌, Bool, true, false, List, Result, Ok, Err}
 use Rattle.vh_base.specs.declared.place.Place.{Place}
 use Rattle.vh_ast.specs.declared.module.Source.{Source}
+use Rattle.vh_ast.specs.Items.{SourceTree}
 use Rattle.vh_ast.specs.Views.{source_tree}
 use Rattle.vh_design.specs.Shape.{Shape}
 use Rattle.vh_lex.specs.declared.fault.LexFault.{LexFault}
@@ -12,7 +13,7 @@ use Rattle.vh_host.specs.declared.status.Status.{Status}
 use Rattle.vh_host.specs.declared.status.Status.TheVariants as status
 use Rattle.vh_host.specs.declared.judging.Refusal.{Refusal}
 use Rattle.vh_host.specs.declared.judging.Refusal.TheVariants as refusal
-use Rattle.vh_elab.specs.Elaborated.{elaborated}
+use Rattle.vh_elab.specs.Elaborated.{Elaborated, made}
 use Rattle.vh_host.specs.Acceptance.{Verdict, refuses, DesignRefusal, by_elaboration}
 
 -- The status of a refusal.
@@ -44,17 +45,17 @@ abbrev pub refusal_of : LexFault → Refusal
 refusal_of (lexical.Refused fault at) = refusal.Design fault at
 refusal_of lexical.NoMemory = refusal.NoMemory
 
--- The design, or the first fault, is what the code answers.
-abbrev pub Designs : Result Shape DesignRefusal → Result Shape Refusal → Type 0
-Designs answer (Ok design) = answer ≡ Ok design
-Designs answer (Err (refusal.Design fault at)) = answer ≡ Err (fault, at)
-Designs answer (Err (refusal.Script n fault at)) = ⊥
-Designs answer (Err refusal.NoMemory) = Unit {0}
+-- The source of the Verilog files, or their first fault, is what the code answers.
+abbrev pub Sources : Result SourceTree DesignRefusal → Result Source Refusal → Type 0
+Sources answer (Ok source) = answer ≡ Ok (source_tree source)
+Sources answer (Err (refusal.Design fault at)) = answer ≡ Err (fault, at)
+Sources answer (Err (refusal.Script n fault at)) = ⊥
+Sources answer (Err refusal.NoMemory) = Unit {0}
 
--- The source of the tokens, of which the answer comes, or the first fault of the texts.
-abbrev pub Sources : Place → Result Shape DesignRefusal → Result Source Refusal → Type 0
-Sources begin answer (Ok source) = answer ≡ by_elaboration (elaborated begin (source_tree source))
-Sources begin answer (Err why) = Designs answer (Err why)
+-- The design of a source, or its fault, whatever the scripts beside it.
+abbrev pub Designs : Elaborated → Result Shape Refusal → Type 0
+Designs elaborated (Ok design) = elaborated ≡ made design
+Designs elaborated (Err why) = (scripts : List ScriptData) → RefusesTexts why (by_elaboration elaborated scripts)
 
 -- Files come to what a lexer holds after them, or are refused.
 abbrev pub Lexes : {A : Type 0} → Lexed → Result A Refusal → Lexed → Type 0

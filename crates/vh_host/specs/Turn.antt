@@ -1,8 +1,8 @@
 -- One turn of a run: a step by a choice, and its line offered to the sink.
 use Rattle.std.specs.Prelude.{◌≡◌, ◌<◌, ℕ, List, false, Option, Some, None, ◌⊎◌}
 use Rattle.vh_base.specs.Outside.{appended, AppendsFront}
-use Rattle.vh_kernel.specs.declared.label.Ending.{Ending}
-use Rattle.vh_kernel.specs.declared.label.Ending.TheVariants as ending
+use Rattle.vh_orders.specs.declared.phase.Ending.{Ending}
+use Rattle.vh_orders.specs.declared.phase.Ending.TheVariants as ending
 use Rattle.vh_kernel.specs.declared.label.Label.{Label}
 use Rattle.vh_kernel.specs.declared.label.Label.TheVariants as label
 use Rattle.vh_kernel.specs.State.{State}

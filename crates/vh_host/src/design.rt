@@ -4,7 +4,7 @@ ghost use Rattle.vh_ast.specs.Views.{source_tree};
 ghost use Rattle.vh_elab.specs.Elaborated.{elaborated};
 ghost use Rattle.vh_base.specs.declared.faults.DesignFault.TheVariants.{S3};
 ghost use Rattle.vh_host.specs.declared.judging.Refusal.TheVariants as to;
-ghost use Rattle.vh_host.specs.Acceptance.{begin_from, by_elaboration, design_answer, design_files, first_too_long, place, tokens_answer};
+ghost use Rattle.vh_host.specs.Acceptance.{begin_from, design_files, first_too_long, place, source_of, tokens_answer};
 ghost use Rattle.vh_host.specs.Reading.{files_seen};
 ghost use Rattle.vh_host.specs.Judging.{Designs, Sources, Lexes, Begins};
 
@@ -20,29 +20,18 @@ use vh_lex::{Lexer, Token};
 use vh_parse_expr::ParseFault;
 use vh_parse_items::parse;
 
-/// The design of the Verilog files among these, which are read as one source in word order; or
-/// their first fault.
-pub fn read_design(alloc: Global, files: &[TextFile<'_>]) -> Result<Design, Refusal>
+/// The source of the Verilog files among these, which are read as one text in word order; or their
+/// first fault. Its tokens are given back here.
+pub fn read_source(alloc: Global, files: &[TextFile<'_>]) -> Result<Source, Refusal>
     requires few { length files.now ≤ 8 }
     requires short { first_too_long 1 (files_seen files.now) ≡ None }
-    ensures { Designs (design_answer (files_seen files.now)) result }
-{
-    let source = read_source(alloc, files)?;
-    designed(alloc, begin_of(files), &source)
-}
-
-// The source of the Verilog files among these. Its tokens are given back before it is elaborated.
-fn read_source(alloc: Global, files: &[TextFile<'_>]) -> Result<Source, Refusal>
-    requires few { length files.now ≤ 8 }
-    requires short { first_too_long 1 (files_seen files.now) ≡ None }
-    ensures { Sources (begin_from 1 (files_seen files.now)) (design_answer (files_seen files.now))
-        result }
+    ensures { Sources (source_of (files_seen files.now)) result }
 {
     let mut lexer = Lexer::new(alloc)?;
     let is_begun = lex_files(alloc, &mut lexer, files)?;
     lexer.end()?;
     let after = place_after(&lexer, is_begun);
-    parsed(alloc, lexer.tokens().as_slice(), begin_of(files), after)
+    parsed(alloc, lexer.tokens().as_slice(), after)
 }
 
 // Reads the Verilog files among these, and tells whether there is one.
@@ -81,8 +70,8 @@ fn place_after(lexer: &Lexer, is_begun: bool) -> Place
     }
 }
 
-// The place of the first byte of the Verilog files.
-fn begin_of(files: &[TextFile<'_>]) -> Place
+/// The place of the first byte of the Verilog files.
+pub fn begin_of(files: &[TextFile<'_>]) -> Place
     requires few { length files.now ≤ 8 }
     ensures { result ≡ begin_from 1 (files_seen files.now) }
 {
@@ -116,10 +105,10 @@ fn later() -> Refusal
     Refusal::Design(DesignFault::S3, place)
 }
 
-// The source of tokens, which begin at one place, and behind which another one is.
+// The source of tokens, behind which this place is.
 #[tactic(auto, unfolding(crate::specs::Acceptance::tokens_answer))]
-fn parsed(alloc: Global, tokens: &[Token], begin: Place, after: Place) -> Result<Source, Refusal>
-    ensures { Sources begin (tokens_answer begin tokens.now after) result }
+fn parsed(alloc: Global, tokens: &[Token], after: Place) -> Result<Source, Refusal>
+    ensures { Sources (tokens_answer tokens.now after) result }
 {
     match parse(alloc, tokens, after) {
         Ok(source) => Ok(source),
@@ -128,9 +117,9 @@ fn parsed(alloc: Global, tokens: &[Token], begin: Place, after: Place) -> Result
     }
 }
 
-// The design of a source, which begins at this place.
-fn designed(alloc: Global, begin: Place, source: &Source) -> Result<Design, Refusal>
-    ensures { Designs (by_elaboration (elaborated begin (source_tree source.now))) result }
+/// The design of a source, which begins at this place, or its least fault.
+pub fn designed(alloc: Global, begin: Place, source: &Source) -> Result<Design, Refusal>
+    ensures { Designs (elaborated begin (source_tree source.now)) result }
 {
     match elaborate(alloc, begin, source)? {
         Elaboration::Made(design) => Ok(design),

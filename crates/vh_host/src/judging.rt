@@ -4,7 +4,7 @@ ghost use Rattle.vh_host.specs.Acceptance.{by_texts, script_in, scripts_of, acce
 ghost use Rattle.vh_host.specs.Reading.{files_seen};
 ghost use Rattle.vh_host.specs.Judging.{RefusesTexts, RefusesScript, RefusesFile, status_of};
 
-use crate::design::read_design;
+use crate::design::{begin_of, designed, read_source};
 use crate::file::TextFile;
 use crate::status::Status;
 use std::alloc::{AllocError, AllocFailed, Global};
@@ -82,8 +82,8 @@ pub fn status_of(refusal: Refusal) -> Status
     }
 }
 
-/// The design and the scripts of files that were read, or the first refusal: the Verilog
-/// files first, and then the scripts in word order.
+/// The design and the scripts of files that were read, or the first refusal: the tokens and the grammar
+/// of the Verilog files first, then the scripts in word order, and then the elaboration.
 pub fn judge(alloc: Global, files: &[TextFile<'_>]) -> Result<(Design, Vec<Script>), Refusal>
     requires few { length files.now ≤ 8 }
     requires short { first_too_long 1 (files_seen files.now) ≡ None }
@@ -93,13 +93,10 @@ pub fn judge(alloc: Global, files: &[TextFile<'_>]) -> Result<(Design, Vec<Scrip
     ensures refused { IfErr result
         (λ refusal. RefusesTexts refusal (by_texts (files_seen files.now))) }
 {
-    match read_design(alloc, files) {
-        Ok(design) => {
-            let scripts = scripts_of(alloc, files)?;
-            Ok((design, scripts))
-        }
-        Err(refusal) => Err(refusal),
-    }
+    let source = read_source(alloc, files)?;
+    let scripts = scripts_of(alloc, files)?;
+    let design = designed(alloc, begin_of(files), &source)?;
+    Ok((design, scripts))
 }
 
 // The scripts in word order, or the first refusal.

@@ -8,7 +8,7 @@ use Rattle.vh_kernel.specs.Activations.{Activation}
 use Rattle.vh_kernel.specs.declared.control.Control.{Control}
 use Rattle.vh_kernel.specs.declared.control.Control.TheVariants as top
 use Rattle.vh_queue.specs.declared.entry.Entry.{Entry}
-use Rattle.vh_kernel.specs.declared.label.Ending.TheVariants as ending
+use Rattle.vh_orders.specs.declared.phase.Ending.TheVariants as ending
 use Rattle.vh_kernel.specs.declared.label.Label.{Label}
 use Rattle.vh_kernel.specs.declared.label.Label.TheVariants as label
 use Rattle.vh_kernel.specs.declared.occurrence.Agendum.{Agendum}
@@ -94,7 +94,7 @@ one-row s u v (label.Advance time) sound one other = one.2 ∙ sym other.2
 one-row s u v (label.Pick n shown) sound one other =
     let entry : one.entry ≡ other.entry =
     one_entry s one.choice other.choice one.entry other.entry sound one.chosen other.chosen (one.serial ∙ sym other.serial) in
-    let there = ap (λ (x : Entry). work_outcome x.work (with_queue (without n s.activity.queue) s)) entry
+    let there = ap (λ (x : Entry). work_outcome x.work (with_queue (without n s.world.activity.queue) s)) entry
     ∙ other.makes in
     one.leaves.1 ∙ ap (λ (m : Made). after_made m) (one-made _ one.made other.made one.makes there) ∙ sym other.leaves.1
 one-row s u v (label.Stmt p shown) sound one other =

@@ -14,8 +14,8 @@ use Rattle.vh_queue.specs.declared.region.Region.{Region}
 use Rattle.vh_kernel.specs.declared.occurrence.Agendum.{Agendum}
 use Rattle.vh_kernel.specs.declared.occurrence.Agendum.TheVariants as agendum
 use Rattle.vh_kernel.specs.declared.occurrence.Told.{Told}
-use Rattle.vh_kernel.specs.declared.phase.Phase.{Phase}
-use Rattle.vh_kernel.specs.declared.phase.Phase.TheVariants as phase
+use Rattle.vh_orders.specs.declared.phase.Phase.{Phase}
+use Rattle.vh_orders.specs.declared.phase.Phase.TheVariants as phase
 use Rattle.vh_queue.specs.Events.{eligible, next_region, least_time, without}
 use Rattle.vh_handles.specs.Handles.{Handles}
 use Rattle.vh_kernel.specs.Occurrences.{occurrence_of}
@@ -175,16 +175,16 @@ time-fits s None = tt
 time-fits s (Some time) = tt
 
 region-fits : (s : State) (o : Option Region) → Fits s (region_move o s).0
-region-fits s None = time-fits s (least_time s.activity.queue.entries)
+region-fits s None = time-fits s (least_time s.world.activity.queue.entries)
 region-fits s (Some r) = tt
 
 pick-fits : (s : State) (o : Option Entry) → Fits s (pick_move o s).0
-pick-fits s None = region-fits s (next_region s.activity.queue)
+pick-fits s None = region-fits s (next_region s.world.activity.queue)
 pick-fits s (Some e) = outcome-fits s s (λ shown. label.Pick e.serial shown)
-    (work_outcome e.work (with_queue (without e.serial s.activity.queue) s)) (λ shown. tt)
+    (work_outcome e.work (with_queue (without e.serial s.world.activity.queue) s)) (λ shown. tt)
 
 agenda-fits : (s : State) (o : Option Agendum) (k : ℕ) → Fits s (agenda_move o s k).0
-agenda-fits s None k = pick-fits s (slice_get (eligible s.activity.queue) k)
+agenda-fits s None k = pick-fits s (slice_get (eligible s.world.activity.queue) k)
 agenda-fits s (Some (agendum.Startup n)) k = tt
 agenda-fits s (Some (agendum.Occurrence r)) k = outcome-fits s s
     (λ shown. label.Occ s.occurrence r None) (telling_outcome (occurrence_of r) (without_item s)) (λ shown. tt)
@@ -195,7 +195,7 @@ idle-fits s (phase.Finished c) k = tt
 idle-fits s (phase.Ended e) k = tt
 
 top-fits : (s : State) (o : Option Control) (k : ℕ) (g : Given) → s.world.handles.is_given g.handle ≡ false → Fits s (top_move o s k g).0
-top-fits s None k g fresh = idle-fits s s.phase k
+top-fits s None k g fresh = idle-fits s s.world.phase k
 top-fits s (Some c) k g fresh = item-fits s (without_top s) c k g refl fresh
 
 crowded-fits : (s : State) (b : Bool) (k : ℕ) (g : Given) → s.world.handles.is_given g.handle ≡ false → Fits s (crowded_move b s k g).0

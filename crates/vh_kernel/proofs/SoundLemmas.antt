@@ -10,11 +10,11 @@ use Rattle.vh_kernel.specs.declared.control.Control.TheVariants as top
 use Rattle.vh_queue.specs.declared.entry.Entry.{Entry}
 use Rattle.vh_queue.specs.declared.work.Work.{Work}
 use Rattle.vh_queue.specs.declared.work.Work.TheVariants as work
-use Rattle.vh_kernel.specs.declared.label.Ending.TheVariants as ending
+use Rattle.vh_orders.specs.declared.phase.Ending.TheVariants as ending
 use Rattle.vh_kernel.specs.declared.label.Label.{Label}
 use Rattle.vh_kernel.specs.declared.label.Label.TheVariants as label
 use Rattle.vh_queue.specs.declared.region.Region.TheVariants as region
-use Rattle.vh_kernel.specs.declared.phase.Phase.TheVariants as phase
+use Rattle.vh_orders.specs.declared.phase.Phase.TheVariants as phase
 use Rattle.vh_queue.specs.declared.region.Region.{Region}
 use Rattle.vh_queue.specs.Entries.{activated_entry, is_due}
 use Rattle.vh_queue.specs.Events.{Events, no_events, is_eligible, eligible, is_beyond_start, arrived, activated, Rises}
@@ -26,7 +26,7 @@ use Rattle.vh_app.specs.Script.{ScriptData}
 use Rattle.vh_design.specs.Shape.{Shape}
 use Rattle.vh_kernel.specs.Settle.{settled, Opens}
 use Rattle.vh_proc_simulation.specs.Follows.{Serials, no_serials}
-use Rattle.vh_kernel.specs.State.{State, with_queue, with_top, without_top, without_item, with_frames}
+use Rattle.vh_kernel.specs.State.{State, with_activity, with_phase, with_queue, with_top, without_top, without_item, with_frames}
 use Rattle.vh_kernel.specs.Statements.{performed_outcome, worked_outcome, on_control, work_outcome}
 use Rattle.vh_kernel.specs.Step.{called, started, finish_move, telling_outcome, is_end}
 use Rattle.vh_kernel.specs.Table.{IsSound, TellsNext, Acts, Row, Step, StaysSound, OpensSound}
@@ -38,7 +38,7 @@ use Rattle.vh_kernel.proofs.StepLemmas.{AllMade, on-control-kept, acts, acts-kep
 
 -- It holds of the queue of a state, with what is noted there; and of what outcomes leave.
 abbrev pub HoldsIn : (Serials → Events → Type 0) → State → Type 0
-HoldsIn Q s = Q s.activity.follows s.activity.queue
+HoldsIn Q s = Q s.world.activity.follows s.world.activity.queue
 
 abbrev LeavesIn : (Serials → Events → Type 0) → Made → Type 0
 LeavesIn Q m = HoldsIn Q m.state
@@ -56,7 +56,7 @@ arrived-work gives now e = activated-work region.Inactive now e
 
 module _ (Q : Serials → Events → Type 0) (k : KeepsNotes Q) where
   -- A state with the activity of a sound one, or equal to one.
-  sound-by : (s t : State) → t.activity ≡ s.activity → HoldsIn Q s → HoldsIn Q t
+  sound-by : (s t : State) → t.world.activity ≡ s.world.activity → HoldsIn Q s → HoldsIn Q t
   sound-by s t same sound = let P : Activity → Type 0 = λ a. Q a.follows a.queue in subst P (sym same) sound
 
   sound-at : (t u : State) → t ≡ u → HoldsIn Q u → HoldsIn Q t
@@ -81,8 +81,8 @@ module _ (Q : Serials → Events → Type 0) (k : KeepsNotes Q) where
 
   work-sound : (w : Work) (s : State) → HoldsIn Q s → AllMade (LeavesIn Q) (work_outcome w s)
   work-sound w s sound =
-      worked-sound (worked w s.activity) (on_control w s) (sound-by s (on_control w s) (on-control-kept w s).activity sound)
-      (worked-keeps Q k w s.activity sound)
+      worked-sound (worked w s.world.activity) (on_control w s) (sound-by s (on_control w s) (on-control-kept w s).activity sound)
+      (worked-keeps Q k w s.world.activity sound)
 
   -- So is the state with what was made pending.
   made-sound : (out : Outcome) (m : Made) (u : State) → out ≡ Ok m → u ≡ after_made m → AllMade (LeavesIn Q) out → HoldsIn Q u
@@ -92,17 +92,17 @@ module _ (Q : Serials → Events → Type 0) (k : KeepsNotes Q) where
       sound-at u (after_made m) leaves there
 
   -- The activity of the state that an occurrence leaves.
-  tells-activity : (s : State) (o : Occurrence) (r : State) → TellsNext s o r → r.activity ≡ s.activity
+  tells-activity : (s : State) (o : Occurrence) (r : State) → TellsNext s o r → r.world.activity ≡ s.world.activity
   tells-activity s o r tells = elim tells [
-    | inl here ↦ ap (λ (t : State). t.activity) here.1
-    | inr next ↦ ap (λ (t : State). t.activity) next.3
+    | inl here ↦ ap (λ (t : State). t.world.activity) here.1
+    | inr next ↦ ap (λ (t : State). t.world.activity) next.3
   ]
 
   acts-sound : (s u : State) (l : Label) → HoldsIn Q s → Acts s l u → HoldsIn Q u
   acts-sound s u l sound row =
       let kept = acts-kept row.who (without_top s) row.given _
       (acts (slice_get s.world.scripts row.who.script) (slice_get s.world.variables row.who.script) row.who (without_top s) row.given) in
-      let P : Move → Type 0 = λ m. m.1.activity ≡ s.activity in
+      let P : Move → Type 0 = λ m. m.1.world.activity ≡ s.world.activity in
       sound-by s u (subst P row.makes kept.activity) sound
 
   -- Each row leaves a sound state.
@@ -124,22 +124,22 @@ module _ (Q : Serials → Events → Type 0) (k : KeepsNotes Q) where
       sound-at u next row.leaves (sound-by s next kept.activity sound)
   row-sound s u (label.Done n) sound row = sound-at u (with_frames (drop 1 s.world.frames) (without_top s)) row.leaves sound
   row-sound s u (label.Activate r) sound row =
-      sound-at u (with_queue (activated r s.activity.queue) s) row.1
-      (k.moves s.activity.follows s.activity.queue s.activity.queue.time (activated_entry r s.activity.queue.time) (activated-serial r s.activity.queue.time)
-      (activated-work r s.activity.queue.time) sound)
+      sound-at u (with_queue (activated r s.world.activity.queue) s) row.1
+      (k.moves s.world.activity.follows s.world.activity.queue s.world.activity.queue.time (activated_entry r s.world.activity.queue.time) (activated-serial r s.world.activity.queue.time)
+      (activated-work r s.world.activity.queue.time) sound)
   row-sound s u (label.Advance time) sound row =
-      sound-at u (record s { activity = at_time time s.activity }) row.2
-      (let gives = list_any (is_beyond_start time) s.activity.queue.entries in
-      k.moves s.activity.follows s.activity.queue time (arrived gives time) (arrived-serial gives time) (arrived-work gives time) sound)
+      sound-at u (with_activity (at_time time s.world.activity) s) row.2
+      (let gives = list_any (is_beyond_start time) s.world.activity.queue.entries in
+      k.moves s.world.activity.follows s.world.activity.queue time (arrived gives time) (arrived-serial gives time) (arrived-work gives time) sound)
   row-sound s u (label.Pick n shown) sound row =
       made-sound _ row.made u row.makes row.leaves.1
-      (work-sound row.entry.work _ ((k.each s.activity.follows).drops (λ e. not (nat_eq e.serial n)) s.activity.queue sound))
+      (work-sound row.entry.work _ ((k.each s.world.activity.follows).drops (λ e. not (nat_eq e.serial n)) s.world.activity.queue sound))
   row-sound s u (label.Stmt p shown) sound row =
-      made-sound _ row.made u row.makes row.leaves.1 (statement-sound p (performed p s.activity) (without_top s) sound (performed-keeps Q k p s.activity sound))
+      made-sound _ row.made u row.makes row.leaves.1 (statement-sound p (performed p s.world.activity) (without_top s) sound (performed-keeps Q k p s.world.activity sound))
   row-sound s u (label.Finish c) sound row =
-      sound-at u (finish_move c s).1 row.1 (k.clears s.activity.follows s.activity.queue sound)
-  row-sound s u (label.End (ending.Cause c)) sound row = sound-at u (record s { phase = phase.Ended (ending.Cause c) }) row.3 sound
-  row-sound s u (label.End (ending.Fault f)) sound row = sound-at u (record s { activity = stopped s.activity; phase = phase.Ended (ending.Fault f) }) row.1 (k.before s.activity.queue.time)
+      sound-at u (finish_move c s).1 row.1 (k.clears s.world.activity.follows s.world.activity.queue sound)
+  row-sound s u (label.End (ending.Cause c)) sound row = sound-at u (with_phase (phase.Ended (ending.Cause c)) s) row.3 sound
+  row-sound s u (label.End (ending.Fault f)) sound row = sound-at u (with_phase (phase.Ended (ending.Fault f)) (with_activity (stopped s.world.activity) s)) row.1 (k.before s.world.activity.queue.time)
 
   settled-sound : (b : Bool) (u : State) → HoldsIn Q u → HoldsIn Q (cond b u (settled u))
   settled-sound true u sound = sound
@@ -160,7 +160,7 @@ module _ (Q : Serials → Events → Type 0) (k : KeepsNotes Q) where
 
   pub opens-so : (d : Shape) (scripts : List ScriptData) (s : State) → Opens d scripts s → HoldsIn Q s
   opens-so d scripts s opens =
-      let a = opens.before.activity in
+      let a = opens.before.world.activity in
       let P : Queued → Type 0 = λ b. Q no_serials b.queue in
       let R : Serials → Type 0 = λ n. Q n a.queue in
       let there : Q no_serials a.queue = subst P (sym opens.is.activity.entries) (opening-by (is_crowded d) (length d.codes) (opening d)) in
@@ -187,8 +187,8 @@ pub opens-sound : OpensSound
 opens-sound d scripts s opens = opens-so (λ n q. Rises 1 q.next q.entries) rises-keep d scripts s opens
 
 -- An entry of a sound queue is told by its serial.
-pub one_entry : (s : State) (i j : ℕ) (e f : Entry) → IsSound s → slice_get (eligible s.activity.queue) i ≡ Some e
-    → slice_get (eligible s.activity.queue) j ≡ Some f → e.serial ≡ f.serial → e ≡ f
+pub one_entry : (s : State) (i j : ℕ) (e f : Entry) → IsSound s → slice_get (eligible s.world.activity.queue) i ≡ Some e
+    → slice_get (eligible s.world.activity.queue) j ≡ Some f → e.serial ≡ f.serial → e ≡ f
 one_entry s i j e f sound at_i at_j same =
-    rises-one 1 s.activity.queue.next (eligible s.activity.queue) i j e f
-    (rises-filter (is_eligible s.activity.queue) 1 s.activity.queue.next s.activity.queue.entries sound) at_i at_j same
+    rises-one 1 s.world.activity.queue.next (eligible s.world.activity.queue) i j e f
+    (rises-filter (is_eligible s.world.activity.queue) 1 s.world.activity.queue.next s.world.activity.queue.entries sound) at_i at_j same

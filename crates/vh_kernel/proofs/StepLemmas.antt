@@ -28,12 +28,14 @@ use Rattle.vh_queue.specs.declared.region.Region.{Region}
 use Rattle.vh_kernel.specs.declared.occurrence.Agendum.{Agendum}
 use Rattle.vh_kernel.specs.declared.occurrence.Agendum.TheVariants as agendum
 use Rattle.vh_kernel.specs.declared.occurrence.Told.{Told}
-use Rattle.vh_kernel.specs.declared.phase.Phase.{Phase}
-use Rattle.vh_kernel.specs.declared.phase.Phase.TheVariants as phase
+use Rattle.vh_orders.specs.declared.phase.Phase.{Phase}
+use Rattle.vh_orders.specs.declared.phase.Phase.TheVariants as phase
 use Rattle.vh_queue.specs.Events.{eligible, next_region, least_time}
 use Rattle.vh_dispatch.specs.Frames.{top_set, without_in_top}
 use Rattle.vh_kernel.specs.Occurrences.{Occurrence, occurrence_of}
+use Rattle.vh_orders.proofs.OrdersLemmas.{performed-kept}
 use Rattle.vh_orders.specs.Orders.{Given, performed, is_pass, is_return}
+use Rattle.vh_orders.specs.World.{World}
 use Rattle.vh_kernel.specs.Outcome.{Made, Outcome, Move, move_of}
 use Rattle.vh_kernel.specs.Settle.{settled, Opens}
 use Rattle.vh_kernel.specs.State.{State, with_top, without_top, without_item, with_frames, with_variables}
@@ -42,8 +44,8 @@ use Rattle.vh_kernel.specs.Step.{telling_outcome, called, fire_move, pass_move, 
 
 -- The second state has the activity and the phase of the first.
 pub record IsKept (s t : State) : Type 0 where
-  pub phase : t.phase ≡ s.phase
-  pub activity : t.activity ≡ s.activity
+  pub phase : t.world.phase ≡ s.world.phase
+  pub activity : t.world.activity ≡ s.world.activity
 
 pub same : (s : State) → IsKept s s
 same s = record { phase = refl; activity = refl }
@@ -107,7 +109,9 @@ acts (Some script) (Some vars) a s g =
 pub acts-kept : (a : Activation) (s : State) (g : Given) (m : Move) → IsActing a s g m → IsKept s m.1
 acts-kept a s g m (returns vars is) = subst (λ (x : Move). IsKept s x.1) (sym is) (record { phase = refl; activity = refl })
 acts-kept a s g m (passes vars further is) = subst (λ (x : Move). IsKept s x.1) (sym is) (record { phase = refl; activity = refl })
-acts-kept a s g m (orders vars o further is) = subst (λ (x : Move). IsKept s x.1) (sym is) (record { phase = refl; activity = refl })
+acts-kept a s g m (orders vars o further is) =
+    let kept = performed-kept o a.who (with_variables vars s).world g in
+    subst (λ (x : Move). IsKept s x.1) (sym is) (record { phase = kept.phase; activity = kept.activity })
 
 -- What holds of all that an outcome may leave.
 abbrev pub AllMade : (Made → Type 0) → Outcome → Type 0
@@ -120,19 +124,19 @@ either-made P false x y here there = there
 
 -- A statement keeps the phase, and so does what an occurrence or an entry comes to.
 abbrev HasPhase : Phase → Made → Type 0
-HasPhase f m = m.state.phase ≡ f
+HasPhase f m = m.state.world.phase ≡ f
 
-statement-phase : (p : ℕ) (r : Result Performed (Option Fault)) (s : State) → AllMade (HasPhase s.phase) (performed_outcome r p s)
+statement-phase : (p : ℕ) (r : Result Performed (Option Fault)) (s : State) → AllMade (HasPhase s.world.phase) (performed_outcome r p s)
 statement-phase p (Err None) s = refl
 statement-phase p (Err (Some f)) s = tt
 statement-phase p (Ok r) s = refl
 
-telling-phase : (o : Occurrence) (s : State) → AllMade (HasPhase s.phase) (telling_outcome o s)
+telling-phase : (o : Occurrence) (s : State) → AllMade (HasPhase s.world.phase) (telling_outcome o s)
 telling-phase o s =
-    unless-holds (AllMade (HasPhase s.phase)) (nat_le MOST_FRAMES (length s.world.frames)) fault.F1 _ (λ _. tt)
-    (λ _. unless-holds (AllMade (HasPhase s.phase)) (nat_lt MOST_NUMBERS s.occurrence) fault.F3 _ (λ _. tt) (λ _. refl))
+    unless-holds (AllMade (HasPhase s.world.phase)) (nat_le MOST_FRAMES (length s.world.frames)) fault.F1 _ (λ _. tt)
+    (λ _. unless-holds (AllMade (HasPhase s.world.phase)) (nat_lt MOST_NUMBERS s.occurrence) fault.F3 _ (λ _. tt) (λ _. refl))
 
-worked-phase : (r : Result Came (Option Fault)) (s : State) → AllMade (HasPhase s.phase) (worked_outcome r s)
+worked-phase : (r : Result Came (Option Fault)) (s : State) → AllMade (HasPhase s.world.phase) (worked_outcome r s)
 worked-phase (Err None) s = refl
 worked-phase (Err (Some f)) s = tt
 worked-phase (Ok c) s = refl
@@ -148,14 +152,14 @@ on-control-kept (work.Strobe n) s = same s
 on-control-kept work.MonitorShow s = same s
 on-control-kept (work.Call callback) s = same s
 
-work-phase : (w : Work) (s : State) → AllMade (HasPhase s.phase) (work_outcome w s)
+work-phase : (w : Work) (s : State) → AllMade (HasPhase s.world.phase) (work_outcome w s)
 work-phase w s =
     let P : Phase → Type 0 = λ f. AllMade (HasPhase f) (work_outcome w s) in
-    subst P (on-control-kept w s).phase (worked-phase (worked w s.activity) (on_control w s))
+    subst P (on-control-kept w s).phase (worked-phase (worked w s.world.activity) (on_control w s))
 
 -- A move that ends the run, or one after which it isn't over.
 abbrev Goes : Move → Type 0
-Goes m = is_end m.0 ≡ false → is_over m.1.phase ≡ false
+Goes m = is_end m.0 ≡ false → is_over m.1.world.phase ≡ false
 
 outcome-goes : (l : Option (List ℕ) → Label) (before : State) (f : Phase) (out : Outcome) → is_over f ≡ false
     → AllMade (HasPhase f) out → Goes (move_of l before out)
@@ -170,58 +174,58 @@ called-phase (Some r) (Some b) c o s = record { phase = refl; activity = refl }
 pub called-kept : (r : Option Registration) (b : Option Body) (c : ℕ) (o : Occurrence) (s : State) → IsKept s (called r b c o s)
 called-kept = called-phase
 
-fire-goes : (o : Option ℕ) (f : Told) (s : State) → is_over s.phase ≡ false → Goes (fire_move o f s)
+fire-goes : (o : Option ℕ) (f : Told) (s : State) → is_over s.world.phase ≡ false → Goes (fire_move o f s)
 fire-goes None f s alive = λ open_yet. alive
 fire-goes (Some c) f s alive =
     let before : State = with_top (top.Frame f) (with_frames (without_in_top c s.world.frames) s) in
     let kept = called-phase (info_of c s.world.callbacks) (body_of c s.world.callbacks) c f.what before in
     λ open_yet. ap is_over kept.phase ∙ alive
 
-time-goes : (o : Option ℕ) (s : State) → is_over s.phase ≡ false → Goes (time_move o s)
+time-goes : (o : Option ℕ) (s : State) → is_over s.world.phase ≡ false → Goes (time_move o s)
 time-goes None s alive = λ open_yet. refl
 time-goes (Some time) s alive = λ open_yet. alive
 
-region-goes : (o : Option Region) (s : State) → is_over s.phase ≡ false → Goes (region_move o s)
-region-goes None s alive = time-goes (least_time s.activity.queue.entries) s alive
+region-goes : (o : Option Region) (s : State) → is_over s.world.phase ≡ false → Goes (region_move o s)
+region-goes None s alive = time-goes (least_time s.world.activity.queue.entries) s alive
 region-goes (Some r) s alive = λ open_yet. alive
 
-pick-goes : (o : Option Entry) (s : State) → is_over s.phase ≡ false → Goes (pick_move o s)
-pick-goes None s alive = region-goes (next_region s.activity.queue) s alive
-pick-goes (Some e) s alive = outcome-goes (λ shown. label.Pick e.serial shown) s s.phase _ alive (work-phase e.work _)
+pick-goes : (o : Option Entry) (s : State) → is_over s.world.phase ≡ false → Goes (pick_move o s)
+pick-goes None s alive = region-goes (next_region s.world.activity.queue) s alive
+pick-goes (Some e) s alive = outcome-goes (λ shown. label.Pick e.serial shown) s s.world.phase _ alive (work-phase e.work _)
 
 pub started-kept : (script : Option ScriptData) (k : ℕ) (s : State) → IsKept s (started script k s)
 started-kept None k s = same s
 started-kept (Some script) k s = record { phase = refl; activity = refl }
 
-agenda-goes : (o : Option Agendum) (s : State) (k : ℕ) → is_over s.phase ≡ false → Goes (agenda_move o s k)
-agenda-goes None s k alive = pick-goes (slice_get (eligible s.activity.queue) k) s alive
+agenda-goes : (o : Option Agendum) (s : State) (k : ℕ) → is_over s.world.phase ≡ false → Goes (agenda_move o s k)
+agenda-goes None s k alive = pick-goes (slice_get (eligible s.world.activity.queue) k) s alive
 agenda-goes (Some (agendum.Startup n)) s k alive =
     let kept = started-kept (slice_get s.world.scripts (n - 1)) n (without_item s) in
     λ open_yet. ap is_over kept.phase ∙ alive
 agenda-goes (Some (agendum.Occurrence r)) s k alive =
-    outcome-goes _ s s.phase _ alive (telling-phase (occurrence_of r) (without_item s))
+    outcome-goes _ s s.world.phase _ alive (telling-phase (occurrence_of r) (without_item s))
 
-idle-goes : (f : Phase) (s : State) (k : ℕ) → s.phase ≡ f → Goes (idle_move f s k)
+idle-goes : (f : Phase) (s : State) (k : ℕ) → s.world.phase ≡ f → Goes (idle_move f s k)
 idle-goes phase.Running s k is = agenda-goes (slice_get s.agenda 0) s k (ap is_over is)
 idle-goes (phase.Finished c) s k is = λ open_yet. absurd (cc)
 idle-goes (phase.Ended e) s k is = λ open_yet. absurd (cc)
 
-item-goes : (c : Control) (s : State) (k : ℕ) (g : Given) → is_over s.phase ≡ false → Goes (item_move c s k g)
+item-goes : (c : Control) (s : State) (k : ℕ) (g : Given) → is_over s.world.phase ≡ false → Goes (item_move c s k g)
 item-goes (top.Process p) s k g alive =
-    outcome-goes (λ shown. label.Stmt p shown) (with_top (top.Process p) s) s.phase _ alive (statement-phase p (label_performed p s.activity) s)
+    outcome-goes (λ shown. label.Stmt p shown) (with_top (top.Process p) s) s.world.phase _ alive (statement-phase p (label_performed p s.world.activity) s)
 item-goes (top.Pending o) s k g alive =
-    outcome-goes (λ shown. label.Occ s.occurrence o.reason o.object) (with_top (top.Pending o) s) s.phase _ alive (telling-phase o s)
+    outcome-goes (λ shown. label.Occ s.occurrence o.reason o.object) (with_top (top.Pending o) s) s.world.phase _ alive (telling-phase o s)
 item-goes (top.Frame f) s k g alive = fire-goes (slice_get (top_set s.world.frames) k) f s alive
 item-goes (top.Activation a) s k g alive =
     let kept = acts-kept a s g _ (acts (slice_get s.world.scripts a.script) (slice_get s.world.variables a.script) a s g) in
     λ open_yet. ap is_over kept.phase ∙ alive
 item-goes (top.Leave c) s k g alive = λ open_yet. refl
 
-top-goes : (o : Option Control) (s : State) (k : ℕ) (g : Given) → is_over s.phase ≡ false → Goes (top_move o s k g)
-top-goes None s k g alive = idle-goes s.phase s k refl
+top-goes : (o : Option Control) (s : State) (k : ℕ) (g : Given) → is_over s.world.phase ≡ false → Goes (top_move o s k g)
+top-goes None s k g alive = idle-goes s.world.phase s k refl
 top-goes (Some c) s k g alive = item-goes c (without_top s) k g alive
 
-crowded-goes : (b : Bool) (s : State) (k : ℕ) (g : Given) → is_over s.phase ≡ false → Goes (crowded_move b s k g)
+crowded-goes : (b : Bool) (s : State) (k : ℕ) (g : Given) → is_over s.world.phase ≡ false → Goes (crowded_move b s k g)
 crowded-goes true s k g alive = λ open_yet. absurd (cc)
 crowded-goes false s k g alive = top-goes (slice_get s.control 0) s k g alive
 
@@ -237,7 +241,7 @@ item-some (top.Activation a) s = omega arith
 item-some (top.Leave c) s = omega arith
 
 agenda-some : (o : Option Agendum) (s : State) → 0 < agenda_choices o s
-agenda-some None s = one-of (length (eligible s.activity.queue))
+agenda-some None s = one-of (length (eligible s.world.activity.queue))
 agenda-some (Some item) s = omega arith
 
 idle-some : (f : Phase) (s : State) → is_over f ≡ false → 0 < idle_choices f s
@@ -245,8 +249,8 @@ idle-some phase.Running s alive = agenda-some (slice_get s.agenda 0) s
 idle-some (phase.Finished c) s alive = omega arith
 idle-some (phase.Ended e) s alive = absurd (cc)
 
-top-some : (o : Option Control) (s : State) → is_over s.phase ≡ false → 0 < top_choices o s
-top-some None s alive = idle-some s.phase s alive
+top-some : (o : Option Control) (s : State) → is_over s.world.phase ≡ false → 0 < top_choices o s
+top-some None s alive = idle-some s.world.phase s alive
 top-some (Some c) s alive = item-some c s
 
 choices-by : (over crowded : Bool) (n : ℕ) → over ≡ false → 0 < n → 0 < cond over 0 (cond crowded 1 n)
@@ -254,20 +258,20 @@ choices-by true crowded n alive some = absurd (cc)
 choices-by false true n alive some = omega arith
 choices-by false false n alive some = some
 
-pub some-choice : (s : State) → is_over s.phase ≡ false → 0 < choices_of s
+pub some-choice : (s : State) → is_over s.world.phase ≡ false → 0 < choices_of s
 some-choice s alive =
-    choices-by (is_over s.phase) (is_crowded s) (top_choices (slice_get s.control 0) s) alive (top-some (slice_get s.control 0) s alive)
+    choices-by (is_over s.world.phase) (is_crowded s) (top_choices (slice_get s.control 0) s) alive (top-some (slice_get s.control 0) s alive)
 
 -- There is none where it is over.
 over-by : (over crowded : Bool) (n k : ℕ) → k < cond over 0 (cond crowded 1 n) → over ≡ false
 over-by true crowded n k below = absurd (omega arith)
 over-by false crowded n k below = refl
 
-pub not-over : (s : State) (k : ℕ) → k < choices_of s → is_over s.phase ≡ false
-not-over s k below = over-by (is_over s.phase) (is_crowded s) (top_choices (slice_get s.control 0) s) k below
+pub not-over : (s : State) (k : ℕ) → k < choices_of s → is_over s.world.phase ≡ false
+not-over s k below = over-by (is_over s.world.phase) (is_crowded s) (top_choices (slice_get s.control 0) s) k below
 
 -- After a label that is no end the machine has a step to make.
-settled-goes : (b : Bool) (t : State) → is_over t.phase ≡ false → 0 < choices_of (cond b t (settled t))
+settled-goes : (b : Bool) (t : State) → is_over t.world.phase ≡ false → 0 < choices_of (cond b t (settled t))
 settled-goes true t alive = some-choice t alive
 settled-goes false t alive = some-choice (settled t) alive
 
@@ -282,13 +286,13 @@ step-goes s t k g l below is =
 pub opening-goes : (d : Shape) (scripts : List ScriptData) (s : State) → Opens d scripts s → 0 < choices_of s
 opening-goes d scripts s opens =
     let P : State → Type 0 = λ t. 0 < choices_of t in
-    subst P (sym opens.settles) (some-choice (settled opens.before) (ap is_over opens.is.phase))
+    subst P (sym opens.settles) (some-choice (settled opens.before) (ap (λ (w : World). is_over w.phase) opens.is.world))
 
 -- The same of a label and the state that settles after it.
 pub label-goes : (s t u : State) (k : ℕ) (g : Given) (l : Label) → k < choices_of s → crowded_move (is_crowded s) s k g ≡ (l, t)
     → u ≡ settled t → is_end l ≡ false → 0 < choices_of u
 label-goes s t u k g l below is after open_yet =
-    let P : Move → Type 0 = λ x. is_end x.0 ≡ false → is_over x.1.phase ≡ false in
+    let P : Move → Type 0 = λ x. is_end x.0 ≡ false → is_over x.1.world.phase ≡ false in
     let Q : State → Type 0 = λ x. 0 < choices_of x in
     subst Q (sym after)
     (some-choice (settled t) (subst P is (crowded-goes (is_crowded s) s k g (not-over s k below)) open_yet))

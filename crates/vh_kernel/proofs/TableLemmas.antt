@@ -10,21 +10,21 @@ use Rattle.vh_kernel.specs.declared.control.Control.{Control}
 use Rattle.vh_kernel.specs.declared.control.Control.TheVariants as top
 use Rattle.vh_queue.specs.declared.entry.Entry.{Entry}
 use Rattle.vh_proc_simulation.specs.Activity.{stopped}
-use Rattle.vh_kernel.specs.declared.label.Ending.TheVariants as ending
+use Rattle.vh_orders.specs.declared.phase.Ending.TheVariants as ending
 use Rattle.vh_kernel.specs.declared.label.Label.{Label}
 use Rattle.vh_kernel.specs.declared.label.Label.TheVariants as label
 use Rattle.vh_queue.specs.declared.region.Region.{Region}
 use Rattle.vh_kernel.specs.declared.occurrence.Agendum.{Agendum}
 use Rattle.vh_kernel.specs.declared.occurrence.Agendum.TheVariants as agendum
 use Rattle.vh_kernel.specs.declared.occurrence.Told.{Told}
-use Rattle.vh_kernel.specs.declared.phase.Phase.{Phase}
-use Rattle.vh_kernel.specs.declared.phase.Phase.TheVariants as phase
+use Rattle.vh_orders.specs.declared.phase.Phase.{Phase}
+use Rattle.vh_orders.specs.declared.phase.Phase.TheVariants as phase
 use Rattle.vh_queue.specs.Events.{eligible, without, next_region, least_time}
 use Rattle.vh_kernel.specs.Occurrences.{Occurrence, occurrence_of}
 use Rattle.vh_dispatch.specs.Frames.{top_set}
 use Rattle.vh_orders.specs.Orders.{Given}
 use Rattle.vh_kernel.specs.Outcome.{Outcome, Move, after_made, move_of, fault_move}
-use Rattle.vh_kernel.specs.State.{State, with_queue, with_top, without_top, without_item}
+use Rattle.vh_kernel.specs.State.{State, with_activity, with_phase, with_queue, with_top, without_top, without_item}
 use Rattle.vh_kernel.specs.Statements.{statement_outcome, work_outcome}
 use Rattle.vh_kernel.specs.Step.{telling_outcome, fire_move, activation_move, time_move, region_move, pick_move, agenda_move, idle_move, item_move, top_move, crowded_move, is_crowded, is_over, settled_move, Fits, finish_move, item_choices, agenda_choices, idle_choices, top_choices, choices_of}
 use Rattle.vh_kernel.specs.Table.{IsGoing, HasTop, HasNext, IsCalm, TellsNext, Exceeds, by_processes, by_statement, by_work, by_occurrence, Row, Step, StepsByTable, TableBySteps}
@@ -49,7 +49,7 @@ put-back s c on = ap (λ (xs : List Control). (let t : State = record s { contro
 
 fault-row : (s before : State) (f : Fault) → before ≡ s → Exceeds s f → HasRow s (fault_move f before)
 fault-row s before f same exceeds =
-    (exceeds, ap (λ (x : State). (let y : State = record x { activity = stopped x.activity; phase = phase.Ended (ending.Fault f) } in y)) same)
+    (exceeds, ap (λ (x : State). with_phase (phase.Ended (ending.Fault f)) (with_activity (stopped x.world.activity) x)) same)
 
 -- A statement.
 statement-row : (p : ℕ) (s : State) (out : Outcome) → HasTop s (top.Process p)
@@ -104,31 +104,31 @@ acting-row a s g m on makes (orders vars o further is) fits =
     subst P (sym is) (record { who = a; given = g; on = on; fits = subst Q is fits; makes = makes ∙ is })
 
 -- With nothing on control.
-time-row : (o : Option ℕ) (s : State) → IsCalm s None → least_time s.activity.queue.entries ≡ o → HasRow s (time_move o s)
+time-row : (o : Option ℕ) (s : State) → IsCalm s None → least_time s.world.activity.queue.entries ≡ o → HasRow s (time_move o s)
 time-row None s calm least = (inr (calm, least, refl), refl)
 time-row (Some time) s calm least = (calm, least, refl)
 
-region-row : (o : Option Region) (s : State) → HasNext s None → eligible s.activity.queue ≡ [] → next_region s.activity.queue ≡ o
+region-row : (o : Option Region) (s : State) → HasNext s None → eligible s.world.activity.queue ≡ [] → next_region s.world.activity.queue ≡ o
     → HasRow s (region_move o s)
 region-row None s next none is =
-    time-row (least_time s.activity.queue.entries) s (record { next = next; none = none; region = is }) refl
+    time-row (least_time s.world.activity.queue.entries) s (record { next = next; none = none; region = is }) refl
 region-row (Some r) s next none is = (record { next = next; none = none; region = is }, refl)
 
-picked-row : (e : Entry) (s : State) (k : ℕ) (out : Outcome) → HasNext s None → slice_get (eligible s.activity.queue) k ≡ Some e
-    → work_outcome e.work (with_queue (without e.serial s.activity.queue) s) ≡ out
+picked-row : (e : Entry) (s : State) (k : ℕ) (out : Outcome) → HasNext s None → slice_get (eligible s.world.activity.queue) k ≡ Some e
+    → work_outcome e.work (with_queue (without e.serial s.world.activity.queue) s) ≡ out
     → HasRow s (move_of (λ shown. label.Pick e.serial shown) s out)
 picked-row e s k (Ok m) next is makes =
     record { choice = k; entry = e; made = m; next = next; chosen = is; serial = refl; makes = makes; leaves = (refl, refl) }
 picked-row e s k (Err g) next is makes = fault-row s s g refl (by_work k e next is makes)
 
-pick-row : (o : Option Entry) (s : State) (k : ℕ) → HasNext s None → k < max (length (eligible s.activity.queue)) 1
-    → slice_get (eligible s.activity.queue) k ≡ o → HasRow s (pick_move o s)
+pick-row : (o : Option Entry) (s : State) (k : ℕ) → HasNext s None → k < max (length (eligible s.world.activity.queue)) 1
+    → slice_get (eligible s.world.activity.queue) k ≡ o → HasRow s (pick_move o s)
 pick-row None s k next below is =
-    region-row (next_region s.activity.queue) s next (none-left (eligible s.activity.queue) k below is) refl
+    region-row (next_region s.world.activity.queue) s next (none-left (eligible s.world.activity.queue) k below is) refl
 pick-row (Some e) s k next below is = picked-row e s k _ next is refl
 
 agenda-row : (o : Option Agendum) (s : State) (k : ℕ) → HasNext s o → k < agenda_choices o s → HasRow s (agenda_move o s k)
-agenda-row None s k next below = pick-row (slice_get (eligible s.activity.queue) k) s k next below refl
+agenda-row None s k next below = pick-row (slice_get (eligible s.world.activity.queue) k) s k next below refl
 agenda-row (Some (agendum.Startup n)) s k next below = (next, refl)
 agenda-row (Some (agendum.Occurrence r)) s k next below =
     telling-row (occurrence_of r) s s (without_item s) _ (inr (r, next, refl, refl)) refl refl
@@ -143,7 +143,7 @@ item-row (top.Activation a) s k g on fits below =
     acting-row a s g _ on refl (acts (slice_get s.world.scripts a.script) (slice_get s.world.variables a.script) a (without_top s) g) fits
 item-row (top.Leave c) s k g on fits below = (inl on, refl)
 
-idle-row : (f : Phase) (s : State) (k : ℕ) → IsGoing s → s.phase ≡ f → slice_get s.control 0 ≡ None → k < idle_choices f s
+idle-row : (f : Phase) (s : State) (k : ℕ) → IsGoing s → s.world.phase ≡ f → slice_get s.control 0 ≡ None → k < idle_choices f s
     → HasRow s (idle_move f s k)
 idle-row phase.Running s k going is none below =
     agenda-row (slice_get s.agenda 0) s k (record { going = going; running = is; idle = none; next = refl }) below
@@ -152,10 +152,10 @@ idle-row (phase.Ended e) s k going is none below = absurd (omega arith)
 
 top-row : (o : Option Control) (s : State) (k : ℕ) (g : Given) → IsGoing s → slice_get s.control 0 ≡ o
     → Fits s (top_move o s k g).0 → k < top_choices o s → HasRow s (top_move o s k g)
-top-row None s k g going is fits below = idle-row s.phase s k going refl is below
+top-row None s k g going is fits below = idle-row s.world.phase s k going refl is below
 top-row (Some c) s k g going is fits below = item-row c s k g (record { going = going; on = is }) fits below
 
-crowded-row : (b : Bool) (s : State) (k : ℕ) (g : Given) → is_over s.phase ≡ false → is_crowded s ≡ b
+crowded-row : (b : Bool) (s : State) (k : ℕ) (g : Given) → is_over s.world.phase ≡ false → is_crowded s ≡ b
     → Fits s (crowded_move b s k g).0 → k < cond b 1 (top_choices (slice_get s.control 0) s) → HasRow s (crowded_move b s k g)
 crowded-row true s k g alive crowded fits below = (by_processes alive crowded refl, refl)
 crowded-row false s k g alive crowded fits below =
@@ -168,8 +168,8 @@ below-by false crowded n k alive below = below
 pub steps-by-table : StepsByTable
 steps-by-table s t k l below step =
     let m : Move = crowded_move (is_crowded s) s k step.given in
-    let alive : is_over s.phase ≡ false = not-over s k below in
-    let lower = below-by (is_over s.phase) (is_crowded s) (top_choices (slice_get s.control 0) s) k alive below in
+    let alive : is_over s.world.phase ≡ false = not-over s k below in
+    let lower = below-by (is_over s.world.phase) (is_crowded s) (top_choices (slice_get s.control 0) s) k alive below in
     let same : m.0 ≡ l = ap (λ (x : Move). x.0) step.makes in
     let fits : Fits s m.0 = subst (λ (x : Label). Fits s x) (sym same) step.fits in
     let P : Move → Type 0 = λ x. Step s x.0 x.1 in
@@ -258,7 +258,7 @@ by-label : (l k : Label) (u : State) → l ≡ k → (let m : Move = (l, u) in m
 by-label l k u same = ap (λ (x : Label). (let m : Move = (x, u) in m)) same
 
 -- The faults.
-fault-chosen : (s u : State) (f : Fault) → Exceeds s f → u ≡ record s { activity = stopped s.activity; phase = phase.Ended (ending.Fault f) }
+fault-chosen : (s u : State) (f : Fault) → Exceeds s f → u ≡ with_phase (phase.Ended (ending.Fault f)) (with_activity (stopped s.world.activity) s)
     → Chosen s (label.End (ending.Fault f), u)
 fault-chosen s u f (by_processes alive crowded is) after = record {
   choice = 0;
@@ -281,7 +281,7 @@ fault-chosen s u f (by_statement p on is) after = record {
 fault-chosen s u f (by_work k e next is makes) after = record {
   choice = k;
   given = nothing;
-  below = (let within : k < length (eligible s.activity.queue) = slice_get_within (eligible s.activity.queue) k e is in
+  below = (let within : k < length (eligible s.world.activity.queue) = slice_get_within (eligible s.world.activity.queue) k e is in
       let n = choices-by-agenda s None next in omega arith);
   fits = tt;
   makes = by-agenda s None k nothing next
@@ -379,13 +379,13 @@ row-chosen s u (label.Advance time) row = record {
 row-chosen s u (label.Pick n shown) row = record {
   choice = row.choice;
   given = nothing;
-  below = (let within : row.choice < length (eligible s.activity.queue) = slice_get_within (eligible s.activity.queue) row.choice row.entry row.chosen in
+  below = (let within : row.choice < length (eligible s.world.activity.queue) = slice_get_within (eligible s.world.activity.queue) row.choice row.entry row.chosen in
       let e = choices-by-agenda s None row.next in omega arith);
   fits = tt;
   makes = by-agenda s None row.choice nothing row.next
       ∙ ap (λ (o : Option Entry). pick_move o s) row.chosen
       ∙ ap (λ (k : ℕ). move_of (λ x. label.Pick k x) s
-      (work_outcome row.entry.work (with_queue (without k s.activity.queue) s))) row.serial
+      (work_outcome row.entry.work (with_queue (without k s.world.activity.queue) s))) row.serial
       ∙ ap (λ (out : Outcome). move_of (λ x. label.Pick n x) s out) row.makes
       ∙ by-label (label.Pick n row.made.shown) (label.Pick n shown) _ (ap (λ (x : Option (List ℕ)). label.Pick n x) (sym row.leaves.0))
       ∙ by-after (label.Pick n shown) _ u row.leaves.1;

@@ -7,8 +7,8 @@ use Rattle.vh_base.specs.Faults.{cause_name, fault_name}
 use Rattle.vh_base.specs.Words.{reason_text}
 use Rattle.vh_orders.specs.declared.who.Who.{Who}
 use Rattle.vh_orders.specs.declared.who.Who.TheVariants as who_is
-use Rattle.vh_kernel.specs.declared.label.Ending.{Ending}
-use Rattle.vh_kernel.specs.declared.label.Ending.TheVariants as ending
+use Rattle.vh_orders.specs.declared.phase.Ending.{Ending}
+use Rattle.vh_orders.specs.declared.phase.Ending.TheVariants as ending
 use Rattle.vh_kernel.specs.declared.label.Label.{Label}
 use Rattle.vh_kernel.specs.declared.label.Label.TheVariants as label
 use Rattle.vh_orders.specs.Names.{name_of, with_address}
@@ -23,7 +23,7 @@ ending_name (ending.Fault f) = fault_name f
 
 -- A line at the present time, with its newline.
 abbrev pub stamped : List ℕ → State → List ℕ
-stamped text s = decimal s.activity.queue.time ++ 32 ∷ text ++ 10 ∷ []
+stamped text s = decimal s.world.activity.queue.time ++ 32 ∷ text ++ 10 ∷ []
 
 -- The text of what was shown, if something was.
 abbrev pub shown_text : Option (List ℕ) → Option (List ℕ)

@@ -41,7 +41,7 @@ pub record IsNoted (n : Serials) (q : Events) : Type 0 where
   pub each : AllByRecursion (FitsNoted n) q.entries
 
 abbrev pub NotesFollows : State → Type 0
-NotesFollows s = IsNoted s.activity.follows s.activity.queue
+NotesFollows s = IsNoted s.world.activity.follows s.world.activity.queue
 
 -- So it is from a design's opening on, and stays so.
 abbrev pub OpensNoted : Type 0

@@ -1,14 +1,14 @@
 -- What a row of a table comes to: statements, work, occurrences and orders have one kind of outcome. (own)
 use Rattle.std.specs.Prelude.{ℕ, List, [], ◌++◌, map, Option, None, Result, Ok, Err}
 use Rattle.vh_base.specs.declared.faults.Fault.{Fault}
-use Rattle.vh_kernel.specs.declared.label.Ending.{Ending}
-use Rattle.vh_kernel.specs.declared.label.Ending.TheVariants as ending
+use Rattle.vh_orders.specs.declared.phase.Ending.{Ending}
+use Rattle.vh_orders.specs.declared.phase.Ending.TheVariants as ending
 use Rattle.vh_kernel.specs.declared.label.Label.{Label}
 use Rattle.vh_kernel.specs.declared.label.Label.TheVariants as label
-use Rattle.vh_kernel.specs.declared.phase.Phase.TheVariants as phase
+use Rattle.vh_orders.specs.declared.phase.Phase.TheVariants as phase
 use Rattle.vh_kernel.specs.declared.control.Control.TheVariants as top
 use Rattle.vh_kernel.specs.Occurrences.{Occurrence}
-use Rattle.vh_kernel.specs.State.{State}
+use Rattle.vh_kernel.specs.State.{State, with_activity, with_phase}
 use Rattle.vh_proc_simulation.specs.Activity.{stopped}
 
 -- The text that was shown, if one was; the occurrences that were made, in their order; and the state.
@@ -31,12 +31,12 @@ Move = Label × State
 
 -- The run is over; nothing else changes.
 abbrev pub end_move : Ending → State → Move
-end_move e s = (label.End e, record s { phase = phase.Ended e })
+end_move e s = (label.End e, with_phase (phase.Ended e) s)
 
 -- In place of a label that would exceed a number the run ends with that fault, and nothing is left of the simulation
 -- but its design and the time.
 abbrev pub fault_move : Fault → State → Move
-fault_move f s = end_move (ending.Fault f) (record s { activity = stopped s.activity })
+fault_move f s = end_move (ending.Fault f) (with_activity (stopped s.world.activity) s)
 
 -- The state with its occurrences pending, the first of them on top.
 abbrev pub after_made : Made → State

@@ -7,8 +7,8 @@ use Rattle.vh_app.specs.Script.{ScriptData}
 use Rattle.vh_callbacks.specs.Callbacks.{opening as no_callbacks}
 use Rattle.vh_kernel.specs.declared.occurrence.Agendum.{Agendum}
 use Rattle.vh_kernel.specs.declared.occurrence.Agendum.TheVariants as agendum
-use Rattle.vh_kernel.specs.declared.phase.Phase.{Phase}
-use Rattle.vh_kernel.specs.declared.phase.Phase.TheVariants as phase
+use Rattle.vh_orders.specs.declared.phase.Phase.{Phase}
+use Rattle.vh_orders.specs.declared.phase.Phase.TheVariants as phase
 use Rattle.vh_kernel.specs.declared.control.Control.{Control}
 use Rattle.vh_design.specs.Shape.{Shape}
 use Rattle.vh_queue.specs.Events.{Events}
@@ -17,15 +17,12 @@ use Rattle.vh_handles.specs.Handles.{no_handles}
 use Rattle.vh_orders.specs.Names.{full_names}
 use Rattle.vh_orders.specs.World.{World}
 
--- The world of the applications; the design as it is simulated, with the event queue and the present time; control, a
--- stack with its top first; the agenda; the number of the next occurrence; and the phase.
+-- The world; control, a stack with its top first; the agenda; and the number of the next occurrence.
 pub record State : Type 0 where
   pub world : World
-  pub activity : Activity
   pub control : List Control
   pub agenda : List Agendum
   pub occurrence : ℕ
-  pub phase : Phase
 
 -- The startups of so many scripts, by number from this one on.
 abbrev pub startups : ℕ → ℕ → List Agendum
@@ -39,9 +36,11 @@ opening_agenda scripts =
     startups 1 (length scripts)
     ++ agendum.Occurrence reason.CbEndOfCompile ∷ agendum.Occurrence reason.CbStartOfSimulation ∷ []
 
--- The world before all: every variable is null, no callback is live, no frame stands, no handle was given.
-abbrev pub world_before : Shape → List ScriptData → World
-world_before d scripts = record {
+-- The world before all, with the design as it opens: every variable is null, no callback is live, no frame stands, no handle
+-- was given.
+abbrev pub world_before : Shape → List ScriptData → Activity → World
+world_before d scripts a = record {
+  activity = a;
   names = full_names d;
   scripts = scripts;
   variables = map no_answers scripts;
@@ -49,16 +48,23 @@ world_before d scripts = record {
   frames = [];
   handles = no_handles;
   error = None;
+  phase = phase.Running;
 }
 
 -- The state before all: the design is before all, and nothing is on control.
 pub record IsBeforeAll (d : Shape) (scripts : List ScriptData) (s : State) : Type 0 where
-  pub world : s.world ≡ world_before d scripts
-  pub activity : IsOpeningActivity d s.activity
+  pub world : s.world ≡ world_before d scripts s.world.activity
+  pub activity : IsOpeningActivity d s.world.activity
   pub control : s.control ≡ []
   pub agenda : s.agenda ≡ opening_agenda scripts
   pub occurrence : s.occurrence ≡ 1
-  pub phase : s.phase ≡ phase.Running
+
+-- The design as it is simulated is another, and the phase.
+abbrev pub with_activity : Activity → State → State
+with_activity a s = record s { world = record s.world { activity = a } }
+
+abbrev pub with_phase : Phase → State → State
+with_phase p s = record s { world = record s.world { phase = p } }
 
 -- The frames that stand have other sets.
 abbrev pub with_frames : List (List ℕ) → State → State
@@ -81,4 +87,4 @@ without_item s = record s { agenda = drop 1 s.agenda }
 
 -- The event queue is another.
 abbrev pub with_queue : Events → State → State
-with_queue q s = record s { activity = record s.activity { queue = q } }
+with_queue q s = with_activity (record s.world.activity { queue = q }) s

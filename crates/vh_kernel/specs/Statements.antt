@@ -6,7 +6,7 @@ use Rattle.vh_kernel.specs.declared.control.Control.{Control}
 use Rattle.vh_kernel.specs.declared.control.Control.TheVariants as top
 use Rattle.vh_kernel.specs.Occurrences.{all_by}
 use Rattle.vh_kernel.specs.Outcome.{Made, Outcome, silently}
-use Rattle.vh_kernel.specs.State.{State, with_top}
+use Rattle.vh_kernel.specs.State.{State, with_activity, with_top}
 use Rattle.vh_queue.specs.declared.work.Work.{Work}
 use Rattle.vh_queue.specs.declared.work.Work.TheVariants as work
 use Rattle.vh_proc_simulation.specs.Labels.{Came, Performed, performed, worked}
@@ -18,7 +18,7 @@ abbrev pub made_by : Came → State → Made
 made_by c s = record {
   shown = c.shown;
   occurrences = all_by c.activity.design.objects c.made;
-  state = record s { activity = c.activity };
+  state = with_activity c.activity s;
 }
 
 -- A process goes on at once, or not; or the run is to finish. (17.4)
@@ -41,7 +41,7 @@ performed_outcome (Err (Some f)) p s = Err f
 performed_outcome (Ok r) p s = Ok (made_by r.came (after_next r.next p s))
 
 abbrev pub statement_outcome : ℕ → State → Outcome
-statement_outcome p s = performed_outcome (performed p s.activity) p s
+statement_outcome p s = performed_outcome (performed p s.world.activity) p s
 
 -- An entry is performed: an evaluation puts its process on control, and the others are the simulation's; what a callback's
 -- entry does isn't said yet. (own)
@@ -61,4 +61,4 @@ on_control work.MonitorShow s = s
 on_control (work.Call callback) s = s
 
 abbrev pub work_outcome : Work → State → Outcome
-work_outcome w s = worked_outcome (worked w s.activity) (on_control w s)
+work_outcome w s = worked_outcome (worked w s.world.activity) (on_control w s)

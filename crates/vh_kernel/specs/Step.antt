@@ -18,14 +18,14 @@ use Rattle.vh_callbacks.specs.Callbacks.{info_of, body_of}
 use Rattle.vh_orders.specs.declared.who.Body.{Body}
 use Rattle.vh_orders.specs.declared.who.Who.TheVariants as who_is
 use Rattle.vh_queue.specs.declared.entry.Entry.{Entry}
-use Rattle.vh_kernel.specs.declared.label.Ending.TheVariants as ending
+use Rattle.vh_orders.specs.declared.phase.Ending.TheVariants as ending
 use Rattle.vh_kernel.specs.declared.label.Label.{Label}
 use Rattle.vh_kernel.specs.declared.label.Label.TheVariants as label
 use Rattle.vh_queue.specs.declared.region.Region.{Region}
 use Rattle.vh_kernel.specs.declared.occurrence.Agendum.{Agendum}
 use Rattle.vh_kernel.specs.declared.occurrence.Agendum.TheVariants as agendum
-use Rattle.vh_kernel.specs.declared.phase.Phase.{Phase}
-use Rattle.vh_kernel.specs.declared.phase.Phase.TheVariants as phase
+use Rattle.vh_orders.specs.declared.phase.Phase.{Phase}
+use Rattle.vh_orders.specs.declared.phase.Phase.TheVariants as phase
 use Rattle.vh_kernel.specs.Activations.{Activation, after_answer, after_pass, first_seen, startup_seen}
 use Rattle.vh_kernel.specs.declared.control.Control.{Control}
 use Rattle.vh_kernel.specs.declared.control.Control.TheVariants as top
@@ -37,7 +37,7 @@ use Rattle.vh_orders.specs.Orders.{Given, performed, is_pass, is_return}
 use Rattle.vh_orders.specs.World.{World}
 use Rattle.vh_kernel.specs.Outcome.{Outcome, Move, silently, end_move, fault_move, move_of}
 use Rattle.vh_kernel.specs.Settle.{settled}
-use Rattle.vh_kernel.specs.State.{State, with_queue, with_top, without_top, without_item, with_frames, with_variables}
+use Rattle.vh_kernel.specs.State.{State, with_activity, with_queue, with_top, without_top, without_item, with_frames, with_variables}
 use Rattle.vh_kernel.specs.Statements.{statement_outcome, work_outcome}
 use Rattle.vh_proc_simulation.specs.Activity.{is_crowded as has_too_many}
 use Rattle.vh_proc_simulation.specs.Labels.{at_time}
@@ -47,11 +47,13 @@ abbrev pub finish_move : Cause → State → Move
 finish_move c s = (
   label.Finish c,
   record s {
-    world = record s.world { frames = [] };
-    activity = record s.activity { queue = cleared s.activity.queue };
+    world = record s.world {
+      activity = record s.world.activity { queue = cleared s.world.activity.queue };
+      frames = [];
+      phase = phase.Finished c;
+    };
     control = top.Pending (occurrence_of reason.CbEndOfSimulation) ∷ [];
     agenda = [];
-    phase = phase.Finished c;
   },
 )
 
@@ -75,7 +77,7 @@ called (Some r) (Some b) c o s = with_top (top.Activation (record {
   who = who_is.Callback c;
   script = b.script;
   at = b.start;
-  seen = first_seen r o s.activity.queue.time;
+  seen = first_seen r o s.world.activity.queue.time;
 })) s
 
 -- A frame fires the callback of its set that was chosen; where its set is empty, it is done.
@@ -136,19 +138,19 @@ activation_move (Some script) (Some vars) a s g =
 -- Time goes on to the least time of an entry, or where none is left the run finishes.
 abbrev pub time_move : Option ℕ → State → Move
 time_move None s = finish_move cause.Nothing s
-time_move (Some time) s = (label.Advance time, record s { activity = at_time time s.activity })
+time_move (Some time) s = (label.Advance time, with_activity (at_time time s.world.activity) s)
 
 -- A region becomes active, or where none has an entry of the present time, time goes on.
 abbrev pub region_move : Option Region → State → Move
-region_move None s = time_move (least_time s.activity.queue.entries) s
+region_move None s = time_move (least_time s.world.activity.queue.entries) s
 region_move (Some r) s =
-    (label.Activate r, with_queue (activated r s.activity.queue) s)
+    (label.Activate r, with_queue (activated r s.world.activity.queue) s)
 
 -- An entry is picked and performed, or where none may be a region becomes active.
 abbrev pub pick_move : Option Entry → State → Move
-pick_move None s = region_move (next_region s.activity.queue) s
+pick_move None s = region_move (next_region s.world.activity.queue) s
 pick_move (Some e) s = move_of (λ shown. label.Pick e.serial shown) s
-    (work_outcome e.work (with_queue (without e.serial s.activity.queue) s))
+    (work_outcome e.work (with_queue (without e.serial s.world.activity.queue) s))
 
 -- The agenda goes on: a startup begins, or an occurrence is told.
 abbrev pub started : Option ScriptData → ℕ → State → State
@@ -157,11 +159,11 @@ started (Some script) k s = with_top (top.Activation (record {
   who = who_is.Startup k;
   script = k - 1;
   at = startup;
-  seen = startup_seen s.activity.queue.time;
+  seen = startup_seen s.world.activity.queue.time;
 })) s
 
 abbrev pub agenda_move : Option Agendum → State → ℕ → Move
-agenda_move None s k = pick_move (slice_get (eligible s.activity.queue) k) s
+agenda_move None s k = pick_move (slice_get (eligible s.world.activity.queue) k) s
 agenda_move (Some (agendum.Startup n)) s k = (label.Startup n, started (slice_get s.world.scripts (n - 1)) n (without_item s))
 agenda_move (Some (agendum.Occurrence r)) s k = occurrence_move (occurrence_of r) s (without_item s)
 
@@ -181,12 +183,12 @@ item_move (top.Activation a) s k g = activation_move (slice_get s.world.scripts 
 item_move (top.Leave c) s k g = finish_move c s
 
 abbrev pub top_move : Option Control → State → ℕ → Given → Move
-top_move None s k g = idle_move s.phase s k
+top_move None s k g = idle_move s.world.phase s k
 top_move (Some c) s k g = item_move c (without_top s) k g
 
 -- Are there more processes than the queue has room for?
 abbrev pub is_crowded : State → Bool
-is_crowded s = has_too_many s.activity.design
+is_crowded s = has_too_many s.world.activity.design
 
 abbrev pub crowded_move : Bool → State → ℕ → Given → Move
 crowded_move true s k g = fault_move fault.F3 s
@@ -260,7 +262,7 @@ item_choices (top.Activation a) s = 1
 item_choices (top.Leave c) s = 1
 
 abbrev pub agenda_choices : Option Agendum → State → ℕ
-agenda_choices None s = max (length (eligible s.activity.queue)) 1
+agenda_choices None s = max (length (eligible s.world.activity.queue)) 1
 agenda_choices (Some item) s = 1
 
 abbrev pub idle_choices : Phase → State → ℕ
@@ -269,7 +271,7 @@ idle_choices (phase.Finished c) s = 1
 idle_choices (phase.Ended e) s = 0
 
 abbrev pub top_choices : Option Control → State → ℕ
-top_choices None s = idle_choices s.phase s
+top_choices None s = idle_choices s.world.phase s
 top_choices (Some c) s = item_choices c s
 
 abbrev pub is_over : Phase → Bool
@@ -279,5 +281,5 @@ is_over (phase.Ended e) = true
 
 abbrev pub choices_of : State → ℕ
 choices_of s =
-    if is_over s.phase then 0
+    if is_over s.world.phase then 0
     else (if is_crowded s then 1 else top_choices (slice_get s.control 0) s)

@@ -13,14 +13,14 @@ use Rattle.vh_kernel.specs.Activations.{Activation}
 use Rattle.vh_kernel.specs.declared.control.Control.{Control}
 use Rattle.vh_kernel.specs.declared.control.Control.TheVariants as top
 use Rattle.vh_queue.specs.declared.entry.Entry.{Entry}
-use Rattle.vh_kernel.specs.declared.label.Ending.TheVariants as ending
+use Rattle.vh_orders.specs.declared.phase.Ending.TheVariants as ending
 use Rattle.vh_kernel.specs.declared.label.Label.{Label}
 use Rattle.vh_kernel.specs.declared.label.Label.TheVariants as label
 use Rattle.vh_queue.specs.declared.region.Region.{Region}
 use Rattle.vh_kernel.specs.declared.occurrence.Agendum.{Agendum}
 use Rattle.vh_kernel.specs.declared.occurrence.Agendum.TheVariants as agendum
 use Rattle.vh_kernel.specs.declared.occurrence.Told.{Told}
-use Rattle.vh_kernel.specs.declared.phase.Phase.TheVariants as phase
+use Rattle.vh_orders.specs.declared.phase.Phase.TheVariants as phase
 use Rattle.vh_design.specs.Shape.{Shape}
 use Rattle.vh_proc_simulation.specs.Activity.{stopped}
 use Rattle.vh_proc_simulation.specs.Labels.{at_time}
@@ -30,13 +30,13 @@ use Rattle.vh_kernel.specs.Occurrences.{Occurrence, occurrence_of}
 use Rattle.vh_orders.specs.Orders.{Given}
 use Rattle.vh_kernel.specs.Outcome.{Made, after_made}
 use Rattle.vh_kernel.specs.Settle.{settled, Opens}
-use Rattle.vh_kernel.specs.State.{State, with_queue, with_top, without_top, without_item, with_frames}
+use Rattle.vh_kernel.specs.State.{State, with_activity, with_phase, with_queue, with_top, without_top, without_item, with_frames}
 use Rattle.vh_kernel.specs.Statements.{statement_outcome, work_outcome}
 use Rattle.vh_kernel.specs.Step.{Fits, IsStep, is_crowded, is_over, telling_outcome, called, activation_move, started, finish_move, is_end, choices_of}
 
 -- The run isn't over, and there are no more processes than the queue has room for.
 pub record IsGoing (s : State) : Type 0 where
-  pub goes : is_over s.phase ≡ false
+  pub goes : is_over s.world.phase ≡ false
   pub fits : is_crowded s ≡ false
 
 -- This is on top of control.
@@ -47,15 +47,15 @@ pub record HasTop (s : State) (c : Control) : Type 0 where
 -- Before the finish, with nothing on control, this is next on the agenda.
 pub record HasNext (s : State) (o : Option Agendum) : Type 0 where
   pub going : IsGoing s
-  pub running : s.phase ≡ phase.Running
+  pub running : s.world.phase ≡ phase.Running
   pub idle : slice_get s.control 0 ≡ None
   pub next : slice_get s.agenda 0 ≡ o
 
 -- Nothing is on control or on the agenda, no entry may be picked, and this region is next.
 pub record IsCalm (s : State) (r : Option Region) : Type 0 where
   pub next : HasNext s None
-  pub none : eligible s.activity.queue ≡ []
-  pub region : next_region s.activity.queue ≡ r
+  pub none : eligible s.world.activity.queue ≡ []
+  pub region : next_region s.world.activity.queue ≡ r
 
 -- The occurrence is told next: it is on top of control, or first on the agenda with nothing on control.
 -- The second is the state without it.
@@ -67,17 +67,17 @@ TellsNext s o r =
 -- The next label would exceed the number of this fault: there are more processes than room for them, or
 -- that is what comes of the statement, the entry or the occurrence that is next.
 pub data Exceeds (s : State) (f : Fault) : Type 0 where
-  by_processes : is_over s.phase ≡ false → is_crowded s ≡ true → f ≡ fault.F3 → Exceeds s f
+  by_processes : is_over s.world.phase ≡ false → is_crowded s ≡ true → f ≡ fault.F3 → Exceeds s f
   by_statement : (p : ℕ) → HasTop s (top.Process p) → statement_outcome p (without_top s) ≡ Err f → Exceeds s f
-  by_work : (k : ℕ) (e : Entry) → HasNext s None → slice_get (eligible s.activity.queue) k ≡ Some e
-      → work_outcome e.work (with_queue (without e.serial s.activity.queue) s) ≡ Err f → Exceeds s f
+  by_work : (k : ℕ) (e : Entry) → HasNext s None → slice_get (eligible s.world.activity.queue) k ≡ Some e
+      → work_outcome e.work (with_queue (without e.serial s.world.activity.queue) s) ≡ Err f → Exceeds s f
   by_occurrence : (o : Occurrence) (r : State) → TellsNext s o r → telling_outcome o r ≡ Err f → Exceeds s f
 
 -- Why the run finishes: it was asked to, or no entry is left.
 abbrev pub FinishIsDue : State → Cause → Type 0
 FinishIsDue s c =
     HasTop s (top.Leave c)
-    ⊎ (IsCalm s None × (least_time s.activity.queue.entries ≡ None) × (c ≡ cause.Nothing))
+    ⊎ (IsCalm s None × (least_time s.world.activity.queue.entries ≡ None) × (c ≡ cause.Nothing))
 
 -- What was made is what is shown and what is left, by the label that it is told as.
 abbrev pub Leaves : Made → Option (List ℕ) → State → Type 0
@@ -128,9 +128,9 @@ pub record Picks (s : State) (n : ℕ) (shown : Option (List ℕ)) (u : State) :
   pub entry : Entry
   pub made : Made
   pub next : HasNext s None
-  pub chosen : slice_get (eligible s.activity.queue) choice ≡ Some entry
+  pub chosen : slice_get (eligible s.world.activity.queue) choice ≡ Some entry
   pub serial : entry.serial ≡ n
-  pub makes : work_outcome entry.work (with_queue (without n s.activity.queue) s) ≡ Ok made
+  pub makes : work_outcome entry.work (with_queue (without n s.world.activity.queue) s) ≡ Ok made
   pub leaves : Leaves made shown u
 
 -- The process on top performs its next statement, or ends.
@@ -154,21 +154,21 @@ Row s (label.Done n) u = Closes s n u
 -- All inactive entries of the present time become active, else all nonblocking ones, else those of the
 -- monitor region
 Row s (label.Activate r) u =
-    IsCalm s (Some r) × (u ≡ with_queue (activated r s.activity.queue) s)
+    IsCalm s (Some r) × (u ≡ with_queue (activated r s.world.activity.queue) s)
 -- Time advances to the least time of an entry
 Row s (label.Advance time) u =
-    IsCalm s None × (least_time s.activity.queue.entries ≡ Some time) × (u ≡ record s { activity = at_time time s.activity })
+    IsCalm s None × (least_time s.world.activity.queue.entries ≡ Some time) × (u ≡ with_activity (at_time time s.world.activity) s)
 Row s (label.Pick n shown) u = Picks s n shown u
 Row s (label.Stmt p shown) u = Performs s p shown u
 -- Control with its frames, the agenda and the queue are emptied, and the end of simulation is pending
 Row s (label.Finish c) u = FinishIsDue s c × (u ≡ (finish_move c s).1)
 -- The run is over, with the cause of its finish, once nothing is on control
 Row s (label.End (ending.Cause c)) u =
-    IsGoing s × (s.phase ≡ phase.Finished c) × (slice_get s.control 0 ≡ None)
-    × (u ≡ record s { phase = phase.Ended (ending.Cause c) })
+    IsGoing s × (s.world.phase ≡ phase.Finished c) × (slice_get s.control 0 ≡ None)
+    × (u ≡ with_phase (phase.Ended (ending.Cause c)) s)
 -- Or in place of a label that would exceed a number, where nothing is left of the simulation but its design and the time
 Row s (label.End (ending.Fault f)) u =
-    Exceeds s f × (u ≡ record s { activity = stopped s.activity; phase = phase.Ended (ending.Fault f) })
+    Exceeds s f × (u ≡ with_phase (phase.Ended (ending.Fault f)) (with_activity (stopped s.world.activity) s))
 
 -- From a state a label leads to another; after a label that isn't the last the state settles.
 pub record Step (s : State) (l : Label) (t : State) : Type 0 where
@@ -178,7 +178,7 @@ pub record Step (s : State) (l : Label) (t : State) : Type 0 where
 
 -- What every state of a run keeps: serials from 1 on, each given once and below the next.
 abbrev pub IsSound : State → Type 0
-IsSound s = Rises 1 s.activity.queue.next s.activity.queue.entries
+IsSound s = Rises 1 s.world.activity.queue.next s.world.activity.queue.entries
 
 -- The laws of the step. Each choice below the number of choices is a step of the table, whatever number a
 -- new handle gets that was never given;

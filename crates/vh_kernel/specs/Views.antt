@@ -11,11 +11,9 @@ use Rattle.vh_kernel.specs.State.{State}
 abbrev pub state_of : Kernel → State
 state_of k = record {
   world = world_of k.world;
-  activity = k.simulation;
   control = k.control;
   agenda = k.agenda.items;
   occurrence = k.occurrence;
-  phase = k.phase;
 }
 
 -- What a kernel gives a step: the next number for a handle.

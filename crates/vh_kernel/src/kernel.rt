@@ -10,18 +10,16 @@ mod settling;
 
 use crate::activation::{Activation, startup_seen};
 use crate::control::{Control, Stack};
-use crate::label::{Ending, Label};
+use crate::label::Label;
 use crate::occurrence::{Agendum, Occurrence};
 use crate::ordered::Ordered;
-use crate::phase::Phase;
 use crate::texts::Texts;
 use std::alloc::Global;
 use std::collections::VecDeque;
 use vh_app::Script;
 use vh_base::{Cause, Fault, MOST_ENTRIES, NoMemory, ObjId, Reason, Seen};
 use vh_design::Design;
-use vh_orders::{Who, World};
-use vh_proc_simulation::Simulation;
+use vh_orders::{Ending, Phase, Who, World};
 
 /// The machine of one design with its scripts. What it shows is a state; each call of
 /// [`Kernel::step`] takes the logarithm of the entries that stand in the queue, goes over those
@@ -30,11 +28,9 @@ use vh_proc_simulation::Simulation;
 #[derive(Drop)]
 pub struct Kernel {
     world: World,
-    simulation: Simulation,
     control: Stack,
     agenda: VecDeque<Agendum>,
     occurrence: u64,
-    phase: Phase,
     // memory of what an activation saw, which the next one takes, and of an order that was told
     spare: Option<Box<Seen>>,
     spare_order: Option<Ordered>,
@@ -62,9 +58,9 @@ impl Kernel {
 
     /// The present time, in units of the simulation's precision.
     pub fn time(&self) -> u64
-        ensures { result ≡ (state_of self.now).activity.queue.time }
+        ensures { result ≡ (state_of self.now).world.activity.queue.time }
     {
-        self.simulation.time()
+        self.world.simulation.time()
     }
 
     // The full name of an object; no bytes where the design has no such object.
@@ -88,14 +84,14 @@ impl Kernel {
     fn is_crowded(&self) -> bool
         ensures { result ≡ is_crowded (state_of self.now) }
     {
-        self.simulation.design().counts().processes as usize > MOST_ENTRIES
+        self.world.simulation.design().counts().processes as usize > MOST_ENTRIES
     }
 
     /// How many choices the next label has: at least one before the end, none after it.
     pub fn choices(&self) -> u32
         ensures { result ≡ choices_of (state_of self.now) }
     {
-        if let Phase::Ended(_) = self.phase {
+        if let Phase::Ended(_) = self.world.phase {
             return 0;
         }
         if self.is_crowded() {
@@ -120,9 +116,9 @@ impl Kernel {
     }
 
     fn idle_choices(&self) -> u32
-        ensures { result ≡ idle_choices (state_of self.now).phase (state_of self.now) }
+        ensures { result ≡ idle_choices (state_of self.now).world.phase (state_of self.now) }
     {
-        match self.phase {
+        match self.world.phase {
             Phase::Running => self.agenda_choices(),
             Phase::Finished(_) => 1,
             Phase::Ended(_) => 0,
@@ -135,7 +131,7 @@ impl Kernel {
     {
         match self.agenda.front() {
             Some(_) => 1,
-            None => self.simulation.choices().max(1),
+            None => self.world.simulation.choices().max(1),
         }
     }
 
@@ -213,7 +209,7 @@ impl Kernel {
     fn end(&mut self, ending: Ending) -> Label
         ensures { end_move ending (state_of self.old) ≡ (result, state_of self.new) }
     {
-        self.phase = Phase::Ended(ending);
+        self.world.phase = Phase::Ended(ending);
         Label::End(ending)
     }
 
@@ -221,30 +217,30 @@ impl Kernel {
     fn fail(&mut self, fault: Fault) -> Label
         ensures { fault_move fault (state_of self.old) ≡ (result, state_of self.new) }
     {
-        self.simulation.stop();
+        self.world.simulation.stop();
         self.end(Ending::Fault(fault))
     }
 
     fn finish(&mut self, cause: Cause) -> Result<Label, NoMemory>
         ensures { Moves (finish_move cause (state_of self.old)) result self.new }
     {
-        self.simulation.clear();
+        self.world.simulation.clear();
         self.agenda.clear();
         self.control.clear();
         self.close_frames();
         let what = Occurrence::new(Reason::CbEndOfSimulation);
         self.control.push(Control::Pending(what))?;
-        self.phase = Phase::Finished(cause);
+        self.world.phase = Phase::Finished(cause);
         Ok(Label::Finish(cause))
     }
 
     // With nothing on control.
     fn go_idle(&mut self, alloc: Global, k: u32) -> Result<Label, NoMemory>
-        requires { k < idle_choices (state_of self.old).phase (state_of self.old) }
-        ensures { Moves (idle_move (state_of self.old).phase
+        requires { k < idle_choices (state_of self.old).world.phase (state_of self.old) }
+        ensures { Moves (idle_move (state_of self.old).world.phase
             (state_of self.old) k) result self.new }
     {
-        match self.phase {
+        match self.world.phase {
             Phase::Running => self.take_agenda(alloc, k),
             Phase::Finished(cause) => Ok(self.end(Ending::Cause(cause))),
             Phase::Ended(ending) => Ok(self.end(ending)),
@@ -279,7 +275,7 @@ impl Kernel {
         let Some(script) = self.world.scripts.get(i) else {
             return Ok(Label::Startup(number));
         };
-        let seen = startup_seen(self.simulation.time());
+        let seen = startup_seen(self.world.simulation.time());
         let activation = Activation::new(
             alloc,
             None,
@@ -294,33 +290,33 @@ impl Kernel {
 
     fn pick(&mut self, alloc: Global, k: u32) -> Result<Label, NoMemory>
         requires { k < agenda_choices None (state_of self.old) }
-        ensures { Moves (pick_move (slice_get (eligible (state_of self.old).activity.queue) k)
+        ensures { Moves (pick_move (slice_get (eligible (state_of self.old).world.activity.queue) k)
             (state_of self.old)) result self.new }
     {
-        if self.simulation.choices() == 0 {
+        if self.world.simulation.choices() == 0 {
             return self.change_region();
         }
-        let entry = self.simulation.pick(k);
+        let entry = self.world.simulation.pick(k);
         self.work(alloc, &entry)
     }
 
     fn change_region(&mut self) -> Result<Label, NoMemory>
-        ensures { Moves (region_move (next_region (state_of self.old).activity.queue)
+        ensures { Moves (region_move (next_region (state_of self.old).world.activity.queue)
             (state_of self.old))
             result self.new }
     {
-        match self.simulation.activate() {
+        match self.world.simulation.activate() {
             Some(region) => Ok(Label::Activate(region)),
             None => self.advance_time(),
         }
     }
 
     fn advance_time(&mut self) -> Result<Label, NoMemory>
-        ensures { Moves (time_move (least_time (state_of self.old).activity.queue.entries)
+        ensures { Moves (time_move (least_time (state_of self.old).world.activity.queue.entries)
             (state_of self.old))
             result self.new }
     {
-        match self.simulation.advance() {
+        match self.world.simulation.advance() {
             Some(time) => Ok(Label::Advance(time)),
             None => self.finish(Cause::Nothing),
         }

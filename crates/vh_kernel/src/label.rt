@@ -1,18 +1,9 @@
 ghost use Rattle.std.specs.Prelude.{◌≡◌};
 
 use crate::ordered::Ordered;
-use vh_base::{Answer, Bytes, Cause, CbNumber, Fault, Object, ProcId, Reason, Serial};
-use vh_orders::Who;
+use vh_base::{Answer, Bytes, Cause, CbNumber, Object, ProcId, Reason, Serial};
+use vh_orders::{Ending, Who};
 use vh_queue::Region;
-
-/// How a run ends.
-#[derive(Clone, Copy, Debug, PartialEq, Eq)]
-pub enum Ending {
-    /// By a finish, or because no event was left.
-    Cause(Cause),
-    /// In place of a label that would have exceeded a number of the machine.
-    Fault(Fault),
-}
 
 /// One step of the machine, as it is told.
 #[derive(Drop)]

@@ -18,12 +18,11 @@ mod laws;
 mod line;
 mod occurrence;
 mod ordered;
-mod phase;
 mod texts;
 
 pub use kernel::Kernel;
-pub use label::{Ending, Label};
+pub use label::Label;
 pub use laws::step_laws;
 pub use line::push_line;
 pub use ordered::Ordered;
-pub use vh_orders::Who;
+pub use vh_orders::{Ending, Who};

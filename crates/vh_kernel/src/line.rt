@@ -9,11 +9,11 @@ ghost use Rattle.vh_app_lines.specs.Quoted.{plain_text};
 ghost use Rattle.vh_kernel.specs.Views.{state_of};
 
 use crate::kernel::Kernel;
-use crate::label::{Ending, Label};
+use crate::label::Label;
 use std::alloc::AllocError;
 use vh_app_lines::{push_answer, push_number, push_order, push_plain, push_quoted};
 use vh_base::{Answer, Bytes, Object, Order, Reason};
-use vh_orders::Who;
+use vh_orders::{Ending, Who};
 
 /// Adds the line of a label at the time that the kernel shows, with its newline; nothing for a
 /// label that is silent.

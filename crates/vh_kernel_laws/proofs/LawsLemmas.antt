@@ -72,7 +72,7 @@ pub opens-fresh : OpensFresh
 opens-fresh d scripts s opens =
     let P : State → Type 0 = IsFresh in
     subst P (sym opens.settles) (record {
-      going = ap is_over opens.is.phase;
+      going = ap (λ (w : World). is_over w.phase) opens.is.world;
       alone = ap (λ (cs : List Control). without_front (is_void opens.before.world.callbacks) cs) opens.is.control;
       none_given = ap (λ (w : World). w.handles) opens.is.world;
       sound = subst (λ (w : World). IsSound w.callbacks) (sym opens.is.world) (sound_opening Body);

@@ -4,7 +4,6 @@ use Rattle.vh_app.specs.Script.{ScriptData}
 use Rattle.vh_base.specs.declared.first.First.{First}
 use Rattle.vh_design.specs.Shape.{Shape}
 use Rattle.vh_design_first.specs.Designs.{first_design}
-use Rattle.vh_kernel.specs.declared.phase.Phase.TheVariants as phase
 use Rattle.vh_kernel.specs.Settle.{settled}
 use Rattle.vh_kernel.specs.State.{State, opening_agenda, world_before}
 use Rattle.vh_proc.specs.Processes.{Queued}
@@ -19,12 +18,10 @@ activity_of d b =
 
 abbrev opening_by : Shape → List ScriptData → State
 opening_by d scripts = settled (record {
-  world = world_before d scripts;
-  activity = activity_of d (first_entries d);
+  world = world_before d scripts (activity_of d (first_entries d));
   control = [];
   agenda = opening_agenda scripts;
   occurrence = 1;
-  phase = phase.Running;
 })
 
 abbrev pub opening : First → List ScriptData → State

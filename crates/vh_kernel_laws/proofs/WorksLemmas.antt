@@ -21,7 +21,7 @@ use Rattle.vh_base.specs.declared.orders.Object.{Object}
 use Rattle.vh_base.specs.declared.words.Reason.{Reason}
 use Rattle.vh_handles.specs.declared.handles.Thing.{Thing}
 use Rattle.vh_handles.specs.declared.handles.Thing.TheVariants as thing
-use Rattle.vh_kernel.specs.declared.label.Ending.TheVariants as ending
+use Rattle.vh_orders.specs.declared.phase.Ending.TheVariants as ending
 use Rattle.vh_kernel.specs.declared.label.Label.{Label}
 use Rattle.vh_kernel.specs.declared.label.Label.TheVariants as label
 use Rattle.vh_kernel.specs.declared.occurrence.Told.{Told}
@@ -143,7 +143,7 @@ worked-view (Ok c) s = refl
 work-view : (w : Work) (s : State) → AllMade (HasView (view_of s)) (work_outcome w s)
 work-view w s =
     let P : View → Type 0 = λ v. AllMade (HasView v) (work_outcome w s) in
-    subst P (on-control-view w s) (worked-view (worked w s.activity) (on_control w s))
+    subst P (on-control-view w s) (worked-view (worked w s.world.activity) (on_control w s))
 
 left-view : (v : View) (out : Outcome) (m : Made) (u : State) → out ≡ Ok m → u ≡ after_made m → AllMade (HasView v) out → view_of u ≡ v
 left-view v out m u is leaves has =
@@ -386,7 +386,7 @@ row-works s u (label.Pick n shown) row =
     works_none refl (left-view (view_of s) _ row.made u row.makes row.leaves.1 (work-view row.entry.work _))
 row-works s u (label.Stmt p shown) row =
     works_none refl
-    (left-view (view_of (without_top s)) _ row.made u row.makes row.leaves.1 (statement-view p (performed p s.activity) (without_top s))
+    (left-view (view_of (without_top s)) _ row.made u row.makes row.leaves.1 (statement-view p (performed p s.world.activity) (without_top s))
     ∙ popped-view s (top.Process p) row.on.on refl)
 row-works s u (label.Finish c) row = empties refl (ap view_of row.1)
 row-works s u (label.End (ending.Cause c)) row = works_none refl (ap view_of row.3)

@@ -41,7 +41,7 @@ pub record KeepsLaws (s : State) (moves : List Move) : Type 0 where
 
 -- The run isn't over, nothing is on control and no handle was given; the numbers of callbacks rise.
 pub record IsFresh (s : State) : Type 0 where
-  pub going : is_over s.phase ≡ false
+  pub going : is_over s.world.phase ≡ false
   pub alone : s.control ≡ []
   pub none_given : s.world.handles ≡ no_handles
   pub sound : IsSound s.world.callbacks

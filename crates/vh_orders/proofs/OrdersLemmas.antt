@@ -1,5 +1,5 @@
 -- What the effect of an order can be: five forms, whichever the order.
-use Rattle.std.proofs.Common.{◌≡◌, ℕ, List, false, not, ◌&&◌, Option, Some, None, Ok, Err, ◌⊎◌, inl, inr, refl, ap}
+use Rattle.std.proofs.Common.{◌≡◌, ℕ, List, false, not, ◌&&◌, Option, Some, None, Ok, Err, ◌⊎◌, inl, inr, refl, sym, ap, subst}
 use Rattle.vh_base.specs.declared.orders.Answer.{Answer}
 use Rattle.vh_base.specs.declared.orders.Answer.TheVariants as answer
 use Rattle.vh_base.specs.declared.orders.BodyName.{BodyName}
@@ -17,7 +17,7 @@ use Rattle.vh_handles.specs.declared.handles.Thing.{Thing}
 use Rattle.vh_handles.specs.declared.handles.Thing.TheVariants as thing
 use Rattle.vh_handles.specs.Handles.{thing_at, opened, no_handle_more}
 use Rattle.vh_orders.specs.Names.{object_named}
-use Rattle.vh_orders.specs.Orders.{Effect, answers, opens, is_startup, callback_in, name_meant, new_handle, needs_object, needs_entry, object_watched, body_named, registration_of, without_callback, handles_read, all_named, not_yet, effect_of}
+use Rattle.vh_orders.specs.Orders.{Given, Effect, answers, opens, answered, performed, is_startup, callback_in, name_meant, new_handle, needs_object, needs_entry, object_watched, body_named, registration_of, without_callback, handles_read, all_named, not_yet, effect_of}
 use Rattle.vh_orders.specs.World.{World}
 
 pub data IsForm (o : Order) (s : World) (e : Effect) : Type 0 where
@@ -115,3 +115,23 @@ effect-form (order.Print text) w s = answers_only answer.Done (inl refl) refl
 effect-form (order.SetData n) w s = not_yet-form (order.SetData n) (order.SetData n) w s
 effect-form order.Pass w s = not_yet-form order.Pass order.Pass w s
 effect-form order.Return w s = not_yet-form order.Return order.Return w s
+
+-- An order leaves the design as it is simulated, and the phase.
+pub record LeavesRun (s t : World) : Type 0 where
+  pub activity : t.activity ≡ s.activity
+  pub phase : t.phase ≡ s.phase
+
+abbrev AnswersSo : World → Given → Effect → Type 0
+AnswersSo s g e = LeavesRun s (answered e s g).1
+
+form-kept : (o : Order) (s : World) (g : Given) (e : Effect) → IsForm o s e → AnswersSo s g e
+form-kept o s g e (refuses c is) = subst (AnswersSo s g) (sym is) (record { activity = refl; phase = refl })
+form-kept o s g e (answers_only a plain is) = subst (AnswersSo s g) (sym is) (record { activity = refl; phase = refl })
+form-kept o s g e (opens_object text name scope x by means at room is) = subst (AnswersSo s g) (sym is) (record { activity = refl; phase = refl })
+form-kept o s g e (registers r h time n body object b by watches calls room free is) =
+    subst (AnswersSo s g) (sym is) (record { activity = refl; phase = refl })
+form-kept o s g e (removes c h by at is) = subst (AnswersSo s g) (sym is) (record { activity = refl; phase = refl })
+
+pub performed-kept : (o : Order) (w : Who) (s : World) (g : Given) → LeavesRun s (performed o w s g).1
+performed-kept o w s g =
+    let kept = form-kept o s g (effect_of o w s) (effect-form o w s) in record { activity = kept.activity; phase = kept.phase }

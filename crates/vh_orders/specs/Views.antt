@@ -11,6 +11,7 @@ use Rattle.vh_orders.specs.World.{World}
 
 abbrev pub world_of : TheWorld → World
 world_of w = record {
+  activity = w.simulation;
   names = w.names;
   scripts = w.scripts.items;
   variables = w.vars.items;
@@ -18,6 +19,7 @@ world_of w = record {
   frames = stack_of w.dispatch w.registry;
   handles = handles_of w.handles;
   error = w.last_error;
+  phase = w.phase;
 }
 
 -- What a world gives an order: the next number for a handle.

@@ -6,12 +6,16 @@ use Rattle.vh_base.specs.declared.words.Code.{Code}
 use Rattle.vh_callbacks.specs.Callbacks.{Callbacks}
 use Rattle.vh_handles.specs.Handles.{Handles}
 use Rattle.vh_orders.specs.declared.names.Named.{Named}
+use Rattle.vh_orders.specs.declared.phase.Phase.{Phase}
 use Rattle.vh_orders.specs.declared.who.Body.{Body}
+use Rattle.vh_proc_simulation.specs.Activity.{Activity}
 
--- The design's objects by number, with their full names and kinds, and the scripts, which no order changes; the variables
--- of each script; the callbacks; for each frame that stands, the top first, the callbacks that are still to
--- fire for it; the handles; and the error of the last order.
+-- The design as it is simulated, with the event queue and the present time; its objects by number, with their full names
+-- and kinds, and the scripts, which no order changes; the variables of each script; the callbacks; for each frame that
+-- stands, the top first, the callbacks that are still to fire for it; the handles; the error of the last order; and whether
+-- the run goes on.
 pub record World : Type 0 where
+  pub activity : Activity
   pub names : List Named
   pub scripts : List ScriptData
   pub variables : List (List Answer)
@@ -19,3 +23,4 @@ pub record World : Type 0 where
   pub frames : List (List ℕ)
   pub handles : Handles
   pub error : Option Code
+  pub phase : Phase

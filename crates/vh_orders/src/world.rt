@@ -5,16 +5,20 @@ ghost use Rattle.vh_orders.specs.Views.{world_of};
 
 use crate::look_up::Names;
 use crate::names::may_watch;
+use crate::phase::Phase;
 use crate::who::Body;
 use vh_app::{Script, Vars};
 use vh_base::{Code, ObjId, Reason};
 use vh_callbacks::Registry;
 use vh_dispatch::Dispatch;
 use vh_handles::Handles;
+use vh_proc_simulation::Simulation;
 
 /// What the orders of applications read and change, which contracts see by `world_of`.
 #[derive(Drop)]
 pub struct World {
+    /// The design as it is simulated: its values, the event queue and the present time.
+    pub simulation: Simulation,
     /// The design's objects, by number.
     pub names: Names,
     pub scripts: Vec<Script>,
@@ -26,6 +30,7 @@ pub struct World {
     pub dispatch: Dispatch,
     /// The error of the last order.
     pub last_error: Option<Code>,
+    pub phase: Phase,
 }
 
 impl World {

@@ -112,7 +112,7 @@ impl Kernel {
         let Some(live) = self.world.registry.callback(c) else {
             return Ok(());
         };
-        let time = self.simulation.time();
+        let time = self.world.simulation.time();
         let seen = first_seen(alloc, &live.registration, &told.what, time)?;
         let body = live.body;
         let memory = self.spare.take();

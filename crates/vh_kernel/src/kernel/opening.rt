@@ -3,11 +3,11 @@ ghost use Rattle.vh_app.specs.Next.{no_answers};
 ghost use Rattle.vh_kernel.specs.State.{startups, opening_agenda, world_before};
 ghost use Rattle.vh_orders.specs.Names.{full_names};
 ghost use Rattle.vh_orders.specs.Views.{world_of};
+ghost use Rattle.vh_proc_simulation.specs.Activity.{IsOpening};
 
 use crate::control::Stack;
 use crate::kernel::Kernel;
 use crate::occurrence::Agendum;
-use crate::phase::Phase;
 use crate::texts::Texts;
 use std::alloc::Global;
 use std::collections::VecDeque;
@@ -18,7 +18,7 @@ use vh_design::{Design, lowest_of};
 use vh_design_names::full_name;
 use vh_dispatch::Dispatch;
 use vh_handles::Handles;
-use vh_orders::{Named, Names, World};
+use vh_orders::{Named, Names, Phase, World};
 use vh_proc_simulation::Simulation;
 
 // Every variable of every script is null.
@@ -74,14 +74,17 @@ fn all_startups(alloc: Global, scripts: u32) -> Result<VecDeque<Agendum>, NoMemo
 }
 
 // The world before all.
-fn world_before(alloc: Global, d: &Design, scripts: Vec<Script>) -> Result<World, NoMemory>
-    ensures world { IfOk result (λ w. world_of w ≡ world_before d.now scripts.items) }
+fn world_before(alloc: Global, design: Design, scripts: Vec<Script>) -> Result<World, NoMemory>
+    ensures world { IfOk result (λ w. world_of w
+        ≡ world_before design scripts.items (world_of w).activity) }
+    ensures opens { IfOk result (λ w. IsOpening design (world_of w).activity) }
     ensures few { IfOk result (λ w. w.scripts.items ≡ scripts.items) }
 {
-    let names = Names::new(all_names(alloc, d)?);
+    let names = Names::new(all_names(alloc, &design)?);
     let vars = all_vars(alloc, scripts.as_slice())?;
     let dispatch = Dispatch::new(alloc)?;
     Ok(World {
+        simulation: Simulation::new(alloc, design)?,
         names,
         scripts,
         vars,
@@ -89,6 +92,7 @@ fn world_before(alloc: Global, d: &Design, scripts: Vec<Script>) -> Result<World
         registry: Registry::new(alloc),
         dispatch,
         last_error: None,
+        phase: Phase::Running,
     })
 }
 
@@ -105,15 +109,13 @@ impl Kernel {
         requires { length scripts.items < 2 ^ 32 }
         ensures { IfOk result (λ k. IsBeforeAll design scripts.items (state_of k)) }
     {
-        let world = world_before(alloc, &design, scripts)?;
+        let world = world_before(alloc, design, scripts)?;
         let agenda = opening_agenda(alloc, world.scripts.as_slice())?;
         Ok(Kernel {
             world,
-            simulation: Simulation::new(alloc, design)?,
             control: Stack::new(alloc),
             agenda,
             occurrence: 1,
-            phase: Phase::Running,
             spare: None,
             spare_order: None,
             texts: Texts::new(alloc),

@@ -102,13 +102,13 @@ impl Kernel {
             (given_by self.old)) result self.new }
     {
         let process = ProcId::new(p);
-        match self.simulation.perform(alloc, process) {
+        match self.world.simulation.perform(alloc, process) {
             Ok(None) => Ok(Label::Stmt(process, None)),
             Ok(Some(performed)) => {
                 go_on(&mut self.control, performed.next, p)?;
                 let made = performed.came.made.as_slice();
-                pend_all(&mut self.control, self.simulation.design(), made)?;
-                self.simulation.keep_list(performed.came.made);
+                pend_all(&mut self.control, self.world.simulation.design(), made)?;
+                self.world.simulation.keep_list(performed.came.made);
                 Ok(Label::Stmt(process, performed.came.shown))
             }
             Err(StepFault::Run(fault)) => {
@@ -144,18 +144,18 @@ impl Kernel {
     #[inline(never)]
     fn simulate(&mut self, alloc: Global, entry: &Entry) -> Result<Label, NoMemory>
         ensures { Moves (move_of (λ shown. Label.Pick (entry.now).serial shown) (state_of self.old)
-            (worked_outcome (worked (entry.now).work (state_of self.old).activity)
+            (worked_outcome (worked (entry.now).work (state_of self.old).world.activity)
             (state_of self.old)))
             result self.new }
     {
-        match self.simulation.work(alloc, &entry.work) {
+        match self.world.simulation.work(alloc, &entry.work) {
             Ok(came) => {
                 pend_all(
                     &mut self.control,
-                    self.simulation.design(),
+                    self.world.simulation.design(),
                     came.made.as_slice(),
                 )?;
-                self.simulation.keep_list(came.made);
+                self.world.simulation.keep_list(came.made);
                 Ok(Label::Pick(entry.serial, came.shown))
             }
             Err(StepFault::Run(fault)) => Ok(self.fail(fault)),
