@@ -163,7 +163,7 @@ fn perform(alloc: Global, d: &Design, thread: &mut Thread, action: Does) -> Resu
         thread.arrive(d);
     }
     match action {
-        Does::Goes(goes) => thread.go_on(d, goes),
+        Does::Goes(goes) => thread.go_on(goes),
         Calls(routine) => {
             let routine = ObjId::new(routine);
             if !has_body(d, routine) {
@@ -346,7 +346,7 @@ fn nested_calls(rt: HostRuntime) -> Result<(), Fail> {
     assert!(rt; d.counts().processes > 0);
     let mut thread = Thread::of_process(alloc, &d, ProcId::new(0))?;
     assert_eq!(rt; calls_left(alloc, &d, &mut thread)?, 256);
-    thread.go_on(&d, Goes::Back);
+    thread.go_on(Goes::Back);
     let mut branch = thread.branch(alloc, 0)?;
     assert_eq!(rt; calls_left(alloc, &d, &mut branch)?, 1);
     Ok(())

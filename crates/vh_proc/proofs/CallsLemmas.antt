@@ -17,7 +17,7 @@ use Rattle.vh_design_code.specs.declared.operation.Single.{Single}
 use Rattle.vh_design_code.specs.declared.target.Delay.{Delay}
 use Rattle.vh_design.specs.Shape.{Shape}
 use Rattle.vh_proc_thread.specs.declared.call.Call.{Call}
-use Rattle.vh_proc_thread.specs.Control.{Control, behind, gone, past, or_these, outermost, is_within, is_call_of, blocks_of, block_around, left_task, left_block, left, disabled, in_block, block_at, next_of, start_of, call_at, routine_of, process_of, branch_of}
+use Rattle.vh_proc_thread.specs.Control.{Control, behind, gone, standing, or_these, outermost, is_within, is_call_of, blocks_of, block_around, left_task, left_block, left, disabled, in_block, block_at, next_of, routine_of, process_of, branch_of, arrived}
 use Rattle.vh_proc_turn.specs.declared.process.Process.{Process}
 use Rattle.vh_proc_turn.specs.declared.next.Next.TheVariants as next
 use Rattle.vh_proc_turn.specs.Drives.{all_driven, driving}
@@ -42,9 +42,6 @@ module _ (P : ℕ → Type 0) where
   calls-gone d root goes.Back (c ∷ []) all = tt
   calls-gone d root goes.Back (c ∷ e ∷ cs) all = calls-gone d root (behind d root e) (e ∷ cs) all.1
 
-  pub calls-past : (d : Shape) (root : ℕ) (cs : List Call) → AllCalls cs → AllCalls (past d root cs)
-  calls-past d root [] all = tt
-  calls-past d root (c ∷ cs) all = calls-gone d root (behind d root c) (c ∷ cs) all
 
   -- where it performs a label,
   pub calls-in : (block : Option ℕ) (cs : List Call) → AllCalls cs → AllCalls (in_block block cs)
@@ -68,11 +65,11 @@ module _ (P : ℕ → Type 0) where
   calls-left-block : (d : Shape) (target : ℕ) (cs : List Call) (bs : List Block) (b : Option Block) (t : Control) → AllCalls cs
       → AllCalls (left_block d target cs bs b t).calls
   calls-left-block d target cs bs None t all = all
-  calls-left-block d target cs bs (Some b) t all = calls-gone d t.root b.after (in_block b.around cs) (calls-in b.around cs all)
+  calls-left-block d target cs bs (Some b) t all = calls-in b.around cs all
 
   calls-left-by : (d : Shape) (target : ℕ) (b : Bool) (c : Call) (cs : List Call) (t : Control) → AllCalls (c ∷ cs)
       → AllCalls (cond b (left_task d (c ∷ cs) t) (left_block d target (c ∷ cs) (blocks_of d t.root c) (block_around d t.root target c) t)).calls
-  calls-left-by d target true c cs t all = calls-past d t.root (gone d t.root goes.Back (c ∷ cs)) (calls-gone d t.root goes.Back (c ∷ cs) all)
+  calls-left-by d target true c cs t all = all.1
   calls-left-by d target false c cs t all = calls-left-block d target (c ∷ cs) (blocks_of d t.root c) (block_around d t.root target c) t all
 
   calls-left : (d : Shape) (target : ℕ) (t : Control) (cs : List Call) → AllCalls t.calls → AllCalls cs → AllCalls (left d target t cs).calls
@@ -85,7 +82,10 @@ module _ (P : ℕ → Type 0) where
 
   -- where it begins,
   pub calls-begun : (d : Shape) (k : ℕ) → AllCalls (process_of d k).calls
-  calls-begun d k = calls-gone d k (start_of d k None) (call_at None 0 ∷ []) (tt, tt)
+  calls-begun d k = (tt, tt)
+
+  pub calls-arrived : (d : Shape) (t : Control) → AllCalls t.calls → AllCalls (arrived d t).calls
+  calls-arrived d t all = calls-in (block_at (next_of d t)) (standing d t) (calls-gone d t.root t.goes t.calls all)
 
   pub calls-branch : (place : ℕ) (t : Control) → AllCalls t.calls → AllCalls (branch_of place t).calls
   calls-branch place t all = (by t.calls all, tt)
@@ -102,8 +102,8 @@ module _ (P : ℕ → Type 0) where
   gives x turn h is = subst (λ (y : Turn). called y.own.process) (ok-same x turn h) is
 
   module _ (d : Shape) (p : ℕ) (i : Instruction) where
-    on : (g : Goes) (o : Own) → called o.process → called (O.gone d g o).process
-    on g o own = calls-gone d o.process.thread.root g o.process.thread.calls own
+    on : (g : Goes) (o : Own) → called o.process → called (O.gone g o).process
+    on g o own = own
 
     waits : (wait : ℕ) (o : Own) (turn : Turn) → T.waiting p wait o ≡ Ok turn → called o.process → called turn.own.process
     waits wait o turn h own = gives _ turn h own
@@ -112,21 +112,21 @@ module _ (P : ℕ → Type 0) where
     resumes delay o turn h own = let q = ok-then (T.resumption d o.store p delay o.queue) _ turn h in gives _ turn q.2 own
 
     pauses : (it : Pause) (o : Own) (turn : Turn) → T.pausing d p i.next it o ≡ Ok turn → called o.process → called turn.own.process
-    pauses (pause.Wait delay) o turn h own = resumes delay (O.gone d i.next o) turn h (on i.next o own)
-    pauses (pause.Await wait) o turn h own = waits wait (O.gone d i.next o) turn h (on i.next o own)
+    pauses (pause.Wait delay) o turn h own = resumes delay (O.gone i.next o) turn h (on i.next o own)
+    pauses (pause.Await wait) o turn h own = waits wait (O.gone i.next o) turn h (on i.next o own)
     pauses (pause.WaitFor condition wait) o turn h own = by (T.is_true d o.store condition) refl
       where
         by : (b : Bool) → T.is_true d o.store condition ≡ b → called turn.own.process
         by true is = gives _ turn (rw is at h) (on i.next o own)
         by false is = waits wait o turn (rw is at h) own
 
-    repeats : (done : Goes) (n : ℕ) (t : Process) (b : Bool) → nat_lt 0 n ≡ b → called t → called (T.repeat_of d i done n t)
-    repeats done n t true is own = rw is (calls-gone d t.thread.root i.next t.thread.calls own)
-    repeats done n t false is own = rw is (calls-gone d t.thread.root done t.thread.calls own)
+    repeats : (done : Goes) (n : ℕ) (t : Process) (b : Bool) → nat_lt 0 n ≡ b → called t → called (T.repeat_of i done n t)
+    repeats done n t true is own = rw is own
+    repeats done n t false is own = rw is own
 
     loops : (it : Loop) (o : Own) → called o.process → called (T.turning d o.store i it o.process)
     loops (turn.Repeat count done) o own = repeats done _ o.process (nat_lt 0 _) refl own
-    loops (turn.Again done) o own = calls-gone d o.process.thread.root _ o.process.thread.calls own
+    loops (turn.Again done) o own = own
     loops turn.Turn o own = on i.next o own
 
     singles : (it : Single) (o : Own) (turn : Turn) → T.single_turn d it o ≡ Ok turn → called o.process → called turn.own.process
@@ -144,9 +144,9 @@ module _ (P : ℕ → Type 0) where
 
     row : (op : Operation) (o : Own) (turn : Turn) → turn_at d p i op o ≡ Ok turn → IfSome (called_by op) P → called o.process → called turn.own.process
     row (op.Assign e targets) o turn h new own = gives _ turn h (on i.next o own)
-    row (op.Hold e width delay) o turn h new own = resumes delay (T.holding (_) (O.gone d i.next o)) turn h (on i.next o own)
+    row (op.Hold e width delay) o turn h new own = resumes delay (T.holding (_) (O.gone i.next o)) turn h (on i.next o own)
     row (op.Store targets) o turn h new own = gives _ turn h (on i.next o own)
-    row (op.Schedule s) o turn h new own = schedules s.delay _ (O.gone d i.next o) turn h (on i.next o own)
+    row (op.Schedule s) o turn h new own = schedules s.delay _ (O.gone i.next o) turn h (on i.next o own)
     row (op.Pause it) o turn h new own = pauses it o turn h own
     row (op.Test condition otherwise) o turn h new own = gives _ turn h (on _ o own)
     row (op.Case c) o turn h new own = gives _ turn h (on _ o own)
@@ -154,16 +154,15 @@ module _ (P : ℕ → Type 0) where
     row (op.Fork places) o turn h new own = absurd (cc)
     row op.End o turn h new own = gives _ turn h own
     row (op.Enter routine inputs) o turn h new own =
-        gives _ turn (unless-then _ _ _ turn h)
-        (calls-gone d o.process.thread.root (start_of d o.process.thread.root (Some routine)) (call_at (Some routine) 0 ∷ o.process.thread.calls) (new, own))
+        gives _ turn (unless-then _ _ _ turn h) (new, own)
     row (op.Leave l) o turn h new own = gives _ turn h (on i.next o own)
     row (op.SysCall call) o turn h new own = gives _ turn h (on i.next o own)
     row (op.SysFunc call) o turn h new own = gives _ turn h (on i.next o own)
-    row (op.Single it) o turn h new own = singles it (O.gone d i.next o) turn h (on i.next o own)
-    row (op.Drive it) o turn h new own = drives it (O.gone d i.next o) turn h (on i.next o own)
+    row (op.Single it) o turn h new own = singles it (O.gone i.next o) turn h (on i.next o own)
+    row (op.Drive it) o turn h new own = drives it (O.gone i.next o) turn h (on i.next o own)
     row (op.Initial object e) o turn h new own = gives _ turn h own
 
     pub calls-turned : (o : Own) (turn : Turn) → turn_of d p i o ≡ Ok turn → IfSome (called_by i.operation) P → AllCalls o.process.thread.calls
         → AllCalls turn.own.process.thread.calls
     calls-turned o turn h new own =
-        row i.operation (record o { process = arriving d o.process }) turn h new (calls-in (block_at (next_of d o.process.thread)) o.process.thread.calls own)
+        row i.operation (record o { process = arriving d o.process }) turn h new (calls-arrived d o.process.thread own)

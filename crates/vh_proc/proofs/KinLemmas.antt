@@ -59,15 +59,15 @@ module _ (d : Shape) (p : ℕ) (i : Instruction) where
   resumes-kept delay o turn h = let q = ok-then (T.resumption d o.store p delay o.queue) _ turn h in kept _ turn _ q.2 refl
 
   pauses-kept : (it : Pause) (o : Own) (turn : Turn) → T.pausing d p i.next it o ≡ Ok turn → kin turn.own.process ≡ kin o.process
-  pauses-kept (pause.Wait delay) o turn h = resumes-kept delay (O.gone d i.next o) turn h
-  pauses-kept (pause.Await wait) o turn h = waits-kept wait (O.gone d i.next o) turn h
+  pauses-kept (pause.Wait delay) o turn h = resumes-kept delay (O.gone i.next o) turn h
+  pauses-kept (pause.Await wait) o turn h = waits-kept wait (O.gone i.next o) turn h
   pauses-kept (pause.WaitFor condition wait) o turn h = by (T.is_true d o.store condition) refl
     where
       by : (b : Bool) → T.is_true d o.store condition ≡ b → kin turn.own.process ≡ kin o.process
       by true is = kept _ turn _ (rw is at h) refl
       by false is = waits-kept wait o turn (rw is at h)
 
-  repeats-kept : (done : Goes) (n : ℕ) (t : Process) (b : Bool) → nat_lt 0 n ≡ b → kin (T.repeat_of d i done n t) ≡ kin t
+  repeats-kept : (done : Goes) (n : ℕ) (t : Process) (b : Bool) → nat_lt 0 n ≡ b → kin (T.repeat_of i done n t) ≡ kin t
   repeats-kept done n t true is = rw is refl
   repeats-kept done n t false is = rw is refl
 
@@ -92,9 +92,9 @@ module _ (d : Shape) (p : ℕ) (i : Instruction) where
 
   row-kept : (op : Operation) (o : Own) (turn : Turn) → turn_at d p i op o ≡ Ok turn → kin turn.own.process ≡ kin o.process
   row-kept (op.Assign e targets) o turn h = kept _ turn _ h refl
-  row-kept (op.Hold e width delay) o turn h = resumes-kept delay (T.holding (_) (O.gone d i.next o)) turn h
+  row-kept (op.Hold e width delay) o turn h = resumes-kept delay (T.holding (_) (O.gone i.next o)) turn h
   row-kept (op.Store targets) o turn h = kept _ turn _ h refl
-  row-kept (op.Schedule s) o turn h = schedules-kept s.delay _ (O.gone d i.next o) turn h
+  row-kept (op.Schedule s) o turn h = schedules-kept s.delay _ (O.gone i.next o) turn h
   row-kept (op.Pause it) o turn h = pauses-kept it o turn h
   row-kept (op.Test condition otherwise) o turn h = kept _ turn _ h refl
   row-kept (op.Case c) o turn h = kept _ turn _ h refl
@@ -105,8 +105,8 @@ module _ (d : Shape) (p : ℕ) (i : Instruction) where
   row-kept (op.Leave l) o turn h = kept _ turn _ h refl
   row-kept (op.SysCall call) o turn h = kept _ turn _ h refl
   row-kept (op.SysFunc call) o turn h = kept _ turn _ h refl
-  row-kept (op.Single it) o turn h = singles-kept it (O.gone d i.next o) turn h
-  row-kept (op.Drive it) o turn h = drives-kept it (O.gone d i.next o) turn h
+  row-kept (op.Single it) o turn h = singles-kept it (O.gone i.next o) turn h
+  row-kept (op.Drive it) o turn h = drives-kept it (O.gone i.next o) turn h
   row-kept (op.Initial object e) o turn h = kept _ turn _ h refl
 
   pub turn-kept : (o : Own) (turn : Turn) → turn_of d p i o ≡ Ok turn → kin turn.own.process ≡ kin o.process

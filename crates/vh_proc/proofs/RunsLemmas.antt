@@ -9,10 +9,10 @@ use Rattle.std.specs.Ordering.{nat_cmp, match_ordering}
 use Rattle.vh_design.specs.Shape.{Shape}
 use Rattle.vh_design_code.specs.declared.code.Goes.{Goes}
 use Rattle.vh_design_nodes.specs.Fits.{has_body}
-use Rattle.vh_proc_thread.specs.Control.{Control, Runs, goes_on, disabled, block_at, next_of, arrived}
+use Rattle.vh_proc_thread.specs.Control.{Control, Runs, goes_on, disabled, arrived}
 use Rattle.vh_proc_turn.specs.declared.process.Process.{Process}
 use Rattle.vh_proc.specs.Processes.{Processes, AllRun, process_at, changed, changed_in}
-use Rattle.vh_proc.proofs.CallsLemmas.{calls-gone, calls-in, calls-disabled}
+use Rattle.vh_proc.proofs.CallsLemmas.{calls-arrived, calls-disabled}
 use Rattle.vh_proc.proofs.KinLemmas.{root-disabled}
 
 abbrev pub EachRuns : Shape → List (ℕ × Process) → Type 0
@@ -73,11 +73,11 @@ runs-changed d p change ps all keeps = changed-by d (process_at p ps) p change p
 abbrev IsThere : Shape → ℕ → Type 0
 IsThere d r = has_body d.objects r ≡ true
 
-pub runs-on : (d : Shape) (g : Goes) (t : Control) → Runs d t → Runs d (goes_on d g t)
-runs-on d g t runs = record { root = runs.root; calls = calls-gone (IsThere d) d t.root g t.calls runs.calls }
+pub runs-on : (d : Shape) (g : Goes) (t : Control) → Runs d t → Runs d (goes_on g t)
+runs-on d g t runs = record { root = runs.root; calls = runs.calls }
 
 pub runs-arrived : (d : Shape) (t : Control) → Runs d t → Runs d (arrived d t)
-runs-arrived d t runs = record { root = runs.root; calls = calls-in (IsThere d) (block_at (next_of d t)) t.calls runs.calls }
+runs-arrived d t runs = record { root = runs.root; calls = calls-arrived (IsThere d) d t runs.calls }
 
 pub runs-disabled : (d : Shape) (target : ℕ) (t : Control) → Runs d t → Runs d (disabled d target t)
 runs-disabled d target t runs = record {

@@ -107,8 +107,8 @@ changed p change ps = changed_in (process_at p ps) p change ps
 abbrev pub arrived_in : Shape → ℕ → Processes → Processes
 arrived_in d p ps = changed p (arriving d) ps
 
-abbrev pub gone_on : Shape → ℕ → Goes → Processes → Processes
-gone_on d p goes ps = changed p (going d goes) ps
+abbrev pub gone_on : ℕ → Goes → Processes → Processes
+gone_on p goes ps = changed p (going goes) ps
 
 abbrev pub with_serial : ℕ → Process → Process
 with_serial serial t = record t { entry = Some serial }
@@ -159,7 +159,7 @@ branches_begun p (k ∷ ks) b = with_ok (branch_begun p k b) (branches_begun p k
 abbrev pub one_joined : Shape → ℕ → Process → Queued → Result Queued (Option Fault)
 one_joined d p t b =
     if nat_lt 1 t.left then Ok b
-    else resumed p (queued (gone_on d p (goes_behind (next_of d t.thread)) b.processes) b.queue)
+    else resumed p (queued (gone_on p (goes_behind (next_of d t.thread)) b.processes) b.queue)
 
 abbrev pub joined_in : Shape → Option Process → ℕ → Queued → Result Queued (Option Fault)
 joined_in d None p b = Ok b

@@ -53,7 +53,7 @@ initializing d p t i w =
 
 -- `fork`: the process waits for its branches; without a branch it goes on. (9.8.2)
 abbrev pub forked : Shape → ℕ → Goes → List ℕ → Queued → Result Queued (Option Fault)
-forked d p goes [] b = Ok (queued (gone_on d p goes b.processes) b.queue)
+forked d p goes [] b = Ok (queued (gone_on p goes b.processes) b.queue)
 forked d p goes (k ∷ ks) b =
     branches_begun p (k ∷ ks) (queued (changed p (with_left (length (k ∷ ks))) b.processes) b.queue)
 
@@ -76,7 +76,7 @@ after_disable found p ps = after_disable_of found (process_at p ps)
 
 abbrev pub before_disable_of : Shape → ℕ → ℕ → Goes → Option Process → Processes → Processes
 before_disable_of d target p goes None ps = ps
-before_disable_of d target p goes (Some t) ps = if is_inside d target t.thread then ps else gone_on d p goes ps
+before_disable_of d target p goes (Some t) ps = if is_inside d target t.thread then ps else gone_on p goes ps
 
 abbrev pub before_disable : Shape → ℕ → ℕ → Goes → Processes → Processes
 before_disable d target p goes ps = before_disable_of d target p goes (process_at p ps) ps

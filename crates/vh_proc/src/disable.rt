@@ -347,7 +347,7 @@ impl Threads {
             return;
         };
         if !process.thread.is_inside(d, target) {
-            self.go_on(d, own, goes);
+            self.go_on(own, goes);
         }
     }
 

@@ -95,7 +95,7 @@ impl Threads {
         ensures runs { OnOk result (AllRun d.now self.new) }
     {
         if places.is_empty() {
-            self.go_on(d, p, goes);
+            self.go_on(p, goes);
             return Ok(());
         }
         self.wait_for(p, places.len() as u64);
@@ -126,7 +126,7 @@ impl Threads {
         if !is_last {
             return Ok(());
         }
-        self.go_on(d, p, goes);
+        self.go_on(p, goes);
         self.resume(q, p)
     }
 

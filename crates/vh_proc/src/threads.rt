@@ -173,13 +173,12 @@ impl Threads {
     }
 
     // A process goes on there.
-    pub(crate) fn go_on(&mut self, d: &Design, p: ProcId, goes: Goes)
-        requires { AllRun d.now self.old }
-        ensures on { self.new ≡ gone_on d.now p goes self.old }
-        ensures runs { AllRun d.now self.new }
+    pub(crate) fn go_on(&mut self, p: ProcId, goes: Goes)
+        ensures on { self.new ≡ gone_on p goes self.old }
+        ensures runs { (d : Shape) → AllRun d self.old → AllRun d self.new }
     {
         if let Some(process) = self.all.get_mut(&p.number()) {
-            process.thread.go_on(d, goes);
+            process.thread.go_on(goes);
         }
     }
 

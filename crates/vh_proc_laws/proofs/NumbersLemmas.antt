@@ -228,9 +228,9 @@ joins-one : (d : Shape) (p : ℕ) (t : Process) (b c : Queued) (more : Bool) →
 joins-one d p t b c true is h = subst (λ (x : Queued). Grows b.processes x.processes) (ok-same b c (rw is at h)) (same b.processes)
 joins-one d p t b c false is h =
     let goes = goes_behind (next_of d t.thread) in
-    then_ b.processes (gone_on d p goes b.processes) c.processes
-    (changes p (going d goes) b.processes (λ x. refl))
-    (resumes p (queued (gone_on d p goes b.processes) b.queue) c (rw is at h))
+    then_ b.processes (gone_on p goes b.processes) c.processes
+    (changes p (going goes) b.processes (λ x. refl))
+    (resumes p (queued (gone_on p goes b.processes) b.queue) c (rw is at h))
 
 joins-in : (d : Shape) (o : Option Process) (p : ℕ) (b c : Queued) → joined_in d o p b ≡ Ok c → Grows b.processes c.processes
 joins-in d None p b c h = subst (λ (x : Queued). Grows b.processes x.processes) (ok-same b c h) (same b.processes)
@@ -297,7 +297,7 @@ passes d p target goes (Some u) ps = by (is_inside d target u.thread) refl
   where
     by : (b : Bool) → is_inside d target u.thread ≡ b → Grows ps (S.before_disable_of d target p goes (Some u) ps)
     by true is = subst (Grows ps) (sym (rw is refl)) (same ps)
-    by false is = subst (Grows ps) (sym (rw is refl)) (changes p (going d goes) ps (λ x. refl))
+    by false is = subst (Grows ps) (sym (rw is refl)) (changes p (going goes) ps (λ x. refl))
 
 -- Each label.
 module _ (d : Shape) (p : ℕ) (t : Process) (i : Instruction) (w : World) (at : process_at p w.processes ≡ Some t) where
@@ -324,7 +324,7 @@ module _ (d : Shape) (p : ℕ) (t : Process) (i : Instruction) (w : World) (at :
 
   forks : (goes : Goes) (ks : List ℕ) (b c : Queued) → S.forked d p goes ks b ≡ Ok c → Grows b.processes c.processes
   forks goes [] b c h =
-      subst (λ (x : Queued). Grows b.processes x.processes) (ok-same _ c h) (changes p (going d goes) b.processes (λ x. refl))
+      subst (λ (x : Queued). Grows b.processes x.processes) (ok-same _ c h) (changes p (going goes) b.processes (λ x. refl))
   forks goes (k ∷ ks) b c h =
       let mid = changed p (with_left (length (k ∷ ks))) b.processes in
       then_ b.processes mid c.processes (changes p (with_left (length (k ∷ ks))) b.processes (λ x. refl)) (begins p (k ∷ ks) (queued mid b.queue) c h)

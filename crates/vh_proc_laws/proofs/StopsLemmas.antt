@@ -448,14 +448,14 @@ passed-there : (d : Shape) (target p q : ℕ) (goes : Goes) (o : Option Process)
 passed-there d target p q goes None ps = refl
 passed-there d target p q goes (Some t) ps = by (is_inside d target t.thread) refl
   where
-    there : (b : Bool) (x : Option Process) → is_some (cond b (option_map (going d goes) x) x) ≡ is_some x
+    there : (b : Bool) (x : Option Process) → is_some (cond b (option_map (going goes) x) x) ≡ is_some x
     there true None = refl
     there true (Some u) = refl
     there false x = refl
 
     by : (b : Bool) → is_inside d target t.thread ≡ b → is_some (process_at q (before_disable_of d target p goes (Some t) ps)) ≡ is_some (process_at q ps)
     by true is = rw is refl
-    by false is = rw is (ap is_some (at-changed p q (going d goes) ps) ∙ there (nat_eq p q) (process_at q ps))
+    by false is = rw is (ap is_some (at-changed p q (going goes) ps) ∙ there (nat_eq p q) (process_at q ps))
 
 -- The label of a disable.
 pub disable-stops : DisableStops

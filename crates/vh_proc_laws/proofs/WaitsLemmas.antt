@@ -56,8 +56,8 @@ module _ (d : Shape) (p : ℕ) (i : Instruction) where
   resumes delay o turn h = let q = ok-then (T.resumption d o.store p delay o.queue) _ turn h in none p _ turn o q.2 refl
 
   pauses : (it : Pause) (o : Own) (turn : Turn) → T.pausing d p i.next it o ≡ Ok turn → Waits p o turn
-  pauses (pause.Wait delay) o turn h = resumes delay (O.gone d i.next o) turn h
-  pauses (pause.Await wait) o turn h = waits wait (O.gone d i.next o) turn h
+  pauses (pause.Wait delay) o turn h = resumes delay (O.gone i.next o) turn h
+  pauses (pause.Await wait) o turn h = waits wait (O.gone i.next o) turn h
   pauses (pause.WaitFor condition wait) o turn h = by (T.is_true d o.store condition) refl
     where
       by : (b : Bool) → T.is_true d o.store condition ≡ b → Waits p o turn
@@ -82,9 +82,9 @@ module _ (d : Shape) (p : ℕ) (i : Instruction) where
 
   row : (op : Operation) (o : Own) (turn : Turn) → turn_at d p i op o ≡ Ok turn → Waits p o turn
   row (op.Assign e targets) o turn h = none p _ turn o h refl
-  row (op.Hold e width delay) o turn h = resumes delay (T.holding (_) (O.gone d i.next o)) turn h
+  row (op.Hold e width delay) o turn h = resumes delay (T.holding (_) (O.gone i.next o)) turn h
   row (op.Store targets) o turn h = none p _ turn o h refl
-  row (op.Schedule s) o turn h = schedules s.delay _ (O.gone d i.next o) turn h
+  row (op.Schedule s) o turn h = schedules s.delay _ (O.gone i.next o) turn h
   row (op.Pause it) o turn h = pauses it o turn h
   row (op.Test condition otherwise) o turn h = none p _ turn o h refl
   row (op.Case c) o turn h = none p _ turn o h refl
@@ -95,8 +95,8 @@ module _ (d : Shape) (p : ℕ) (i : Instruction) where
   row (op.Leave l) o turn h = none p _ turn o h refl
   row (op.SysCall call) o turn h = none p _ turn o h refl
   row (op.SysFunc call) o turn h = none p _ turn o h refl
-  row (op.Single it) o turn h = singles it (O.gone d i.next o) turn h
-  row (op.Drive it) o turn h = drives it (O.gone d i.next o) turn h
+  row (op.Single it) o turn h = singles it (O.gone i.next o) turn h
+  row (op.Drive it) o turn h = drives it (O.gone i.next o) turn h
   row (op.Initial object e) o turn h = none p _ turn o h refl
 
   turn-rises : (o : Own) (turn : Turn) → turn_of d p i o ≡ Ok turn → WaitsRise o.sense → WaitsRise turn.own.sense

@@ -1,18 +1,19 @@
 -- Lemmas on `specs/Control.antt`: what becomes of the calls and repeats of a thread.
-use Rattle.std.proofs.Common.{◌≡◌, ◌∙◌, ◌<◌, ◌≤◌, ◌-◌, ◌+◌, ◌++◌, ℕ, List, [], ◌∷◌, length, reverse, filter, take, drop, slice_set, slice_index_or, Bool, true, false, not, nat_lt, cond, Option, Some, None, option_to_list, MatchOption, unwrap_or, refl, sym, ap, subst, arith}
-use Rattle.std.proofs.Math.Seq.{take-add, drop-cons}
+use Rattle.std.proofs.Common.{◌≡◌, ◌∙◌, ◌<◌, ◌≤◌, ◌-◌, ◌+◌, ◌++◌, ℕ, List, [], ◌∷◌, length, reverse, filter, take, drop, slice_set, slice_get, slice_index_or, Bool, true, false, not, nat_lt, cond, Option, Some, None, option_to_list, MatchOption, unwrap_or, refl, sym, ap, subst, arith}
+use Rattle.std.proofs.Math.Seq.{take-add, drop-cons, get_or-append_seam, take-append_seam}
 use Rattle.std.proofs.lemmas.Bool.Decides.{nat_tests}
-use Rattle.std.proofs.lemmas.List.{reverse-append, take-append-drop, take_all, length-reverse, length-take-le}
+use Rattle.std.proofs.lemmas.List.{reverse-append, take-append-drop, take_all, length-reverse, length-take-le, length-append, append_assoc}
 use Rattle.std.specs.List.{AllByRecursion}
-use Rattle.std.specs.Option.{option_map}
+use Rattle.std.specs.Option.{option_map, option_and_then}
 use Rattle.vh_design_code.specs.declared.code.Block.{Block}
 use Rattle.vh_design_code.specs.declared.code.Code.{Code}
 use Rattle.vh_design_code.specs.declared.code.Goes.{Goes}
 use Rattle.vh_design_code.specs.declared.code.Goes.TheVariants as goes
+use Rattle.vh_design_code.specs.declared.code.Instruction.{Instruction}
 use Rattle.vh_design.specs.Shape.{Shape}
 use Rattle.vh_proc_thread.specs.declared.call.Call.{Call}
 use Rattle.vh_proc_thread.specs.declared.call.Repeat.{Repeat}
-use Rattle.vh_proc_thread.specs.Control.{Control, Runs, HasBody, gone, goes_on, behind, turned, outermost, or_these, is_within, is_call_of, disabled, left, left_task, left_block, blocks_of, block_around, gone_past, repeats_within, code_of, without_block, in_block, standing_in}
+use Rattle.vh_proc_thread.specs.Control.{Control, Runs, HasBody, instruction_of, gone, behind, without_call, turned, outermost, or_these, is_within, is_call_of, disabled, left, left_task, left_block, blocks_of, block_around, repeats_within, code_of, without_block, in_block, standing_in}
 use Rattle.vh_proc_thread.proofs.LastLemmas.{Apart, apart, reverse-apart, last-at, last-set, each-back, each-turned, each-taken, each-last, filter-turned}
 
 -- The innermost call goes on at a place.
@@ -85,6 +86,90 @@ back-none d root xs [] None is none = sym (ap (λ (zs : List Call). gone d root 
 back-none d root xs [] (Some x) is none = sym (ap (λ (zs : List Call). gone d root goes.Back (reverse zs)) is)
 back-none d root xs (y ∷ ys) o is none = absurd (omega (arith, none))
 
+-- The call in which the next label is performed, from the outside in.
+pub label-none : (d : Shape) (root : ℕ) (g : Goes) (xs : List Call) → length xs ≡ 0 → slice_get (gone d root g (reverse xs)) 0 ≡ None
+unfolding gone
+label-none d root (goes.To k) [] none = refl
+label-none d root goes.Back [] none = refl
+label-none d root g (x ∷ xs) none = absurd (omega (arith, none))
+
+pub label-to : (d : Shape) (root k n : ℕ) (xs : List Call) (c : Call) → n ≡ length xs - 1 → 0 < length xs → c ≡ slice_index_or xs n c
+    → slice_get (gone d root (goes.To k) (reverse xs)) 0 ≡ Some (record c { place = k })
+unfolding gone
+label-to d root k n xs c is some at = by (apart xs some)
+  where
+    by : Apart xs → slice_get (gone d root (goes.To k) (reverse xs)) 0 ≡ Some (record c { place = k })
+    by a =
+        let here : n ≡ length (a.front ++ a.last ∷ []) - 1 = is ∙ ap (λ (ys : List Call). length ys - 1) a.is in
+        let same : c ≡ a.last = at ∙ ap (λ (ys : List Call). slice_index_or ys n c) a.is ∙ last-at a.front a.last c n here in
+        ap (λ (ys : List Call). slice_get (gone d root (goes.To k) ys) 0) (ap reverse a.is ∙ reverse-apart a.front a.last)
+        ∙ ap (λ (e : Call). Some (let f : Call = record e { place = k } in f)) (sym same)
+
+pub label-ended : (d : Shape) (root : ℕ) (xs : List Call) → length xs ≡ 1 → slice_get (gone d root goes.Back (reverse xs)) 0 ≡ None
+unfolding gone
+label-ended d root [] one = absurd (cc)
+label-ended d root (x ∷ []) one = refl
+label-ended d root (x ∷ y ∷ ys) one = absurd (omega (arith, one))
+
+pub label-back : (d : Shape) (root n m : ℕ) (xs ys : List Call) (e : Call) → n ≡ length xs - 1 → 0 < n → m ≡ n - 1 → ys ≡ take n xs
+    → e ≡ slice_index_or xs m e → gone d root (behind d root e) (reverse ys) ≡ gone d root goes.Back (reverse xs)
+unfolding gone
+label-back d root n m xs ys e is more before taken at = by (apart xs (omega (arith, is, more)))
+  where
+    by : Apart xs → gone d root (behind d root e) (reverse ys) ≡ gone d root goes.Back (reverse xs)
+    by a = inner (apart a.front (let many : length xs ≡ length (a.front ++ a.last ∷ []) = ap length a.is in
+        omega (arith, is, more, many, length-append a.front (a.last ∷ []))))
+      where
+        front : a.front ≡ take n xs
+        front =
+            let many : length xs ≡ length (a.front ++ a.last ∷ []) = ap length a.is in
+            let here : n ≡ length a.front = omega (arith, is, more, many, length-append a.front (a.last ∷ [])) in
+            sym (ap (take n) a.is ∙ ap (λ (k : ℕ). take k (a.front ++ a.last ∷ [])) here ∙ take-append_seam a.front (a.last ∷ []))
+
+        inner : Apart a.front → gone d root (behind d root e) (reverse ys) ≡ gone d root goes.Back (reverse xs)
+        inner b =
+            let turned : reverse a.front ≡ b.last ∷ reverse b.front = ap reverse b.is ∙ reverse-apart b.front b.last in
+            let many : length xs ≡ length (a.front ++ a.last ∷ []) = ap length a.is in
+            let fewer : length a.front ≡ length (b.front ++ b.last ∷ []) = ap length b.is in
+            let there : m ≡ length b.front = omega (arith, is, more, before, many, fewer, length-append a.front (a.last ∷ []), length-append b.front (b.last ∷ [])) in
+            let whole : xs ≡ b.front ++ b.last ∷ a.last ∷ [] = a.is ∙ ap (λ (zs : List Call). zs ++ a.last ∷ []) b.is ∙ append_assoc b.front (b.last ∷ []) (a.last ∷ []) in
+            let same : e ≡ b.last = at ∙ ap (λ (zs : List Call). slice_index_or zs m e) whole ∙ ap (λ (k : ℕ). slice_index_or (b.front ++ b.last ∷ a.last ∷ []) k e) there
+            ∙ get_or-append_seam b.front b.last (a.last ∷ []) e in
+            ap (λ (zs : List Call). gone d root (behind d root e) (reverse zs)) (taken ∙ sym front)
+            ∙ ap (λ (f : Call). gone d root (behind d root f) (reverse a.front)) same
+            ∙ ap (gone d root (behind d root b.last)) turned
+            ∙ sym (ap (gone d root goes.Back) (ap reverse a.is ∙ reverse-apart a.front a.last ∙ ap (λ (zs : List Call). a.last ∷ zs) turned))
+
+pub label-at : (d : Shape) (root k n : ℕ) (xs : List Call) (c : Call) (code : Code) (g : Goes) (o : Option Instruction) → n ≡ length xs - 1
+    → 0 < length xs → c ≡ slice_index_or xs n c → g ≡ goes.To k → code_of d root c.routine ≡ Some code → o ≡ slice_get code.instructions k
+    → o ≡ option_and_then (instruction_of d root) (slice_get (gone d root g (reverse xs)) 0)
+label-at d root k n xs c code g o is some at goes_to there found =
+    found
+    ∙ sym (ap (λ (x : Goes). option_and_then (instruction_of d root) (slice_get (gone d root x (reverse xs)) 0)) goes_to
+    ∙ ap (option_and_then (instruction_of d root)) (label-to d root k n xs c is some at)
+    ∙ ap (λ (x : Option Code). option_and_then (λ (e : Code). slice_get e.instructions k) x) there)
+
+pub label-more : (d : Shape) (root n m : ℕ) (xs ys : List Call) (e : Call) (g h : Goes) (o : Option Instruction) → n ≡ length xs - 1 → 0 < n
+    → m ≡ n - 1 → ys ≡ take n xs → e ≡ slice_index_or xs m e → h ≡ behind d root e → g ≡ goes.Back
+    → o ≡ option_and_then (instruction_of d root) (slice_get (gone d root h (reverse ys)) 0)
+    → o ≡ option_and_then (instruction_of d root) (slice_get (gone d root g (reverse xs)) 0)
+label-more d root n m xs ys e g h o is more before taken at next back found =
+    found
+    ∙ ap (λ (x : Goes). option_and_then (instruction_of d root) (slice_get (gone d root x (reverse ys)) 0)) next
+    ∙ ap (λ (cs : List Call). option_and_then (instruction_of d root) (slice_get cs 0)) (label-back d root n m xs ys e is more before taken at)
+    ∙ sym (ap (λ (x : Goes). option_and_then (instruction_of d root) (slice_get (gone d root x (reverse xs)) 0)) back)
+
+-- The innermost call is gone.
+pub popped : (m n : ℕ) (xs ys : List Call) (o : Option Call) → xs ≡ ys ++ option_to_list o
+    → MatchOption o ((m ≡ 0) × (n ≡ 0)) (λ _. n + 1 ≡ m) → n ≡ length ys → drop 1 (reverse xs) ≡ reverse ys
+popped m n xs ys (Some x) is cases counted = ap (λ (zs : List Call). drop 1 (reverse zs)) is ∙ ap (λ (zs : List Call). drop 1 zs) (reverse-apart ys x)
+popped m n xs [] None is cases counted = ap (λ (zs : List Call). drop 1 (reverse zs)) is
+popped m n xs (y ∷ ys) None is cases counted = absurd (let none = cases.1 in omega (arith, none, counted))
+
+pub bodies-less : (d : Shape) (cs : List Call) → AllByRecursion (HasBody d) cs → AllByRecursion (HasBody d) (drop 1 cs)
+bodies-less d [] all = tt
+bodies-less d (c ∷ cs) all = all.1
+
 -- What runs goes on running.
 bodies-gone : (d : Shape) (root : ℕ) (g : Goes) (cs : List Call) → AllByRecursion (HasBody d) cs → AllByRecursion (HasBody d) (gone d root g cs)
 unfolding gone
@@ -94,7 +179,11 @@ bodies-gone d root goes.Back [] all = tt
 bodies-gone d root goes.Back (c ∷ []) all = tt
 bodies-gone d root goes.Back (c ∷ e ∷ cs) all = bodies-gone d root (behind d root e) (e ∷ cs) all.1
 
-pub runs-on : (d : Shape) (g : Goes) (t : Control) → Runs d t → Runs d (goes_on d g t)
+-- A thread in the calls that it goes on in.
+abbrev pub walked : Shape → Goes → Control → Control
+walked d g t = record t { calls = gone d t.root g t.calls }
+
+pub runs-on : (d : Shape) (g : Goes) (t : Control) → Runs d t → Runs d (walked d g t)
 runs-on d g t runs = record { root = runs.root; calls = bodies-gone d t.root g t.calls runs.calls }
 
 -- A repeat takes a turn.
@@ -160,10 +249,10 @@ outermost-none test xs k past none = sym (ap (λ (ys : List Call). outermost tes
 pub bodies-back : (d : Shape) (t : Control) (xs : List Call) → Runs d t → reverse xs ≡ t.calls → AllByRecursion (HasBody d) xs
 bodies-back d t xs runs is = each-back (HasBody d) xs (subst (AllByRecursion (HasBody d)) (sym is) runs.calls)
 
-pub runs-taken : (d : Shape) (t : Control) (root outer n : ℕ) (xs ys : List Call) (rs ss : List Repeat) → Runs d t
-    → (let q : Control = record { root = root; outer = outer; calls = reverse xs; repeats = rs } in q) ≡ t → ys ≡ take n xs
-    → Runs d (record { root = root; outer = outer; calls = reverse ys; repeats = ss })
-runs-taken d t root outer n xs ys rs ss runs is taken = record {
+pub runs-taken : (d : Shape) (t : Control) (root outer n : ℕ) (xs ys : List Call) (rs ss : List Repeat) (g h : Goes) → Runs d t
+    → (let q : Control = record { root = root; outer = outer; calls = reverse xs; repeats = rs; goes = g } in q) ≡ t → ys ≡ take n xs
+    → Runs d (record { root = root; outer = outer; calls = reverse ys; repeats = ss; goes = h })
+runs-taken d t root outer n xs ys rs ss g h runs is taken = record {
   root = subst (λ (q : Control). q.root < length d.codes) (sym is) runs.root;
   calls = each-turned (HasBody d) ys (subst (AllByRecursion (HasBody d)) (sym taken)
       (each-taken (HasBody d) n xs (bodies-back d t xs runs (ap (λ (q : Control). q.calls) is))));
@@ -212,44 +301,44 @@ leaves-block d target t cs c rest found is other =
     ∙ sym (ap (left d target t) (sym found ∙ is)
     ∙ ap (λ (b : Bool). cond b (left_task d (c ∷ rest) t) (left_block d target (c ∷ rest) (blocks_of d t.root c) (block_around d t.root target c) t)) other)
 
-abbrev pub control : ℕ → ℕ → List Call → List Repeat → Control
-control root outer calls repeats = record { root = root; outer = outer; calls = calls; repeats = repeats }
+abbrev pub control : ℕ → ℕ → List Call → List Repeat → Goes → Control
+control root outer calls repeats goes = record { root = root; outer = outer; calls = calls; repeats = repeats; goes = goes }
 
 -- The same as the code has them, from the outside in.
-pub task-left : (d : Shape) (target root outer n : ℕ) (xs ys : List Call) (rs ss : List Repeat) (c : Call) (t : Control)
-    → control root outer (reverse xs) (reverse rs) ≡ t → ys ≡ take n xs → n ≡ length ys
+pub task-left : (d : Shape) (target root outer n : ℕ) (goes : Goes) (xs ys : List Call) (rs ss : List Repeat) (c : Call) (t : Control)
+    → control root outer (reverse xs) (reverse rs) goes ≡ t → ys ≡ take n xs → n ≡ length ys
     → reverse (take n xs) ≡ outermost (is_within d root target) (reverse xs)
     → Innermost ys c → is_call_of target c ≡ true → ss ≡ filter (λ r. nat_lt r.depth n) rs
-    → gone_past d (goes_on d goes.Back (control root outer (reverse ys) (reverse ss))) ≡ disabled d target t
-task-left d target root outer n xs ys rs ss c t is taken many found inner task kept =
-    ap (λ (zs : List Repeat). gone_past d (goes_on d goes.Back (control root outer (reverse ys) zs)))
+    → without_call d (control root outer (reverse ys) (reverse ss) goes) ≡ disabled d target t
+task-left d target root outer n goes xs ys rs ss c t is taken many found inner task kept =
+    ap (λ (zs : List Repeat). without_call d (control root outer (reverse ys) zs goes))
     (ap reverse kept ∙ filter-turned (λ r. nat_lt r.depth n) rs ∙ ap (λ (m : ℕ). filter (λ r. nat_lt r.depth m) (reverse rs)) (many ∙ sym (length-reverse ys)))
-    ∙ leaves-task d target (control root outer (reverse xs) (reverse rs)) (reverse ys) c inner.rest (ap reverse taken ∙ found) inner.is task
+    ∙ leaves-task d target (control root outer (reverse xs) (reverse rs) goes) (reverse ys) c inner.rest (ap reverse taken ∙ found) inner.is task
     ∙ ap (disabled d target) is
 
-pub block-left : (d : Shape) (target root outer n : ℕ) (xs ys : List Call) (rs ss : List Repeat) (c : Call) (t : Control) (bs : List Block) (b : Block)
-    → control root outer (reverse xs) (reverse rs) ≡ t → ys ≡ take n xs → n ≡ length ys
+pub block-left : (d : Shape) (target root outer n : ℕ) (goes : Goes) (xs ys : List Call) (rs ss : List Repeat) (c : Call) (t : Control) (bs : List Block) (b : Block)
+    → control root outer (reverse xs) (reverse rs) goes ≡ t → ys ≡ take n xs → n ≡ length ys
     → reverse (take n xs) ≡ outermost (is_within d root target) (reverse xs)
     → Innermost ys c → is_call_of target c ≡ false → bs ≡ blocks_of d root c → Some b ≡ block_around d root target c
     → ss ≡ filter (λ r. not (repeats_within bs n target r)) rs
-    → without_block d b (control root outer (reverse ys) (reverse ss)) ≡ disabled d target t
-block-left d target root outer n xs ys rs ss c t bs b is taken many found inner other blocks around kept =
-    ap (λ (zs : List Repeat). without_block d b (control root outer (reverse ys) zs))
+    → without_block b (control root outer (reverse ys) (reverse ss) goes) ≡ disabled d target t
+block-left d target root outer n goes xs ys rs ss c t bs b is taken many found inner other blocks around kept =
+    ap (λ (zs : List Repeat). without_block b (control root outer (reverse ys) zs goes))
     (ap reverse kept ∙ filter-turned (λ r. not (repeats_within bs n target r)) rs
     ∙ ap (λ (m : ℕ). filter (λ r. not (repeats_within bs m target r)) (reverse rs)) (many ∙ sym (length-reverse ys))
     ∙ ap (λ (cs : List Block). filter (λ r. not (repeats_within cs (length (reverse ys)) target r)) (reverse rs)) blocks)
-    ∙ ap (λ (o : Option Block). left_block d target (reverse ys) (blocks_of d root c) o (control root outer (reverse xs) (reverse rs))) around
-    ∙ leaves-block d target (control root outer (reverse xs) (reverse rs)) (reverse ys) c inner.rest (ap reverse taken ∙ found) inner.is other
+    ∙ ap (λ (o : Option Block). left_block d target (reverse ys) (blocks_of d root c) o (control root outer (reverse xs) (reverse rs) goes)) around
+    ∙ leaves-block d target (control root outer (reverse xs) (reverse rs) goes) (reverse ys) c inner.rest (ap reverse taken ∙ found) inner.is other
     ∙ ap (disabled d target) is
 
-pub none-left : (d : Shape) (target root outer n : ℕ) (xs ys : List Call) (rs : List Repeat) (c : Call) (t : Control)
-    → control root outer (reverse xs) (reverse rs) ≡ t → ys ≡ take n xs
+pub none-left : (d : Shape) (target root outer n : ℕ) (goes : Goes) (xs ys : List Call) (rs : List Repeat) (c : Call) (t : Control)
+    → control root outer (reverse xs) (reverse rs) goes ≡ t → ys ≡ take n xs
     → reverse (take n xs) ≡ outermost (is_within d root target) (reverse xs)
     → Innermost ys c → is_call_of target c ≡ false → None ≡ block_around d root target c
-    → control root outer (reverse ys) (reverse rs) ≡ disabled d target t
-none-left d target root outer n xs ys rs c t is taken found inner other around =
-    ap (λ (o : Option Block). left_block d target (reverse ys) (blocks_of d root c) o (control root outer (reverse xs) (reverse rs))) around
-    ∙ leaves-block d target (control root outer (reverse xs) (reverse rs)) (reverse ys) c inner.rest (ap reverse taken ∙ found) inner.is other
+    → control root outer (reverse ys) (reverse rs) goes ≡ disabled d target t
+none-left d target root outer n goes xs ys rs c t is taken found inner other around =
+    ap (λ (o : Option Block). left_block d target (reverse ys) (blocks_of d root c) o (control root outer (reverse xs) (reverse rs) goes)) around
+    ∙ leaves-block d target (control root outer (reverse xs) (reverse rs) goes) (reverse ys) c inner.rest (ap reverse taken ∙ found) inner.is other
     ∙ ap (disabled d target) is
 
 -- The calls up to the outermost, as the code has them.
@@ -275,24 +364,24 @@ body-cut d t n xs ys ws c runs is taken ws_is some at =
     body-last d ws c
     (subst (AllByRecursion (HasBody d)) (sym (ws_is ∙ taken)) (each-taken (HasBody d) n xs (bodies-back d t xs runs is))) some at
 
-pub task-cut : (d : Shape) (target root outer n : ℕ) (xs ys : List Call) (rs ss : List Repeat) (c : Call) (t : Control)
-    → control root outer (reverse xs) (reverse rs) ≡ t → Cut d target root n xs ys c → is_call_of target c ≡ true
+pub task-cut : (d : Shape) (target root outer n : ℕ) (goes : Goes) (xs ys : List Call) (rs ss : List Repeat) (c : Call) (t : Control)
+    → control root outer (reverse xs) (reverse rs) goes ≡ t → Cut d target root n xs ys c → is_call_of target c ≡ true
     → ss ≡ filter (λ r. nat_lt r.depth n) rs
-    → gone_past d (goes_on d goes.Back (control root outer (reverse ys) (reverse ss))) ≡ disabled d target t
-task-cut d target root outer n xs ys rs ss c t is k task kept =
-    task-left d target root outer n xs ys rs ss c t is k.taken k.many k.found k.inner task kept
+    → without_call d (control root outer (reverse ys) (reverse ss) goes) ≡ disabled d target t
+task-cut d target root outer n goes xs ys rs ss c t is k task kept =
+    task-left d target root outer n goes xs ys rs ss c t is k.taken k.many k.found k.inner task kept
 
-pub block-cut : (d : Shape) (target root outer n : ℕ) (xs ys : List Call) (rs ss : List Repeat) (c : Call) (t : Control) (code : Code) (bs : List Block) (b : Block)
-    → control root outer (reverse xs) (reverse rs) ≡ t → Cut d target root n xs ys c → is_call_of target c ≡ false
+pub block-cut : (d : Shape) (target root outer n : ℕ) (goes : Goes) (xs ys : List Call) (rs ss : List Repeat) (c : Call) (t : Control) (code : Code) (bs : List Block) (b : Block)
+    → control root outer (reverse xs) (reverse rs) goes ≡ t → Cut d target root n xs ys c → is_call_of target c ≡ false
     → code_of d root c.routine ≡ Some code → bs ≡ code.blocks → Some b ≡ block_around d root target c
     → ss ≡ filter (λ r. not (repeats_within bs n target r)) rs
-    → without_block d b (control root outer (reverse ys) (reverse ss)) ≡ disabled d target t
-block-cut d target root outer n xs ys rs ss c t code bs b is k other there blocks around kept =
-    block-left d target root outer n xs ys rs ss c t bs b is k.taken k.many k.found k.inner other
+    → without_block b (control root outer (reverse ys) (reverse ss) goes) ≡ disabled d target t
+block-cut d target root outer n goes xs ys rs ss c t code bs b is k other there blocks around kept =
+    block-left d target root outer n goes xs ys rs ss c t bs b is k.taken k.many k.found k.inner other
     (blocks ∙ sym (ap (λ (o : Option Code). unwrap_or (option_map (λ (e : Code). e.blocks) o) []) there)) around kept
 
-pub none-cut : (d : Shape) (target root outer n : ℕ) (xs ys : List Call) (rs : List Repeat) (c : Call) (t : Control)
-    → control root outer (reverse xs) (reverse rs) ≡ t → Cut d target root n xs ys c → is_call_of target c ≡ false
-    → None ≡ block_around d root target c → control root outer (reverse ys) (reverse rs) ≡ disabled d target t
-none-cut d target root outer n xs ys rs c t is k other around =
-    none-left d target root outer n xs ys rs c t is k.taken k.found k.inner other around
+pub none-cut : (d : Shape) (target root outer n : ℕ) (goes : Goes) (xs ys : List Call) (rs : List Repeat) (c : Call) (t : Control)
+    → control root outer (reverse xs) (reverse rs) goes ≡ t → Cut d target root n xs ys c → is_call_of target c ≡ false
+    → None ≡ block_around d root target c → control root outer (reverse ys) (reverse rs) goes ≡ disabled d target t
+none-cut d target root outer n goes xs ys rs c t is k other around =
+    none-left d target root outer n goes xs ys rs c t is k.taken k.found k.inner other around

@@ -11,9 +11,9 @@ pub const MOST_CALLS: u32 = 256;
 pub struct Call {
     /// The task or function; none for the code of a process.
     pub routine: Option<ObjId>,
-    /// The instruction that comes next, or the one of the call inside.
+    /// The instruction that was performed last.
     pub place: u32,
-    /// The innermost block of its code that it is in: that of the last label, where it waits.
+    /// The innermost block of its code that it is in: that of the last label.
     pub block: Option<u32>,
 }
 

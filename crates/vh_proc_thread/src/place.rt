@@ -1,12 +1,13 @@
-ghost use Rattle.std.specs.Prelude.{◌≡◌, ◌<◌, ◌≤◌, length, take, reverse, Some, IfSome, true};
+ghost use Rattle.std.specs.Prelude.{◌≡◌, ◌<◌, ◌≤◌, ◌+◌, ◌^◌, List, ◌∷◌, length, take, reverse, slice_get, option_copied, Some, IfSome, true};
 ghost use Rattle.std.specs.List.{AllByRecursion};
 ghost use Rattle.vh_design_nodes.specs.Fits.{has_body};
-ghost use Rattle.vh_proc_thread.specs.Control.{code_of, start_of, behind, is_call_of, block_around, blocks_of, is_within, outermost, repeats_within, HasBody};
+ghost use Rattle.vh_proc_thread.specs.declared.call.Call.{Call as TheCall};
+ghost use Rattle.vh_proc_thread.specs.Control.{code_of, start_of, behind, end_from, open_behind, behind_end, is_call_of, block_around, blocks_of, is_within, outermost, repeats_within, HasBody};
 
 use crate::block::block_of;
 use crate::call::{Call, Repeat};
 use vh_base::{ObjId, ProcId};
-use vh_design::{Block, Code, Design, Goes};
+use vh_design::{Block, Code, Design, Goes, Instruction, Operation};
 
 // The code of a task or function, or else of the process.
 pub(crate) fn code_of(d: &Design, root: ProcId, routine: Option<ObjId>) -> &Code
@@ -40,6 +41,58 @@ pub(crate) fn behind(d: &Design, root: ProcId, call: &Call) -> Goes
         None => Goes::Back,
         Some(instruction) => instruction.next,
     }
+}
+
+// The instruction at a place of a code.
+pub(crate) fn instruction_at(code: &Code, place: u32) -> Option<&Instruction>
+    ensures { option_copied result ≡ slice_get code.now.instructions place }
+{
+    code.instructions.as_slice().get(place as usize)
+}
+
+// Behind the label that ends a call: the calls on the way have labels of their own.
+#[tactic(auto, unfolding(crate::specs::Control::end_from))]
+fn end_from(instructions: &[Instruction], steps: usize, opened: usize, goes: Goes) -> Goes
+    requires { opened + steps < 2 ^ 64 }
+    ensures { result ≡ end_from steps instructions.now opened goes }
+{
+    if steps == 0 {
+        return Goes::Back;
+    }
+    let Goes::To(place) = goes else {
+        return Goes::Back;
+    };
+    let Some(instruction) = instructions.get(place as usize) else {
+        return Goes::Back;
+    };
+    match open_behind(opened, &instruction.operation) {
+        None => instruction.next,
+        Some(opened) => end_from(instructions, steps - 1, opened, instruction.next),
+    }
+}
+
+// How many calls are open behind a label, of so many before it; none where it ends the one that is looked for.
+fn open_behind(opened: usize, operation: &Operation) -> Option<usize>
+    requires { opened + 1 < 2 ^ 64 }
+    ensures open { result ≡ open_behind opened operation.now }
+    ensures one { IfSome result (λ n. n ≤ opened + 1) }
+{
+    match operation {
+        Operation::Leave(_) => opened.checked_sub(1),
+        Operation::Enter { .. } => Some(opened + 1),
+        _ => Some(opened),
+    }
+}
+
+// Behind the end of the call at which this one stands.
+pub(crate) fn behind_end(d: &Design, root: ProcId, call: &Call) -> Goes
+    requires root { root < length (d.now).codes }
+    requires body { HasBody d.now call.now }
+    ensures { (around : List TheCall) → result ≡ behind_end d.now root (call.now ∷ around) }
+{
+    let instructions = code_of(d, root, call.routine).instructions.as_slice();
+    let next = behind(d, root, call);
+    end_from(instructions, instructions.len(), 0, next)
 }
 
 // Is the call one of this task?

@@ -1,11 +1,14 @@
-ghost use Rattle.std.specs.Prelude.{◌≡◌, ◌<◌, ◌≤◌, length, option_copied, true, IfOk, OnOk, OnErr, IfErr};
+ghost use Rattle.std.specs.Prelude.{◌≡◌, ◌<◌, ◌≤◌, length, reverse, slice_get, option_copied, true, IfOk, OnOk, OnErr, IfErr};
+ghost use Rattle.std.specs.List.{AllByRecursion};
+ghost use Rattle.std.specs.Option.{option_and_then};
 ghost use Rattle.vh_design_nodes.specs.Fits.{has_body};
 ghost use Rattle.vh_design.specs.Shape.{Shape};
-ghost use Rattle.vh_proc_thread.specs.Control.{Runs, HasCause, has_turn, next_of, process_of, branch_of, goes_on, called, is_inside, disabled, repeat_turned, repeating, depth_of, routine_of, gone_past, arrived, standing_in, without_block};
+ghost use Rattle.vh_proc_thread.specs.Control.{Runs, HasBody, HasCause, has_turn, next_of, instruction_of, process_of, branch_of, gone, goes_on, called, is_inside, disabled, repeat_turned, repeating, depth_of, routine_of, arrived, settled, standing_in, place_of, without_call, without_block};
 
 use crate::call::{Call, CallFault, MOST_CALLS, Repeat};
 use crate::place::{
-    behind, block_around, code_of, is_call_of, is_repeat_within, start_of, up_to_outermost,
+    behind, behind_end, block_around, code_of, instruction_at, is_call_of, is_repeat_within,
+    start_of, up_to_outermost,
 };
 use std::alloc::Global;
 use std::marker::Model;
@@ -19,6 +22,7 @@ pub struct Thread {
     outer: u32,
     calls: Vec<Call>,
     repeats: Vec<Repeat>,
+    goes: Goes,
 }
 
 impl Model for Thread {
@@ -32,6 +36,7 @@ impl Model for Thread {
       outer = t.outer;
       calls = reverse t.calls.items;
       repeats = reverse t.repeats.items;
+      goes = t.goes;
     } };
 
     ghost invariant = { λ t. (t.outer ≤ 256) × (t.outer + length t.calls.items ≤ 257) };
@@ -44,19 +49,19 @@ impl Thread {
         ensures process { IfOk result (λ t. t ≡ process_of d.now p) }
         ensures runs { IfOk result (Runs d.now) }
     {
-        let mut thread = Thread {
-            root: p,
-            outer: 0,
-            calls: Vec::new(alloc),
-            repeats: Vec::new(alloc),
-        };
-        thread.calls.push(Call {
+        let mut calls = Vec::new(alloc);
+        calls.push(Call {
             routine: None,
             place: 0,
             block: None,
         })?;
-        thread.go_on(d, start_of(d, p, None));
-        Ok(thread)
+        Ok(Thread {
+            root: p,
+            outer: 0,
+            calls,
+            repeats: Vec::new(alloc),
+            goes: start_of(d, p, None),
+        })
     }
 
     /// A branch that begins there, in the code of the `fork` at which this thread stands.
@@ -75,6 +80,7 @@ impl Thread {
             outer: self.depth(),
             calls,
             repeats: Vec::new(alloc),
+            goes: Goes::To(place),
         })
     }
 
@@ -98,14 +104,32 @@ impl Thread {
         requires { Runs d.now self.now }
         ensures { option_copied result ≡ next_of d.now self.now }
     {
-        let call = self.calls.last()?;
-        let code = code_of(d, self.root, call.routine);
-        code.instructions.as_slice().get(call.place as usize)
+        self.label_from(d, &self.calls, self.goes)
     }
 
-    /// It performs the label that comes next, so it is in the block of that instruction, also
-    /// while it waits
-    /// then.
+    // The label that comes next, where the last of these calls goes on there.
+    fn label_from<'a>(&self, d: &'a Design, calls: &[Call], goes: Goes) -> Option<&'a Instruction>
+        requires root { self.now.root < length (d.now).codes }
+        requires bodies { AllByRecursion (HasBody d.now) calls.now }
+        ensures { option_copied result ≡ option_and_then (instruction_of d.now self.now.root)
+            (slice_get (gone d.now self.now.root goes (reverse calls.now)) 0) }
+    {
+        if calls.is_empty() {
+            return None;
+        }
+        let last = calls.len() - 1;
+        if let Goes::To(place) = goes {
+            return instruction_at(code_of(d, self.root, calls[last].routine), place);
+        }
+        if last == 0 {
+            return None;
+        }
+        let next = behind(d, self.root, &calls[last - 1]);
+        self.label_from(d, &calls[..last], next)
+    }
+
+    /// It performs the label that comes next: it has left the calls that it goes back from, and is in the
+    /// block of that instruction until it performs another one.
     pub fn arrive(&mut self, d: &Design)
         requires { Runs d.now self.old }
         ensures arrived { self.new ≡ arrived d.now self.old }
@@ -115,13 +139,29 @@ impl Thread {
             Some(instruction) => instruction.block,
             None => None,
         };
+        self.settle(d);
         self.stand_in(block);
     }
 
-    /// It goes on there.
-    pub fn go_on(&mut self, d: &Design, goes: Goes)
+    // It leaves the calls that it goes back from, and stands at its next label.
+    fn settle(&mut self, d: &Design)
         requires { Runs d.now self.old }
-        ensures on { self.new ≡ goes_on d.now goes self.old }
+        ensures settled { self.new ≡ settled d.now self.old }
+        ensures runs { Runs d.now self.new }
+    {
+        let goes = self.goes;
+        self.walk(d, goes);
+        self.goes = match self.calls.last() {
+            Some(call) => Goes::To(call.place),
+            None => Goes::Back,
+        };
+    }
+
+    // Its calls once the innermost goes on there.
+    fn walk(&mut self, d: &Design, goes: Goes)
+        requires { Runs d.now self.old }
+        ensures on { self.new
+            ≡ record self.old { calls = gone d.now (self.old).root goes (self.old).calls } }
         ensures runs { Runs d.now self.new }
     {
         match goes {
@@ -134,10 +174,18 @@ impl Thread {
                 self.calls.pop();
                 if let Some(call) = self.calls.last() {
                     let next = behind(d, self.root, call);
-                    self.go_on(d, next);
+                    self.walk(d, next);
                 }
             }
         }
+    }
+
+    /// It goes on there behind the label that it performs.
+    pub fn go_on(&mut self, goes: Goes)
+        ensures on { self.new ≡ goes_on goes self.old }
+        ensures runs { (d : Shape) → Runs d self.old → Runs d self.new }
+    {
+        self.goes = goes;
     }
 
     /// It calls a task or function, whose body comes next.
@@ -161,8 +209,7 @@ impl Thread {
         if pushed.is_err() {
             return Err(CallFault::NoMemory);
         }
-        let start = start_of(d, self.root, Some(routine));
-        self.go_on(d, start);
+        self.goes = start_of(d, self.root, Some(routine));
         Ok(())
     }
 
@@ -221,26 +268,39 @@ impl Thread {
         if is_call_of(target, call) {
             self.repeats
                 .retain(|repeat| (repeat.depth as usize) < depth);
-            self.go_on(d, Goes::Back);
-            self.go_past(d);
+            self.leave_call(d);
             return;
         }
         if let Some(block) = block_around(d, self.root, target, call) {
             let blocks = code_of(d, self.root, call.routine).blocks.as_slice();
             self.repeats
                 .retain(|repeat| !is_repeat_within(blocks, depth, target, repeat));
-            self.leave_block(d, &block);
+            self.leave_block(&block);
         }
     }
 
-    // It goes on behind this block of its code, in the one around it.
-    fn leave_block(&mut self, d: &Design, block: &Block)
+    // It goes on behind the end of the innermost call, without its label.
+    fn leave_call(&mut self, d: &Design)
         requires { Runs d.now self.old }
-        ensures left { self.new ≡ without_block d.now block.now self.old }
+        ensures left { self.new ≡ without_call d.now self.old }
         ensures runs { Runs d.now self.new }
     {
+        self.calls.pop();
+        let Some(around) = self.calls.last() else {
+            self.goes = Goes::Back;
+            return;
+        };
+        let goes = behind_end(d, self.root, around);
+        self.goes = goes;
+    }
+
+    // It goes on behind this block of its code, in the one around it.
+    fn leave_block(&mut self, block: &Block)
+        ensures left { self.new ≡ without_block block.now self.old }
+        ensures runs { (d : Shape) → Runs d self.old → Runs d self.new }
+    {
         self.stand_in(block.around);
-        self.go_on(d, block.after);
+        self.go_on(block.after);
     }
 
     // The innermost call is in this block of its code.
@@ -252,17 +312,5 @@ impl Thread {
             return;
         };
         call.block = block;
-    }
-
-    // It goes on behind the instruction at which it stands, without its label.
-    fn go_past(&mut self, d: &Design)
-        requires { Runs d.now self.old }
-        ensures past { self.new ≡ gone_past d.now self.old }
-        ensures runs { Runs d.now self.new }
-    {
-        if let Some(call) = self.calls.last() {
-            let next = behind(d, self.root, call);
-            self.go_on(d, next);
-        }
     }
 }

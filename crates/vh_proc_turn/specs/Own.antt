@@ -42,15 +42,15 @@ turn_with o ms n = record { own = o; made = ms; next = n }
 abbrev pub quietly : Next → Own → Outcome
 quietly n o = Ok (turn_with o [] n)
 
-abbrev pub going : Shape → Goes → Process → Process
-going d goes t = record t { thread = goes_on d goes t.thread }
+abbrev pub going : Goes → Process → Process
+going goes t = record t { thread = goes_on goes t.thread }
 
--- It performs a label: from now on it is in the block of that instruction. (own)
+-- It performs a label: from now on it is in the calls and in the block of that instruction. (own)
 abbrev pub arriving : Shape → Process → Process
 arriving d t = record t { thread = arrived d t.thread }
 
-abbrev pub gone : Shape → Goes → Own → Own
-gone d goes o = record o { process = going d goes o.process }
+abbrev pub gone : Goes → Own → Own
+gone goes o = record o { process = going goes o.process }
 
 -- A time above the last one is F2. (own)
 abbrev pub in_time : {X : Type 0} → Option ℕ → (ℕ → Result X (Option Fault)) → Result X (Option Fault)

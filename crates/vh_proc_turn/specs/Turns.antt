@@ -82,15 +82,14 @@ holding v o = record o { process = record o.process { held = Some v } }
 abbrev pub held_by : Process → ℕ → Vector
 held_by t width = resized (unwrap_or t.held (filled 1 X false)) width false
 
--- A nonblocking assignment: an update of each piece, in order. (9.2.2)
+-- A nonblocking assignment: an update of each piece, in order. Its delay is judged also where its target takes nothing. (9.2.2)
 unfoldable pub with_updates : ℕ → List Piece → Events → Result Events (Option Fault)
 with_updates time [] q = Ok q
 with_updates time (p ∷ ps) q =
     with_ok (with_entry time region.Nonblocking (work.Assign p.object p.low p.value) q) (with_updates time ps)
 
 abbrev pub schedule_of : Shape → Contents → Option Delay → List Piece → Events → Result Events (Option Fault)
-schedule_of d s delay [] q = Ok q
-schedule_of d s delay (p ∷ ps) q = in_time (update_time d s delay) (λ time. with_updates time (p ∷ ps) q)
+schedule_of d s delay ps q = in_time (update_time d s delay) (λ time. with_updates time ps q)
 
 abbrev pub scheduling : Shape → Option Delay → List Piece → Own → Outcome
 scheduling d delay ps o =
@@ -104,10 +103,10 @@ abbrev pub is_true : Shape → Contents → ℕ → Bool
 is_true d s e = is_one (truth_of (value_alone d s e))
 
 abbrev pub pausing : Shape → ℕ → Goes → Pause → Own → Outcome
-pausing d p goes (pause.Wait delay) o = resuming d p delay (gone d goes o)
-pausing d p goes (pause.Await wait) o = waiting p wait (gone d goes o)
+pausing d p goes (pause.Wait delay) o = resuming d p delay (gone goes o)
+pausing d p goes (pause.Await wait) o = waiting p wait (gone goes o)
 pausing d p goes (pause.WaitFor condition wait) o =
-    if is_true d o.store condition then quietly next.On (gone d goes o) else waiting p wait o
+    if is_true d o.store condition then quietly next.On (gone goes o) else waiting p wait o
 
 -- `case`: it goes on at the first label that fits. (9.5)
 abbrev pub compared : CaseKind → Vector → Vector → Digit
@@ -129,15 +128,15 @@ turns_in count = if int_lt (pos 0) count then unsigned_abs count else 0
 abbrev pub turns_of : Option ℤ → ℕ
 turns_of count = unwrap_or (option_map turns_in count) 0
 
-abbrev pub repeat_of : Shape → Instruction → Goes → ℕ → Process → Process
-repeat_of d i done n t =
-    if nat_lt 0 n then going d i.next (record t { thread = repeating i.block (n - 1) t.thread }) else going d done t
+abbrev pub repeat_of : Instruction → Goes → ℕ → Process → Process
+repeat_of i done n t =
+    if nat_lt 0 n then going i.next (record t { thread = repeating i.block (n - 1) t.thread }) else going done t
 
 abbrev pub turning : Shape → Contents → Instruction → Loop → Process → Process
-turning d s i (turn.Repeat count done) t = repeat_of d i done (turns_of (integer_alone d s count)) t
+turning d s i (turn.Repeat count done) t = repeat_of i done (turns_of (integer_alone d s count)) t
 turning d s i (turn.Again done) t =
-    going d (if has_turn t.thread.repeats then i.next else done) (record t { thread = repeat_turned t.thread })
-turning d s i turn.Turn t = going d i.next t
+    going (if has_turn t.thread.repeats then i.next else done) (record t { thread = repeat_turned t.thread })
+turning d s i turn.Turn t = going i.next t
 
 -- The begin and the end of a call. (10.2 and 10.4)
 abbrev pub entering : Shape → ℕ → List Input → Own → Outcome
@@ -219,26 +218,26 @@ driving_all d p it o =
 
 -- A label, a row for each kind. The beginning and the end of branches aren't said here.
 abbrev pub turn_at : Shape → ℕ → Instruction → Operation → Own → Outcome
-turn_at d p i (op.Assign e targets) o = assigning (right_pieces d o.store e targets) (gone d i.next o)
+turn_at d p i (op.Assign e targets) o = assigning (right_pieces d o.store e targets) (gone i.next o)
 turn_at d p i (op.Hold e width delay) o =
-    resuming d p delay (holding (right_side d o.store e width) (gone d i.next o))
+    resuming d p delay (holding (right_side d o.store e width) (gone i.next o))
 turn_at d p i (op.Store targets) o =
-    assigning (pieces_of d o.store targets (held_by o.process (digits_of d.objects targets))) (gone d i.next o)
+    assigning (pieces_of d o.store targets (held_by o.process (digits_of d.objects targets))) (gone i.next o)
 turn_at d p i (op.Schedule s) o =
-    scheduling d s.delay (right_pieces d o.store s.value s.targets) (gone d i.next o)
+    scheduling d s.delay (right_pieces d o.store s.value s.targets) (gone i.next o)
 turn_at d p i (op.Pause it) o = pausing d p i.next it o
 turn_at d p i (op.Test condition otherwise) o =
-    quietly next.On (gone d (if is_true d o.store condition then i.next else otherwise) o)
-turn_at d p i (op.Case c) o = quietly next.On (gone d (arm_of d o.store c i.next) o)
+    quietly next.On (gone (if is_true d o.store condition then i.next else otherwise) o)
+turn_at d p i (op.Case c) o = quietly next.On (gone (arm_of d o.store c i.next) o)
 turn_at d p i (op.Loop it) o = quietly next.On (record o { process = turning d o.store i it o.process })
 turn_at d p i (op.Fork places) o = Err None
 turn_at d p i op.End o = quietly next.Ends o
 turn_at d p i (op.Enter routine inputs) o = entering d routine inputs o
-turn_at d p i (op.Leave l) o = leaving d l (gone d i.next o)
-turn_at d p i (op.SysCall call) o = quietly (next.Calls call) (gone d i.next o)
-turn_at d p i (op.SysFunc call) o = quietly (next.Calls call) (gone d i.next o)
-turn_at d p i (op.Single it) o = single_turn d it (gone d i.next o)
-turn_at d p i (op.Drive it) o = driving_all d p it (gone d i.next o)
+turn_at d p i (op.Leave l) o = leaving d l (gone i.next o)
+turn_at d p i (op.SysCall call) o = quietly (next.Calls call) (gone i.next o)
+turn_at d p i (op.SysFunc call) o = quietly (next.Calls call) (gone i.next o)
+turn_at d p i (op.Single it) o = single_turn d it (gone i.next o)
+turn_at d p i (op.Drive it) o = driving_all d p it (gone i.next o)
 turn_at d p i (op.Initial object e) o = initializing d object e o
 
 abbrev pub turn_of : Shape → ℕ → Instruction → Own → Outcome

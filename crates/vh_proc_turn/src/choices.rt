@@ -92,11 +92,11 @@ pub(crate) fn take_turn(
         Loop::Repeat { count, done } => {
             let turns = turns_of(integer_alone(d, s, count));
             if turns == 0 {
-                process.thread.go_on(d, done);
+                process.thread.go_on(done);
                 return Ok(());
             }
             process.thread.begin_repeat(i.block, turns - 1)?;
-            process.thread.go_on(d, i.next);
+            process.thread.go_on(i.next);
         }
         Loop::Again { done } => {
             let goes = if process.thread.take_turn() {
@@ -104,9 +104,9 @@ pub(crate) fn take_turn(
             } else {
                 done
             };
-            process.thread.go_on(d, goes);
+            process.thread.go_on(goes);
         }
-        Loop::Turn => process.thread.go_on(d, i.next),
+        Loop::Turn => process.thread.go_on(i.next),
     }
     Ok(())
 }

@@ -53,18 +53,18 @@ fn pause(
 {
     match it {
         Pause::Wait(delay) => {
-            process.thread.go_on(d, goes);
+            process.thread.go_on(goes);
             resume(d, process, s, q, p, delay)?;
             Ok(Next::Waits)
         }
         Pause::Await(wait) => {
-            process.thread.go_on(d, goes);
+            process.thread.go_on(goes);
             sense.wait(p, wait)?;
             Ok(Next::Waits)
         }
         Pause::WaitFor { condition, wait } => {
             if is_true(d, s, condition) {
-                process.thread.go_on(d, goes);
+                process.thread.go_on(goes);
                 return Ok(Next::On);
             }
             sense.wait(p, wait)?;
@@ -236,7 +236,7 @@ pub fn turn(
         Operation::Assign { value, targets } => {
             right_pieces(d, s, *value, targets.as_slice(), room)?;
             take(s, room)?;
-            process.thread.go_on(d, i.next);
+            process.thread.go_on(i.next);
             Ok(Next::On)
         }
         Operation::Hold {
@@ -245,21 +245,21 @@ pub fn turn(
             delay,
         } => {
             process.held = Some(right_side(d, s, *value, *width));
-            process.thread.go_on(d, i.next);
+            process.thread.go_on(i.next);
             resume(d, process, s, q, p, *delay)?;
             Ok(Next::Waits)
         }
         Operation::Store(targets) => {
             held_pieces(d, s, process, targets.as_slice(), room)?;
             take(s, room)?;
-            process.thread.go_on(d, i.next);
+            process.thread.go_on(i.next);
             Ok(Next::On)
         }
         Operation::Schedule(it) => {
             let it = it.get();
             right_pieces(d, s, it.value, it.targets.as_slice(), room)?;
             schedule(d, s, q, it.delay, &room.pieces)?;
-            process.thread.go_on(d, i.next);
+            process.thread.go_on(i.next);
             Ok(Next::On)
         }
         Operation::Pause(it) => pause(d, process, s, sense, q, p, i.next, *it),
@@ -272,12 +272,12 @@ pub fn turn(
             } else {
                 *otherwise
             };
-            process.thread.go_on(d, goes);
+            process.thread.go_on(goes);
             Ok(Next::On)
         }
         Operation::Case(case) => {
             let goes = arm_of(d, s, case.get(), i.next);
-            process.thread.go_on(d, goes);
+            process.thread.go_on(goes);
             Ok(Next::On)
         }
         Operation::Loop(it) => {
@@ -291,15 +291,15 @@ pub fn turn(
         }
         Operation::Leave(it) => {
             leave(d, s, it.get(), room)?;
-            process.thread.go_on(d, i.next);
+            process.thread.go_on(i.next);
             Ok(Next::On)
         }
         Operation::SysCall(call) | Operation::SysFunc(call) => {
-            process.thread.go_on(d, i.next);
+            process.thread.go_on(i.next);
             Ok(Next::Calls(*call))
         }
         Operation::Single(it) => {
-            process.thread.go_on(d, i.next);
+            process.thread.go_on(i.next);
             take_effect(d, s, *it, &mut room.made)?;
             Ok(next_of(*it))
         }
@@ -312,7 +312,7 @@ pub fn turn(
             Ok(Next::Ends)
         }
         Operation::Drive(it) => {
-            process.thread.go_on(d, i.next);
+            process.thread.go_on(i.next);
             assign_continuously(d, process, s, sense, q, p, it.get())
         }
         Operation::Fork(_) => unreachable!(),

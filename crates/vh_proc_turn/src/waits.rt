@@ -88,7 +88,7 @@ pub(crate) fn update_time(d: &Design, s: &Store, delay: Option<Delay>) -> Option
     }
 }
 
-// A nonblocking assignment of these pieces.
+// A nonblocking assignment of these pieces. Its delay is judged also where there are none.
 pub(crate) fn schedule(
     d: &Design,
     s: &Store,
@@ -102,9 +102,6 @@ pub(crate) fn schedule(
     ensures refused { IfErr result (FailsBy (schedule_of d.now s.now delay pieces.now q.old)) }
     ensures now { (q.new).time ≡ (q.old).time }
 {
-    if pieces.is_empty() {
-        return Ok(());
-    }
     let Some(time) = update_time(d, s, delay) else {
         return Err(StepFault::Run(Fault::F2));
     };

@@ -5,8 +5,7 @@ use Rattle.vh_proc.specs.contracts.threads.Threads.{the_view}
 use Rattle.vh_proc.specs.Processes.{AllRun, arrived_in}
 use Rattle.vh_proc.proofs.RunsLemmas.{runs-found, runs-changed}
 use Rattle.vh_proc.proofs.FamiliesLemmas.{kept-through}
-use Rattle.vh_proc.proofs.CallsLemmas.{calls-in}
-use Rattle.vh_proc_thread.specs.Control.{block_at, next_of}
+use Rattle.vh_proc.proofs.CallsLemmas.{calls-arrived}
 use Rattle.vh_proc_turn.specs.Own.{arriving}
 use Rattle.vh_proc.proofs.threads.Threads.arrive.Goals as goal
 
@@ -25,4 +24,4 @@ pub invariant_of-self : goal.invariant_of-self
 invariant_of-self c =
     kept-through c.self.inside.families c.match-get_mut.self-inside.families c.self.inside.are_kept c.match-get_mut.self-inside.are_kept (the_view c.self.inside) c.args.self.now
     (the_view c.match-get_mut.self-inside) c.args.p (arriving c.args.d.now) (search rules) (search rules) c.self.view_is (search rules) (λ t. refl)
-    (λ t P all. calls-in P (block_at (next_of c.args.d.now t.thread)) t.thread.calls all) c.self.invariant
+    (λ t P all. calls-arrived P c.args.d.now t.thread all) c.self.invariant

@@ -2,7 +2,7 @@ use Rattle.std.proofs.Common.{◌∙◌, not, nat_lt, sym, ap, subst, rules}
 use Rattle.std.proofs.lemmas.Fn.{filter_same}
 use Rattle.std.specs.List.{AllByRecursion}
 use Rattle.vh_proc_thread.specs.declared.call.Repeat.{Repeat}
-use Rattle.vh_proc_thread.specs.Control.{Control, HasBody, repeats_within, gone_past}
+use Rattle.vh_proc_thread.specs.Control.{Control, HasBody, repeats_within}
 use Rattle.vh_proc_thread.proofs.ControlLemmas.{bodies-back, runs-taken, cut, body-cut, task-cut, block-cut}
 use Rattle.vh_proc_thread.proofs.thread.Thread.disable.Goals as goal
 
@@ -11,17 +11,16 @@ up_to_outermost-depth-requires-clause-bodies c =
     subst (AllByRecursion (HasBody c.args.d.now)) (sym c.deref.ensures.value)
     (bodies-back c.args.d.now c.args.self.now c.self.inside.calls.items c.requires (ap (λ (q : Control). q.calls) c.self.view_is))
 
-pub go_on-requires : goal.go_on-requires
-go_on-requires c =
+pub leave_call-requires : goal.leave_call-requires
+leave_call-requires c =
     let i = c.self.inside in
-    runs-taken c.args.d.now c.args.self.now i.root i.outer _ i.calls.items c.truncate.new.self.items _ _ c.requires c.self.view_is c.truncate.ensures.items
+    runs-taken c.args.d.now c.args.self.now i.root i.outer _ i.calls.items c.truncate.new.self.items _ _ _ _ c.requires c.self.view_is c.truncate.ensures.items
 
 pub returns-then-is_call_of-clause-disabled : goal.returns-then-is_call_of-clause-disabled
 returns-then-is_call_of-clause-disabled c =
     let i = c.self.inside in
-    c.go_past.ensures.past
-    ∙ ap (gone_past c.args.d.now) c.go_on.ensures.on
-    ∙ task-cut c.args.d.now c.args.target i.root i.outer c.up_to_outermost-depth.result i.calls.items c.truncate.new.self.items i.repeats.items c.retain.new.self.items
+    c.leave_call.ensures.left
+    ∙ task-cut c.args.d.now c.args.target i.root i.outer c.up_to_outermost-depth.result i.goes i.calls.items c.truncate.new.self.items i.repeats.items c.retain.new.self.items
     c.in-Some.call.now c.args.self.now c.self.view_is
     (cut c.args.d.now c.args.target i.root _ i.calls.items c.truncate.new.self.items c.deref.result.now c.deref-2.result.now c.in-Some.call.now
     c.truncate.ensures.items c.deref.ensures.value c.up_to_outermost-depth.ensures.most c.up_to_outermost-depth.ensures.found
@@ -39,16 +38,17 @@ code_of-requires-clause-body c =
     body-cut c.args.d.now c.args.self.now c.up_to_outermost-depth.result c.self.inside.calls.items c.truncate.new.self.items c.deref-2.result.now c.in-Some.call.now
     c.requires (ap (λ (q : Control). q.calls) c.self.view_is) c.truncate.ensures.items c.deref-2.ensures.value c.in-Some.ensures.item.3.0 c.in-Some.ensures.item.1
 
-pub leave_block-requires : goal.leave_block-requires
-leave_block-requires c =
+pub returns-in-Some-block_around-clause-runs : goal.returns-in-Some-block_around-clause-runs
+returns-in-Some-block_around-clause-runs c =
     let i = c.self.inside in
-    runs-taken c.args.d.now c.args.self.now i.root i.outer _ i.calls.items c.truncate.new.self.items _ _ c.requires c.self.view_is c.truncate.ensures.items
+    c.leave_block.ensures.runs c.args.d.now
+    (runs-taken c.args.d.now c.args.self.now i.root i.outer _ i.calls.items c.truncate.new.self.items _ _ _ _ c.requires c.self.view_is c.truncate.ensures.items)
 
 pub returns-in-Some-block_around-clause-disabled : goal.returns-in-Some-block_around-clause-disabled
 returns-in-Some-block_around-clause-disabled c =
     let i = c.self.inside in
     c.leave_block.ensures.left
-    ∙ block-cut c.args.d.now c.args.target i.root i.outer c.up_to_outermost-depth.result i.calls.items c.truncate.new.self.items i.repeats.items
+    ∙ block-cut c.args.d.now c.args.target i.root i.outer c.up_to_outermost-depth.result i.goes i.calls.items c.truncate.new.self.items i.repeats.items
     c.retain-in-Some-block_around.new.self.items c.in-Some.call.now c.args.self.now c.code_of.result.now c.as_slice-blocks.result.now c.in-Some-block_around.block c.self.view_is
     (cut c.args.d.now c.args.target i.root _ i.calls.items c.truncate.new.self.items c.deref.result.now c.deref-2.result.now c.in-Some.call.now
     c.truncate.ensures.items c.deref.ensures.value c.up_to_outermost-depth.ensures.most c.up_to_outermost-depth.ensures.found
@@ -61,4 +61,4 @@ returns-in-Some-block_around-clause-disabled c =
 pub returns-in_default-block_around-clause-runs : goal.returns-in_default-block_around-clause-runs
 returns-in_default-block_around-clause-runs c =
     let i = c.self.inside in
-    runs-taken c.args.d.now c.args.self.now i.root i.outer _ i.calls.items c.truncate.new.self.items _ _ c.requires c.self.view_is c.truncate.ensures.items
+    runs-taken c.args.d.now c.args.self.now i.root i.outer _ i.calls.items c.truncate.new.self.items _ _ _ _ c.requires c.self.view_is c.truncate.ensures.items
