@@ -6,7 +6,7 @@ use std::alloc::Global;
 use std::test::Fail;
 use vh_base::{NoMemory, ObjId, Place, ProcId, Sequence};
 use vh_design::{
-    Block, Code, Design, Detail, Goes, Instruction, Kind, Name, ObjectInfo, Operation, Parts,
+    Block, Code, Design, Detail, Goes, Instruction, Kind, Leave, Name, ObjectInfo, Operation, Parts,
     StmtInfo, StmtKind,
 };
 use vh_proc_thread::{CallFault, Thread};
@@ -48,6 +48,16 @@ fn instruction(stmt: u32, next: Goes, block: Option<u32>) -> Instruction {
     }
 }
 
+// The end of a call without outputs.
+fn leave(alloc: Global, stmt: u32, next: Goes, block: Option<u32>) -> Instruction {
+    let mut end = instruction(stmt, next, block);
+    end.operation = Operation::Leave(Leave {
+        outputs: Sequence::new(Vec::new(alloc)),
+        result: None,
+    });
+    end
+}
+
 fn block(object: u32, around: Option<u32>) -> Block {
     Block {
         object: ObjId::new(object),
@@ -72,7 +82,7 @@ fn statement() -> StmtInfo {
 fn process(alloc: Global) -> Result<Code, NoMemory> {
     let mut instructions = Vec::new(alloc);
     instructions.push(instruction(0, Goes::To(1), Some(0)))?;
-    instructions.push(instruction(1, Goes::To(2), Some(0)))?;
+    instructions.push(leave(alloc, 1, Goes::To(2), Some(0)))?;
     instructions.push(instruction(2, Goes::To(3), Some(1)))?;
     instructions.push(instruction(3, Goes::Back, None))?;
     let mut blocks = Vec::new(alloc);
@@ -249,7 +259,8 @@ fn disables(rt: HostRuntime) -> Result<(), Fail> {
     let alloc = rt.alloc();
     let d = design(alloc)?.expect(&rt, "every rule is kept");
     let to = |place| Does::Goes(Goes::To(place));
-    let rows: [(&[Does], (bool, Option<u32>)); 21] = [
+    let back = Does::Goes(Goes::Back);
+    let rows: [(&[Does], (bool, Option<u32>)); 24] = [
         // By another thread: one that hasn't begun is in no block, and one that waits is where it waits.
         (&[IsDisabled(OUTER)], (false, Some(0))),
         (&[to(2), IsDisabled(INNER)], (false, Some(2))),
@@ -270,6 +281,10 @@ fn disables(rt: HostRuntime) -> Result<(), Fail> {
         (&[Disables(TASK)], (false, Some(0))),
         (&[Calls(TASK), Disables(TASK)], (true, Some(2))),
         (&[Calls(TASK), Calls(TASK), Disables(TASK)], (true, Some(2))),
+        // A task whose last label waits is left with the next label alone.
+        (&[Calls(TASK), back, IsDisabled(TASK)], (true, Some(2))),
+        (&[Calls(TASK), Calls(TASK), back, back, IsDisabled(TASK)], (true, Some(2))),
+        (&[Calls(TASK), back, to(2), IsDisabled(TASK)], (false, Some(2))),
         (
             &[Calls(TASK), to(1), Calls(TASK), Disables(TASK)],
             (true, Some(2)),
@@ -347,6 +362,7 @@ fn nested_calls(rt: HostRuntime) -> Result<(), Fail> {
     let mut thread = Thread::of_process(alloc, &d, ProcId::new(0))?;
     assert_eq!(rt; calls_left(alloc, &d, &mut thread)?, 256);
     thread.go_on(Goes::Back);
+    thread.arrive(&d);
     let mut branch = thread.branch(alloc, 0)?;
     assert_eq!(rt; calls_left(alloc, &d, &mut branch)?, 1);
     Ok(())
