@@ -17,7 +17,7 @@ use Rattle.vh_design_code.specs.declared.operation.Single.{Single}
 use Rattle.vh_design_code.specs.declared.target.Delay.{Delay}
 use Rattle.vh_design.specs.Shape.{Shape}
 use Rattle.vh_proc_thread.specs.declared.call.Call.{Call}
-use Rattle.vh_proc_thread.specs.Control.{Control, behind, gone, standing, or_these, outermost, is_within, is_call_of, blocks_of, block_around, left_task, left_block, left, disabled, in_block, block_at, next_of, routine_of, process_of, branch_of, arrived}
+use Rattle.vh_proc_thread.specs.Control.{Control, behind, gone, standing, or_these, outermost, is_within, is_call_of, blocks_of, block_around, left_task, left_block, left, disabled, in_block, block_at, next_of, call_at, routine_of, process_of, branch_of, arrived}
 use Rattle.vh_proc_turn.specs.declared.process.Process.{Process}
 use Rattle.vh_proc_turn.specs.declared.next.Next.TheVariants as next
 use Rattle.vh_proc_turn.specs.Drives.{all_driven, driving}
@@ -148,13 +148,14 @@ module _ (P : ℕ → Type 0) where
     row (op.Store targets) o turn h new own = gives _ turn h (on i.next o own)
     row (op.Schedule s) o turn h new own = schedules s.delay _ (O.gone i.next o) turn h (on i.next o own)
     row (op.Pause it) o turn h new own = pauses it o turn h own
-    row (op.Test condition otherwise) o turn h new own = gives _ turn h (on _ o own)
-    row (op.Case c) o turn h new own = gives _ turn h (on _ o own)
+    row (op.Test condition otherwise) o turn h new own = gives _ turn h own
+    row (op.Case c) o turn h new own = gives _ turn h own
     row (op.Loop it) o turn h new own = gives _ turn h (loops it o own)
     row (op.Fork places) o turn h new own = absurd (cc)
     row op.End o turn h new own = gives _ turn h own
     row (op.Enter routine inputs) o turn h new own =
-        gives _ turn (unless-then _ _ _ turn h) (new, own)
+        let both : AllCalls (call_at (Some routine) 0 ∷ o.process.thread.calls) = (new, own) in
+        gives _ turn (unless-then _ _ _ turn h) both
     row (op.Leave l) o turn h new own = gives _ turn h (on i.next o own)
     row (op.SysCall call) o turn h new own = gives _ turn h (on i.next o own)
     row (op.SysFunc call) o turn h new own = gives _ turn h (on i.next o own)

@@ -11,7 +11,7 @@ use Rattle.vh_design_code.specs.Operations.{fits_goes, fits_operation}
 use Rattle.vh_design.specs.Shape.{Shape}
 use Rattle.vh_design.specs.Validity.{IsValid, CodeFits, limits_of}
 use Rattle.vh_proc_thread.specs.declared.call.Call.{Call}
-use Rattle.vh_proc_thread.specs.Control.{Control, code_of, instruction_of, next_of}
+use Rattle.vh_proc_thread.specs.Control.{Control, code_of, instruction_of, standing, next_of}
 use Rattle.vh_proc_turn.specs.Own.{Fits}
 
 -- What all of a list pass, the one at a place passes.
@@ -60,4 +60,4 @@ call-stands d root (Some c) i valid at =
     instruction-stands d c.place (code_of d root c.routine) i (λ k is. code-fits d root c.routine k valid is) at
 
 pub stands : (d : Shape) (t : Control) (i : Instruction) → IsValid d → next_of d t ≡ Some i → Stands d i
-stands d t i valid at = call-stands d t.root (slice_get t.calls 0) i valid at
+stands d t i valid at = call-stands d t.root (slice_get (standing d t) 0) i valid at

@@ -12,5 +12,6 @@ next-requires c =
 pub returns-then-not-is_last-clause-runs : goal.returns-then-not-is_last-clause-runs
 returns-then-not-is_last-clause-runs c = c.lose_one.ensures.runs c.args.d.now c.requires.runs
 
-pub go_on-requires : goal.go_on-requires
-go_on-requires c = c.lose_one.ensures.runs c.args.d.now c.requires.runs
+pub returns-clause-runs : goal.returns-clause-runs
+returns-clause-runs c =
+    c.resume.ensures.runs c.args.d.now (c.go_on.ensures.runs c.args.d.now (c.lose_one.ensures.runs c.args.d.now c.requires.runs))
