@@ -75,7 +75,9 @@ def followed(modules, begin):
     return seen
 
 
-def main():
+def counted():
+    """How many definitions the clauses of `run` stand on in each file, how many these are, and how many the clause
+    `headline` alone stands on."""
     text = (CRATES / "vh_host/src/host.rt").read_text()
     names = {}
     for line in text.split("\n"):
@@ -89,9 +91,16 @@ def main():
     modules = all_modules()
     everything = stands_on(clauses)
     headline = stands_on([line for line in clauses if "ensures headline" in line])
-    print(f"{len(everything)} definitions, {len(headline)} of the headline alone")
-    for (crate, module), count in sorted(collections.Counter(d[:2] for d in everything).items()):
-        print(f"crates/{crate}/specs/{module.replace('.', '/')}.antt {count}")
+    files = collections.Counter(f"crates/{crate}/specs/{module.replace('.', '/')}.antt" for crate, module, _ in everything)
+    return files, len(everything), len(headline)
 
 
-main()
+def main():
+    files, everything, headline = counted()
+    print(f"{everything} definitions, {headline} of the headline alone")
+    for file, count in sorted(files.items()):
+        print(f"{file} {count}")
+
+
+if __name__ == "__main__":
+    main()
