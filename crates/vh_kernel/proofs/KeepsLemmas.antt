@@ -161,8 +161,7 @@ module _ (P : Events → Type 0) (k : Keeps P) where
 
   schedule-keeps : (d : Shape) (s : Contents) (delay : Option Delay) (ps : List Piece) (q : Events) → P q
       → AllOk P (schedule_of d s delay ps q)
-  schedule-keeps d s delay [] q holds = holds
-  schedule-keeps d s delay (p ∷ ps) q holds = some-ok P _ _ _ (λ time. updates-keep time (p ∷ ps) q holds)
+  schedule-keeps d s delay ps q holds = some-ok P _ _ _ (λ time. updates-keep time ps q holds)
 
   scheduling-keeps : (d : Shape) (delay : Option Delay) (ps : List Piece) (o : Own) → P o.queue
       → AllOk (TurnKeeps P) (scheduling d delay ps o)
@@ -170,7 +169,7 @@ module _ (P : Events → Type 0) (k : Keeps P) where
       then-ok P (TurnKeeps P) (schedule_of d o.store delay ps o.queue) _ (schedule-keeps d o.store delay ps o.queue holds) (λ q here. here)
 
   pausing-keeps : (d : Shape) (p : ℕ) (goes : Goes) (it : Pause) (o : Own) → P o.queue → AllOk (TurnKeeps P) (pausing d p goes it o)
-  pausing-keeps d p goes (pause.Wait delay) o holds = resuming-keeps d p delay (gone d goes o) holds
+  pausing-keeps d p goes (pause.Wait delay) o holds = resuming-keeps d p delay (gone goes o) holds
   pausing-keeps d p goes (pause.Await wait) o holds = holds
   pausing-keeps d p goes (pause.WaitFor condition wait) o holds =
       either-ok (TurnKeeps P) (is_true d o.store condition) _ (waiting p wait o) holds holds
@@ -216,9 +215,9 @@ module _ (P : Events → Type 0) (k : Keeps P) where
   turn-at-keeps : (d : Shape) (p : ℕ) (i : Instruction) (it : Operation) (o : Own) → P o.queue → AllOk (TurnKeeps P) (turn_at d p i it o)
   turn-at-keeps d p i (op.Assign e targets) o holds = holds
   turn-at-keeps d p i (op.Hold e width delay) o holds =
-      resuming-keeps d p delay (holding (right_side d o.store e width) (gone d i.next o)) holds
+      resuming-keeps d p delay (holding (right_side d o.store e width) (gone i.next o)) holds
   turn-at-keeps d p i (op.Store targets) o holds = holds
-  turn-at-keeps d p i (op.Schedule s) o holds = scheduling-keeps d s.delay _ (gone d i.next o) holds
+  turn-at-keeps d p i (op.Schedule s) o holds = scheduling-keeps d s.delay _ (gone i.next o) holds
   turn-at-keeps d p i (op.Pause it) o holds = pausing-keeps d p i.next it o holds
   turn-at-keeps d p i (op.Test condition otherwise) o holds = holds
   turn-at-keeps d p i (op.Case c) o holds = holds
@@ -229,8 +228,8 @@ module _ (P : Events → Type 0) (k : Keeps P) where
   turn-at-keeps d p i (op.Leave l) o holds = holds
   turn-at-keeps d p i (op.SysCall call) o holds = holds
   turn-at-keeps d p i (op.SysFunc call) o holds = holds
-  turn-at-keeps d p i (op.Single it) o holds = single-keeps d it (gone d i.next o) holds
-  turn-at-keeps d p i (op.Drive it) o holds = driving-keeps d p it (gone d i.next o) holds
+  turn-at-keeps d p i (op.Single it) o holds = single-keeps d it (gone i.next o) holds
+  turn-at-keeps d p i (op.Drive it) o holds = driving-keeps d p it (gone i.next o) holds
   turn-at-keeps d p i (op.Initial object e) o holds = holds
 
   -- Forks, joins and resumptions.
@@ -264,7 +263,7 @@ module _ (P : Events → Type 0) (k : Keeps P) where
   joined-in-keeps d None p b holds = holds
   joined-in-keeps d (Some t) p b holds =
       let less = changed p one_less b.processes in
-      let on = queued (gone_on d p (goes_behind (next_of d t.thread)) less) b.queue in
+      let on = queued (gone_on p (goes_behind (next_of d t.thread)) less) b.queue in
       either-ok (QueuedKeeps P) (nat_lt 1 t.left) (Ok (queued less b.queue)) (resumed p on) holds (resumed-keeps p on holds)
 
   joined-keeps : (d : Shape) (parent : Option ℕ) (b : Queued) → P b.queue → AllOk (QueuedKeeps P) (joined d parent b)
