@@ -6,8 +6,8 @@ use std::alloc::Global;
 use std::test::Fail;
 use vh_base::{NoMemory, ObjId, Place, ProcId, Sequence};
 use vh_design::{
-    Block, Code, Design, Detail, Goes, Instruction, Kind, Leave, Name, ObjectInfo, Operation, Parts,
-    StmtInfo, StmtKind,
+    Block, Code, Design, Detail, Goes, Instruction, Kind, Leave, Name, ObjectInfo, Operation,
+    Parts, StmtInfo, StmtKind,
 };
 use vh_proc_thread::{CallFault, Thread};
 
@@ -283,8 +283,14 @@ fn disables(rt: HostRuntime) -> Result<(), Fail> {
         (&[Calls(TASK), Calls(TASK), Disables(TASK)], (true, Some(2))),
         // A task whose last label waits is left with the next label alone.
         (&[Calls(TASK), back, IsDisabled(TASK)], (true, Some(2))),
-        (&[Calls(TASK), Calls(TASK), back, back, IsDisabled(TASK)], (true, Some(2))),
-        (&[Calls(TASK), back, to(2), IsDisabled(TASK)], (false, Some(2))),
+        (
+            &[Calls(TASK), Calls(TASK), back, back, IsDisabled(TASK)],
+            (true, Some(2)),
+        ),
+        (
+            &[Calls(TASK), back, to(2), IsDisabled(TASK)],
+            (false, Some(2)),
+        ),
         (
             &[Calls(TASK), to(1), Calls(TASK), Disables(TASK)],
             (true, Some(2)),

@@ -42,7 +42,6 @@ module _ (P : ℕ → Type 0) where
   calls-gone d root goes.Back (c ∷ []) all = tt
   calls-gone d root goes.Back (c ∷ e ∷ cs) all = calls-gone d root (behind d root e) (e ∷ cs) all.1
 
-
   -- where it performs a label,
   pub calls-in : (block : Option ℕ) (cs : List Call) → AllCalls cs → AllCalls (in_block block cs)
   calls-in block [] all = tt
