@@ -2,7 +2,7 @@
 use Rattle.std.proofs.Common.{◌≡◌, ◌+◌, ◌≤◌, ℕ, List, [], ◌∷◌, ◌++◌, Bool, true, false, cond, Option, Some, None, Result, Ok, Err, IfErr, refl, sym, ap, subst, ◌∙◌, arith, inl, inr}
 use Rattle.vh_base.specs.Outside.{appended}
 use Rattle.vh_design.specs.Shape.{Shape}
-use Rattle.vh_elab.specs.Elaborated.{Elaborated, made, later, elaborated}
+use Rattle.vh_elab.specs.Elaborated.{Elaborated, made, elaborated}
 use Rattle.vh_elab.specs.Elaborated as elab
 use Rattle.vh_ast.specs.Items.{SourceTree}
 use Rattle.vh_app.specs.Script.{ScriptData}
@@ -83,7 +83,7 @@ failed_elaboration order budget (made design) scripts n w = record {
   answers = wrote_none order budget design scripts (status.ReadFault n) (refl, refl);
 }
 failed_elaboration order budget (elab.refused f) scripts n w = failed_refusal order budget _ n w tt
-failed_elaboration order budget later scripts n w = failed_refusal order budget _ n w tt
+failed_elaboration order budget elab.later scripts n w = failed_refusal order budget _ n w tt
 
 failed_scripts : (order : Chooser) (budget : ℕ) (begin : Place) (source : SourceTree) (scripts : Result (List ScriptData) Status) (n : ℕ) (w : Option (List ℕ))
     → IfErr scripts (FailsBefore n) → AnswersWith order budget (by_scripts begin source scripts) (status.ReadFault n) w w
