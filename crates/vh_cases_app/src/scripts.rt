@@ -1,15 +1,13 @@
 //! Faults with places that were found by hand, limits, trees, and the arguments of all routines.
 
-use crate::app::MOST_LEVELS;
-use crate::arguments::arguments;
-use crate::env::{Block, Env};
-use crate::lexer::tokens;
-use crate::{App, Atom, Command, Order, ScriptFault, read_script};
 use indexmap::IndexSet;
 use std::alloc::Global;
 use std::process::Abort;
 use std::test::Fail;
 use vh_app_lines::Routine;
+use vh_app_script::{
+    App, Atom, Block, Command, Env, MOST_LEVELS, Order, ScriptFault, arguments, read_script, tokens,
+};
 use vh_base::{AppFault, Place, Short};
 
 // What a text is answered: its fault, line and column, or nothing where it is a script. Memory is
