@@ -18,7 +18,7 @@ mod tree;
 mod words;
 
 pub use app::MOST_LEVELS;
-pub use arguments::arguments;
+pub use arguments::arguments as read_arguments;
 pub use env::{Block, Env};
 pub use fault::ScriptFault;
 pub use laws::script_laws;

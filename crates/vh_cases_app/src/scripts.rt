@@ -6,7 +6,8 @@ use std::process::Abort;
 use std::test::Fail;
 use vh_app_lines::Routine;
 use vh_app_script::{
-    App, Atom, Block, Command, Env, MOST_LEVELS, Order, ScriptFault, arguments, read_script, tokens,
+    App, Atom, Block, Command, Env, MOST_LEVELS, Order, ScriptFault, read_arguments, read_script,
+    tokens,
 };
 use vh_base::{AppFault, Place, Short};
 
@@ -493,7 +494,7 @@ fn are_arguments(alloc: Global, routine: Routine, text: &[u8]) -> Result<bool, F
         names: IndexSet::new(alloc),
     };
     let tokens = tokens(alloc, text)?;
-    match arguments(MOST_LEVELS, &env, routine, tokens.as_slice()) {
+    match read_arguments(MOST_LEVELS, &env, routine, tokens.as_slice()) {
         Ok((_, rest)) => Ok(rest.is_empty()),
         Err(_) => Ok(false),
     }
