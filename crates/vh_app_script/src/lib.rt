@@ -13,15 +13,16 @@ mod lexer;
 mod named;
 mod read;
 mod take;
-#[cfg(test)]
-mod tests;
 mod token;
 mod tree;
 mod words;
 
+pub use app::MOST_LEVELS;
+pub use arguments::arguments as read_arguments;
 pub use env::{Block, Env};
 pub use fault::ScriptFault;
 pub use laws::script_laws;
+pub use lexer::tokens;
 pub use read::read_script;
 pub use token::{Keyword, Kind, Mark, Token};
 pub use tree::{App, Atom, Body, Command, Order, Procedure, Test};

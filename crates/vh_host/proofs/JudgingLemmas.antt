@@ -23,7 +23,7 @@ use Rattle.vh_host.specs.Transcript.{WroteOf, WroteFromOpening}
 use Rattle.vh_host.specs.Headline.{Holds, FailsBefore, AnswersWith, Accounts, Transcribes, Refuses, WereAnswered, Tells}
 use Rattle.vh_host.specs.Reading.{AreRead, MeetsLong, MeetsNoneLong, contents_of}
 use Rattle.vh_host.specs.Judging.{RefusesTexts, status_of}
-use Rattle.vh_host.proofs.Appended.{appended_nothing}
+use Rattle.vh_base_outside.proofs.Appended.{appended_nothing}
 use Rattle.vh_host.proofs.OpeningsLemmas.{has-opening}
 use Rattle.vh_host.proofs.ReadingLemmas.{files_back, some_contents, told_verdict}
 

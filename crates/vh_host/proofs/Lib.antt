@@ -1,5 +1,3 @@
--- What was written after two writes
-pub mod Appended
 -- From turns to runs
 pub mod TurnLemmas
 -- The word of a file by its number

@@ -17,7 +17,7 @@ use Rattle.vh_host.specs.declared.status.Status.{Status}
 use Rattle.vh_host.specs.declared.status.Status.TheVariants as status
 use Rattle.vh_host.specs.Turn.{Turned, TurnsTo, IsCut}
 use Rattle.vh_host.specs.Transcript.{none_ends, but_last, WroteEnded, WroteFront, WroteOf, Wrote}
-use Rattle.vh_host.proofs.Appended.{appended_twice, appended_nothing}
+use Rattle.vh_base_outside.proofs.Appended.{appended_twice, appended_nothing}
 
 -- From a state and an order of choice the machine makes these labels, none of them an end, and comes to others.
 abbrev pub Goes : Chooser → State → List Move → Chooser → State → Type 0

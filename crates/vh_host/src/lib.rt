@@ -18,7 +18,6 @@ mod reading;
 mod report;
 mod status;
 mod transcript;
-mod write;
 
 pub use host::run;
 pub use plain::plain_text;

@@ -9,9 +9,9 @@ ghost use Rattle.vh_host.specs.Turn.{Turned, status_after};
 ghost use Rattle.vh_host.specs.Transcript.{Wrote};
 
 use crate::status::Status;
-use crate::write::write_whole;
 use std::alloc::Global;
 use vh_base::{Sink, SinkFault};
+use vh_base_outside::write_whole;
 use vh_kernel::{Ending, Kernel, Label, push_line};
 use vh_kernel_choice::Chooser;
 

@@ -3,9 +3,6 @@ ghost use Rattle.std.specs.Process.{exit_status};
 ghost use Rattle.std.specs.Vec.Iter.{into_iter_items};
 ghost use Rattle.vh_host.specs.Report.{exit_of};
 
-use crate::holding::Holding;
-use crate::output::{Output, is_file_or_pipe};
-use crate::source::Source;
 use std::alloc::Global;
 use std::env::Args;
 use std::io::ErrorKind;
@@ -15,6 +12,7 @@ use std::{env, rt};
 use thiserror::Error;
 use vh_base::NoMemory;
 use vh_host::{Status, exit_number, run, status_line};
+use vh_base_outside::{Holding, Output, Source, is_file_or_pipe};
 
 // How many bytes of the transcript are held at most.
 const ROOM: usize = 65_536;

@@ -1,7 +1,7 @@
 use Rattle.std.proofs.Common.{◌∙◌, ap, take, Result, Ok, Err, OnErr}
 use Rattle.vh_base.specs.Outside.{appended}
-use Rattle.vh_sim_edge.proofs.Appended.{front_of_kept, all_of_kept}
-use Rattle.vh_sim_edge.proofs.holding.Holding.take.Goals as goal
+use Rattle.vh_base_outside.proofs.Appended.{front_of_kept, all_of_kept}
+use Rattle.vh_base_outside.proofs.holding.Holding.take.Goals as goal
 
 on_err : {A E : Type 0} (r : Result A E) (P : Type 0) → P → OnErr r P
 on_err (Ok x) P p = tt

@@ -1,6 +1,4 @@
-use crate::holding::Holding;
-use crate::output::Output;
-use crate::source::Source;
+use crate::{Holding, Output, Source};
 use std::cell::Cell;
 use std::fmt::Display;
 use std::rt::Clock;

@@ -1,8 +1,8 @@
 use Rattle.std.proofs.Common.{◌∙◌, ap, take}
 use Rattle.std.proofs.lemmas.Result.{on_ok_weaker, on_err_weaker}
 use Rattle.vh_base.specs.Outside.{appended}
-use Rattle.vh_sim_edge.proofs.Appended.{kept_whole, front_whole}
-use Rattle.vh_sim_edge.proofs.holding.Holding.keep.Goals as goal
+use Rattle.vh_base_outside.proofs.Appended.{kept_whole, front_whole}
+use Rattle.vh_base_outside.proofs.holding.Holding.keep.Goals as goal
 
 -- The piece was written behind all that was held
 pub returns-clause-ok : goal.returns-clause-ok

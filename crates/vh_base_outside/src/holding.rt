@@ -1,7 +1,8 @@
 ghost use Rattle.std.specs.Prelude.{◌≡◌, ◌++◌, ◌≤◌, [], None, length, OnOk, OnErr, IfOk, IsTrue, if◌then◌else◌};
 ghost use Rattle.vh_base.specs.Outside.{appended, AppendsFront};
-ghost use Rattle.vh_sim_edge.specs.Kept.{Kept, Tells};
+ghost use Rattle.vh_base_outside.specs.Kept.{Kept, Tells};
 
+use crate::write::write_whole;
 use std::alloc::Global;
 use std::rt::Clock;
 use std::time::{Duration, Instant};
@@ -160,17 +161,4 @@ impl<K: Sink, C: Clock> Sink for Holding<'_, K, C> {
         self.take(piece)?;
         Ok(piece.len())
     }
-}
-
-// Offers the piece whole, and after a write that took a part the rest, until all is taken.
-fn write_whole<K: Sink>(out: &mut K, piece: &[u8]) -> Result<(), SinkFault>
-    ensures ok { OnOk result (K.written out.new ≡ appended (K.written out.old) piece.now) }
-    ensures err { OnErr result (AppendsFront (K.written out.old) (K.written out.new) piece.now) }
-    ensures tells { Tells result (K.faults out.old) (K.faults out.new) }
-{
-    let mut done = 0;
-    while done < piece.len() {
-        done += out.write(&piece[done..])?;
-    }
-    Ok(())
 }

@@ -1,15 +1,14 @@
 //! Faults with places that were found by hand, limits, trees, and the arguments of all routines.
 
-use crate::app::MOST_LEVELS;
-use crate::arguments::arguments;
-use crate::env::{Block, Env};
-use crate::lexer::tokens;
-use crate::{App, Atom, Command, Order, ScriptFault, read_script};
 use indexmap::IndexSet;
 use std::alloc::Global;
 use std::process::Abort;
 use std::test::Fail;
 use vh_app_lines::Routine;
+use vh_app_script::{
+    App, Atom, Block, Command, Env, MOST_LEVELS, Order, ScriptFault, read_arguments, read_script,
+    tokens,
+};
 use vh_base::{AppFault, Place, Short};
 
 // What a text is answered: its fault, line and column, or nothing where it is a script. Memory is
@@ -495,7 +494,7 @@ fn are_arguments(alloc: Global, routine: Routine, text: &[u8]) -> Result<bool, F
         names: IndexSet::new(alloc),
     };
     let tokens = tokens(alloc, text)?;
-    match arguments(MOST_LEVELS, &env, routine, tokens.as_slice()) {
+    match read_arguments(MOST_LEVELS, &env, routine, tokens.as_slice()) {
         Ok((_, rest)) => Ok(rest.is_empty()),
         Err(_) => Ok(false),
     }

@@ -1,5 +1,6 @@
-ghost use Rattle.std.specs.Prelude.{◌≡◌, ◌≢◌, ◌≤◌, ℕ, take, OnOk, OnErr};
-ghost use Rattle.vh_base.specs.Outside.{Rose, appended, AppendsFront};
+ghost use Rattle.std.specs.Prelude.{◌≡◌, ◌≤◌, ℕ, take, OnOk, OnErr};
+ghost use Rattle.vh_base.specs.Outside.{appended, AppendsFront};
+ghost use Rattle.vh_base_outside.specs.Kept.{Tells};
 
 use vh_base::{Sink, SinkFault};
 
@@ -7,8 +8,7 @@ use vh_base::{Sink, SinkFault};
 pub fn write_whole<K: Sink>(out: &mut K, piece: &[u8]) -> Result<(), SinkFault>
     ensures ok { OnOk result (K.written out.new ≡ appended (K.written out.old) piece.now) }
     ensures err { OnErr result (AppendsFront (K.written out.old) (K.written out.new) piece.now) }
-    ensures failed { result ≡ Err SinkFault.Failed → Rose (K.faults out.old) (K.faults out.new) }
-    ensures calm { result ≢ Err SinkFault.Failed → K.faults out.new ≡ K.faults out.old }
+    ensures tells { Tells result (K.faults out.old) (K.faults out.new) }
 {
     let mut done = 0;
     while done < piece.len() {

@@ -1,5 +1,5 @@
 -- What a sink that holds pieces has written of what it was given, and what it still holds. (own)
-use Rattle.std.specs.Prelude.{◌≡◌, ◌≢◌, ◌≤◌, ℕ, List, ◌++◌, Option, Result, Ok, Err}
+use Rattle.std.specs.Prelude.{◌≡◌, ◌≢◌, ◌≤◌, ℕ, List, ◌++◌, Option, Result, Err}
 use Rattle.vh_base.specs.Outside.{appended, Rose}
 use Rattle.vh_base.specs.declared.outside.SinkFault.{SinkFault}
 use Rattle.vh_base.specs.declared.outside.SinkFault.TheVariants as sink

@@ -1,6 +1,6 @@
 use Rattle.std.proofs.Common.{◌≡◌, ◌≤◌, ◌-◌, take, length}
 use Rattle.vh_base.specs.Outside.{appended}
-use Rattle.vh_sim_edge.proofs.holding.write_whole.Given as goal
+use Rattle.vh_base_outside.proofs.write.write_whole.Given as goal
 
 abbrev pub invariant-loop-done : goal.invariant-loop-done
 invariant-loop-done g l =

@@ -1,6 +1,6 @@
 use Rattle.std.proofs.Common.{arith, ◌∙◌}
-use Rattle.vh_host.proofs.Appended.{appended_front, sliced_rest}
-use Rattle.vh_sim_edge.proofs.holding.write_whole.Goals as goal
+use Rattle.vh_base_outside.proofs.Appended.{appended_front, sliced_rest}
+use Rattle.vh_base_outside.proofs.write.write_whole.Goals as goal
 
 pub loop-done-preserved : goal.loop-done-preserved
 loop-done-preserved g c = (
