@@ -1,6 +1,6 @@
 #!/usr/bin/env python3
 """Runs the examples of docs/FAULTS.md with the proved program, or with the one that is named, and compares what is written with the page, word
-for word; and the texts of the table of docs/LANGUAGE.md of what is left out, which get their codes, and those to write instead, which are read.
+for word; and the texts of the table of docs/LANGUAGE.md of what is left out, which get their codes, and those to write instead, which are read; and those of its table of what may surprise.
 Prints a line for each that differs, and at the end how many were tried; ends with 1 where one differs."""
 import pathlib
 import re
@@ -64,6 +64,8 @@ def examples():
     for text, code in left_out():
         words = ["--budget", "20000", "a.v"]
         yield {"a.v": text}, words, lambda out, err, code=code: err.startswith(f"design refused: {code} at ") if code else "refused" not in err
+    for text, shown in surprises():
+        yield {"a.v": text}, ["a.v"], lambda out, err, shown=shown: displayed(out) == shown
 
 
 def left_out():
@@ -77,6 +79,19 @@ def left_out():
             # (a word of the language is no text)
             if ";" in other or other.startswith("`"):
                 yield whole(other), None
+
+
+def surprises():
+    """Each text of the table of what may surprise, with the lines that it displays."""
+    table = LANGUAGE.split("## What may surprise\n")[1].split("\n## ")[0]
+    for row in re.findall(r"^\| (?!Text)(.*) \|$", table, re.M):
+        text, shown, _ = row.split(" | ")
+        (text,) = codes_of(text)
+        yield whole(text), codes_of(shown)
+
+
+def displayed(out):
+    return re.findall(r'^\d+ out "(.*)\\n"$', out, re.M)
 
 
 def codes_of(cell):
