@@ -50,7 +50,7 @@ def launcher_of(program, folder):
     (folder / ".vhost").mkdir()
     shutil.copy(TOP / "vhost", folder)
     (folder / ".vhost/vhost").symlink_to(program)
-    (folder / ".vhost/watched").touch()
+    (folder / ".vhost/watched").write_text("vhost\0")
     (folder / ".vhost/stamp").touch()
     return folder / "vhost"
 

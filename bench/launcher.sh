@@ -780,6 +780,18 @@ NAMES
     TELLS='design refused: S3 at 1:2:3' ENDS=2
     on_terminal run d.v
     holds grep -q '^vhost: specify is left out; instead: ' "$work/lines"
+    # so has the word before, and both together; what is missing in front of a word that is read has none
+    while IFS='|' read -r place told text; do
+        printf '%s\n' "$text" >d.v
+        TELLS="design refused: S1 at 1:1:$place" ENDS=2
+        on_terminal run d.v
+        holds [ "$place: $(sed -n 's/^vhost: \(.*\) is left out; .*/\1/p' "$work/lines")" = "$place: $told" ]
+    done <<'TEXTS'
+19|logic|module top; logic [3:0] x; endmodule
+23|parameter integer|module top; parameter integer N = 4; endmodule
+19||module top; reg a integer i; endmodule
+19||module top; reg a repeat (3) ; endmodule
+TEXTS
 }
 if command -v python3 >/dev/null; then
     refusals_on_a_terminal

@@ -16,7 +16,7 @@ import tempfile
 
 TOP = pathlib.Path(__file__).resolve().parent.parent
 PAGE = TOP / "docs/CONFORMANCE.md"
-PACKAGES = "iverilog gtkwave verilator nextpnr-ice40 tkgate-data yosys yosys-doc".split()
+PACKAGES = "iverilog gtkwave verilator nextpnr-ice40 qflow-tech-osu018 qflow-tech-osu035 qflow-tech-osu050 tkgate-data yosys".split()
 MODULE = re.compile(r"\b(?:macro)?module\b\s*(?:automatic\s+)?(\\\S+|\w+).*?\bendmodule\b|\bprimitive\b\s*(\w+).*?\bendprimitive\b", re.S)
 UNSEEN = re.compile(r'//[^\n]*|/\*.*?\*/|"(?:[^"\\\n]|\\.)*"', re.S)
 STEPS = 40
@@ -115,7 +115,7 @@ def bench(name, inputs, outputs):
     lines += [f"wire [{width - 1}:0] o{k};" for k, (width, _) in enumerate(outputs)]
     ties = [f".{it}(i{k})" for k, (_, it) in enumerate(inputs)] + [f".{it}(o{k})" for k, (_, it) in enumerate(outputs)]
     lines += [f"{name} tried ({', '.join(ties)});", "initial begin"]
-    lines += [f"#10 i{k} = {width}'h0;" for k, (width, _) in enumerate(inputs)]
+    lines += [f"i{k} = {width}'h0; #10 ;" for k, (width, _) in enumerate(inputs)]
     show = f"#10 $display(\"{' '.join(['%b'] * len(outputs))}\", {', '.join(f'o{k}' for k in range(len(outputs)))});"
     for _ in range(STEPS):
         k = draws.randrange(len(inputs))
@@ -137,6 +137,7 @@ PLACES = [
     ("N3", r".", "expressions of more than 64 digits"),
     ("N9", r"", "several tops, or none"),
     ("N10", r"(\$\w+)", "`{}`"),
+    ("S3", r"(?:strong|weak|pull|supply|highz)[01]\b *,|highz", "strengths"),
     ("S3", r"(\w+)", "`{}`"),
     ("S3", r"@", "`@` behind `=`"),
     ("S3", r"#", "pairs of delays"),
@@ -200,17 +201,18 @@ def tables(root):
             refused[it.construct] = refused.get(it.construct, 0) + 1
     lines += ["", "| Construct that is met first | Modules |", "|---|---|"]
     lines += [f"| {name} | {number} |" for name, number in sorted(refused.items(), key=lambda it: (-it[1], it[0]))]
+    others = [f"{it.name}: {it.construct}" for it in everything if it.theirs and not it.ours and refused[it.construct] < 4]
     lines += ["", "| Of those that both accept | Run | Show the same |", "|---|---|---|"]
     for title, has_ports in ("modules with ports, under random inputs", True), ("modules without, as benches", False):
         run = [it for it in everything if it.shown is not None and it.has_ports == has_ports]
         lines.append(f"| {title} | {len(run)} | {sum(it.shown for it in run)} |")
-    return lines, [f"{it.name}: {it.first}" for it in everything if it.shown is False]
+    return lines, others + [f"{it.name}: {it.first}" for it in everything if it.shown is False]
 
 
 def main():
     global PROGRAM, JOBS
     words = [it for it in sys.argv[1:] if it != "--write"]
-    root, JOBS = None, 2
+    root, JOBS = None, 3
     if "--root" in words:
         at = words.index("--root")
         root = pathlib.Path(words[at + 1]).resolve()
@@ -218,7 +220,7 @@ def main():
     PROGRAM = str(pathlib.Path(words[0]).resolve()) if words else str(TOP / ".vhost/vhost")
     lines, others = tables(root)
     print("\n".join(lines))
-    print("\nshown otherwise:\n" + "\n".join(others))
+    print("\nrefused by what few others are, and shown otherwise:\n" + "\n".join(others))
     if "--write" in sys.argv:
         head, _, rest = PAGE.read_text().partition("<!-- bench/real.py writes what follows -->\n")
         _, _, tail = rest.partition("<!-- up to here -->\n")

@@ -28,7 +28,9 @@ def instances(levels):
 
 
 def generated(levels):
-    return top("genvar g; " + around("for (g = 0; g < 1; g = g + 1) begin : b ", "wire z;", " end", levels))
+    names = "".join(f"genvar g{k}; " for k in range(levels))
+    loops = "".join(f"for (g{k} = 0; g{k} < 1; g{k} = g{k} + 1) begin : b{k} " for k in range(levels))
+    return top(names + loops + "wire z;" + " end" * levels)
 
 
 def script(body):
