@@ -10,8 +10,10 @@ pub mod CallbacksLemmas
 pub mod SetsLemmas
 -- What the handles keep in a step.
 pub mod HandlesLemmas
--- The firing law.
+-- The firing law: occurrences are told, their callbacks fire, and they are done.
 pub mod FiringLemmas
+-- The firing law: to whom an occurrence is told, what a fire calls, where callbacks come from; and with it the whole law.
+pub mod WatchingLemmas
 -- The handle law.
 pub mod HandleLawLemmas
 -- Every path and every run from a fresh state keeps the laws.

@@ -2,6 +2,8 @@
 pub mod Paths
 -- The firing law: which callback fires for an occurrence, and when.
 pub mod Firing
+-- The law of callbacks: to whom an occurrence is told, what a fire calls, where callbacks come from.
+pub mod Watching
 -- The handle law: what a handle names, from its giving on.
 pub mod HandleLaw
 -- The two laws, of every path and of every run.
