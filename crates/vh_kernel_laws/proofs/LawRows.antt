@@ -1,5 +1,5 @@
 -- Worked rows with one label changed: each is refused by a law.
-use Rattle.std.proofs.Common.{◌≡◌, ℕ, List, [], ◌∷◌, ◌++◌, take, drop, Bool, true, false, Option, Some, None, slice_get, refl, sym, ap, subst, ◌∙◌, inl, inr, append_assoc}
+use Rattle.std.proofs.Common.{◌≡◌, ℕ, List, [], ◌∷◌, ◌++◌, take, drop, Bool, true, false, Option, Some, None, slice_get, refl, sym, ap, subst, ◌∙◌, inl, inr, append_assoc, append-nil}
 use Rattle.std.specs.Prelude.{codes, unwrap_or}
 use Rattle.std.specs.Option.{option_map}
 use Rattle.vh_base.specs.declared.first.First.{First}
@@ -40,7 +40,9 @@ use Rattle.vh_kernel_laws.proofs.Openings.{opening}
 use Rattle.vh_kernel.specs.State.{State}
 use Rattle.vh_kernel_laws.specs.Firing.{frames_of, TopFrame, IsTelling, TellsOnce, WasTold, FiresOnce, LeavesNone, DoneOnce, IsRemoval, RemovesForGood}
 use Rattle.vh_kernel_laws.specs.HandleLaw.{GivesOnce, GivesLive, GivesRight, FindsLive, RemovalFrees, StaysFreed, RemovesCallbacks, answers_found, FindsNames, IsRegistrable, RegistersAsked}
-use Rattle.vh_kernel_laws.specs.Watching.{watches, IsToldTo, all as to_all, one as to_one, TellsThoseWhoWatch, Calls, FiresTop, HasFrameOf, FramesStand, IsRegistration, ComesByRegistration, IsSameCallback, StaysAsRegistered}
+use Rattle.vh_kernel_laws.specs.Pending.{pendings_in, pendings_of, statement_made, KeepsPending, TellsInTurn}
+use Rattle.vh_proc_simulation.specs.Labels.{performed}
+use Rattle.vh_kernel_laws.specs.Watching.{watches, all as to_all, one as to_one, TellsThoseWhoWatch, Calls, FiresTop, HasFrameOf, FramesStand, IsRegistration, ComesByRegistration, IsSameCallback, StaysAsRegistered}
 use Rattle.vh_kernel_laws.specs.Paths.{is_told, is_fire, is_fire_of, is_done, any, was_removed, end_of}
 use Rattle.vh_kernel_laws.proofs.Splits.{not_both, or_left, or_right}
 use Rattle.vh_design_first.specs.Designs.{instructions_of, codes_of}
@@ -373,7 +375,7 @@ fires_below s t f c on above law =
     let fire : Calls s 2 c t = law [] [] 2 c t refl in
     let both : Some f ≡ Some fire.frame = sym on ∙ fire.is_top in
     let same : f ≡ fire.frame = cc in
-    let number : 3 ≡ 2 = sym above ∙ ap (λ (g : Frame). g.number) same ∙ fire.number in absurd (cc)
+    absurd (let number : 3 ≡ 2 = sym above ∙ ap (λ (g : Frame). g.number) same ∙ fire.number in cc)
 
 -- A frame goes without its end.
 frame_vanishes : (who : Who) (s t : State) (n : ℕ) → HasFrameOf n s → frames_of t ≡ [] → FramesStand s ((label.Pass who, t) ∷ []) → ⊥
@@ -430,3 +432,56 @@ registration_refused : (who : Who) (s t : State) (watched : Option ℕ) (time n 
 registration_refused who s t watched time n calls can law =
     let right = law [] [] who reason.CbValueChange watched time calls n (answer.Refused code.E13) t refl can in
     let wrong : answer.Refused code.E13 ≡ answer.Handle right.0 = right.1 in absurd (cc)
+
+-- Somebody watches what is passed over.
+some-watch : (o : Occurrence) (passed : List Occurrence) (t : State) (c : ℕ) (cs : List ℕ) → slice_get passed 0 ≡ Some o
+    → ((i : ℕ) (p : Occurrence) → slice_get passed i ≡ Some p → set_of p t.world.callbacks ≡ [])
+    → set_of o t.world.callbacks ≡ c ∷ cs → ⊥
+some-watch o passed t c cs at none watched = absurd (let wrong : [] ≡ c ∷ cs = sym (none 0 o at) ∙ watched in cc)
+
+-- No change is ever told: what was pending is dropped, or what a statement has changed isn't pending.
+drops_what_is_pending : (who : Who) (s t : State) (o : Occurrence) (os : List Occurrence) (c : ℕ) (cs : List ℕ)
+    → pendings_of s ≡ o ∷ os → pendings_of t ≡ [] → set_of o t.world.callbacks ≡ c ∷ cs → TellsInTurn s ((label.Pass who, t) ∷ []) → ⊥
+drops_what_is_pending who s t o os c cs stood none watched law =
+    let kept : KeepsPending s (label.Pass who, t) = law [] [] (label.Pass who, t) refl in
+    let all : o ∷ os ≡ kept.passed =
+    sym stood ∙ sym kept.leaves ∙ ap (λ (made : List Occurrence). made ++ kept.rest) (sym kept.makes) ∙ kept.in_order
+    ∙ ap (λ (ps : List Occurrence). kept.passed ++ ps) none ∙ append-nil kept.passed in
+    some-watch o kept.passed t c cs (ap (λ (ps : List Occurrence). slice_get ps 0) (sym all)) kept.unwatched watched
+
+drops_what_it_makes : (p : ℕ) (s t : State) (o : Occurrence) (os : List Occurrence) (c : ℕ) (cs : List ℕ)
+    → statement_made (performed p s.world.activity) ≡ o ∷ os → pendings_of t ≡ [] → set_of o t.world.callbacks ≡ c ∷ cs
+    → TellsInTurn s ((label.Stmt p None, t) ∷ []) → ⊥
+drops_what_it_makes p s t o os c cs makes none watched law =
+    let kept : KeepsPending s (label.Stmt p None, t) = law [] [] (label.Stmt p None, t) refl in
+    let all : o ∷ (os ++ kept.rest) ≡ kept.passed =
+    ap (λ (made : List Occurrence). made ++ kept.rest) (sym makes ∙ sym kept.makes) ∙ kept.in_order
+    ∙ ap (λ (ps : List Occurrence). kept.passed ++ ps) none ∙ append-nil kept.passed in
+    some-watch o kept.passed t c cs (ap (λ (ps : List Occurrence). slice_get ps 0) (sym all)) kept.unwatched watched
+
+-- An occurrence that nothing made is told; and one is told that is still pending then.
+tells_what_did_not_happen : (s t : State) (p n : ℕ) (xs : List Control) (why : Reason) (object : Option Object)
+    → s.control ≡ top.Process p ∷ xs → pendings_of s ≡ [] → TellsInTurn s ((label.Occ n why object, t) ∷ []) → ⊥
+tells_what_did_not_happen s t p n xs why object on none law =
+    let kept : KeepsPending s (label.Occ n why object, t) = law [] [] (label.Occ n why object, t) refl in
+    elim kept.leaves [
+      | inl first ↦ absurd (let wrong : [] ≡ first.0 ∷ kept.rest = sym none ∙ first.2 in cc)
+      | inr alone ↦ absurd (let wrong : top.Process p ∷ xs ≡ [] = sym on ∙ alone.0 in cc)
+    ]
+
+no-front : (passed : List Occurrence) (o : Occurrence) → [] ≡ passed ++ o ∷ [] → ⊥
+no-front [] o same = absurd (cc)
+no-front (p ∷ passed) o same = absurd (cc)
+
+tells_again : (s t : State) (o : Occurrence) (n : ℕ) (why : Reason) (object : Option Object) → pendings_of s ≡ o ∷ []
+    → pendings_of t ≡ o ∷ [] → TellsInTurn s ((label.Occ n why object, t) ∷ []) → ⊥
+tells_again s t o n why object stood stands law =
+    let kept : KeepsPending s (label.Occ n why object, t) = law [] [] (label.Occ n why object, t) refl in
+    elim kept.leaves [
+      | inl first ↦ (let both : o ∷ [] ≡ first.0 ∷ kept.rest = sym stood ∙ first.2 in
+      let rest : kept.rest ≡ [] = cc in
+      no-front kept.passed o
+      (sym rest ∙ ap (λ (made : List Occurrence). made ++ kept.rest) (sym kept.makes) ∙ kept.in_order
+      ∙ ap (λ (ps : List Occurrence). kept.passed ++ ps) stands))
+      | inr alone ↦ absurd (let wrong : o ∷ [] ≡ [] = sym stood ∙ ap pendings_in alone.0 in cc)
+    ]

@@ -12,6 +12,8 @@ pub mod SetsLemmas
 pub mod HandlesLemmas
 -- The firing law: occurrences are told, their callbacks fire, and they are done.
 pub mod FiringLemmas
+-- The firing law: what occurs is told in turn.
+pub mod PendingLemmas
 -- The firing law: to whom an occurrence is told, what a fire calls, where callbacks come from; and with it the whole law.
 pub mod WatchingLemmas
 -- The handle law.

@@ -1,7 +1,6 @@
 -- The firing law: to whom an occurrence is told, what a fire calls, where callbacks come from; and with it the whole law.
 use Rattle.std.proofs.Common.{◌≡◌, ℕ, zero, suc, ◌-◌, List, [], ◌∷◌, ◌++◌, drop, map, length, Bool, true, false, cond, Option, Some, None, is_some, Result, Ok, Err, slice_get, nat_eq, nat_le, nat_lt, refl, sym, ap, subst, ◌∙◌, ◌⊎◌, inl, inr, arith}
 use Rattle.std.proofs.lemmas.Bool.{eqb-true, eq-eqb, ne_eqb}
-use Rattle.std.specs.List.{flat_map}
 use Rattle.std.specs.Option.{option_map}
 use Rattle.vh_app.specs.Script.{ScriptData}
 use Rattle.vh_base.specs.declared.faults.Cause.{Cause}
@@ -10,13 +9,11 @@ use Rattle.vh_base.specs.declared.faults.Fault.TheVariants as fault
 use Rattle.vh_base.specs.declared.limits.TheConstants.{MOST_FRAMES, MOST_NUMBERS}
 use Rattle.vh_base.specs.declared.orders.Answer.{Answer}
 use Rattle.vh_base.specs.declared.orders.Answer.TheVariants as answer
-use Rattle.vh_base.specs.declared.orders.Object.{Object}
 use Rattle.vh_base.specs.declared.orders.Order.{Order}
 use Rattle.vh_base.specs.declared.orders.Order.TheVariants as order
-use Rattle.vh_base.specs.declared.words.Reason.{Reason}
 use Rattle.vh_base.proofs.ChecksLemmas.{unless-holds}
 use Rattle.vh_callbacks.proofs.LawsLemmas.{matching_is_set, keeps_registered, keeps_removed}
-use Rattle.vh_callbacks.specs.Callbacks.{Callbacks, info_of, body_of, is_live, live_at, matching, registered, removed, IsSound}
+use Rattle.vh_callbacks.specs.Callbacks.{Callbacks, info_of, body_of, is_live, live_at, registered, removed, IsSound}
 use Rattle.vh_callbacks.specs.declared.live.Live.{Live}
 use Rattle.vh_callbacks.specs.declared.registration.Registration.{Registration}
 use Rattle.vh_callbacks.specs.Marks.{is_among}
@@ -38,14 +35,13 @@ use Rattle.vh_kernel.specs.declared.label.Label.{Label}
 use Rattle.vh_kernel.specs.declared.label.Label.TheVariants as label
 use Rattle.vh_kernel.specs.declared.occurrence.Agendum.{Agendum}
 use Rattle.vh_kernel.specs.declared.occurrence.Agendum.TheVariants as agendum
-use Rattle.vh_kernel.specs.declared.occurrence.Told.{Told}
-use Rattle.vh_kernel.specs.Occurrences.{Occurrence, occurrence_of, set_by, set_of, is_empty, change_at, by_change, by_made, all_by}
+use Rattle.vh_kernel.specs.Occurrences.{Occurrence, set_by, set_of, change_at, by_made, all_by}
 use Rattle.vh_kernel.specs.Outcome.{Made, Outcome, Move, after_made}
 use Rattle.vh_kernel.specs.Settle.{settled, settled_control, is_void, is_void_item, without_front}
-use Rattle.vh_kernel.specs.State.{State, with_top, without_top, without_item, with_frames, with_variables}
-use Rattle.vh_kernel.specs.Statements.{next_on, performed_outcome, worked_outcome, on_control, work_outcome}
+use Rattle.vh_kernel.specs.State.{State, with_top, without_top, without_item, with_frames}
+use Rattle.vh_kernel.specs.Statements.{next_on, performed_outcome, worked_outcome, on_control}
 use Rattle.vh_kernel.specs.Step.{telling_outcome, called, started, is_end}
-use Rattle.vh_kernel.specs.Table.{HasTop, TellsNext, Fires, Row, Step}
+use Rattle.vh_kernel.specs.Table.{TellsNext, Fires, Row, Step}
 use Rattle.vh_orders.specs.declared.phase.Ending.TheVariants as ending
 use Rattle.vh_orders.specs.declared.who.Body.{Body}
 use Rattle.vh_orders.specs.declared.who.Who.{Who}
@@ -58,13 +54,14 @@ use Rattle.vh_queue.specs.declared.work.Work.{Work}
 use Rattle.vh_queue.specs.declared.work.Work.TheVariants as work
 use Rattle.vh_kernel_laws.proofs.CallbacksLemmas.{live_by_info, live_low, gone_removed, gone_by}
 use Rattle.vh_kernel_laws.proofs.FiringLemmas.{Keeps, Waits, keeps-on, FiredFrom, fired-from, at-top, get-map, fired-frames, tells-once, fires-once, keeps-sets, leaves-none, done-once, closes-in-order, goes-by-removal, removes-for-good}
+use Rattle.vh_kernel_laws.proofs.PendingLemmas.{tells-in-turn}
 use Rattle.vh_kernel_laws.proofs.Splits.{not_both, path_at}
-use Rattle.vh_kernel_laws.proofs.Works.{View, view_of, taken_from, RegistersAs, Changes, changes_none, opens_one, registers_one, removes_one, Works, works_none, empties, orders_one, tells_one, fires_one, closes_one}
+use Rattle.vh_kernel_laws.proofs.Works.{View, view_of, taken_from, RegistersAs, changes_none, opens_one, registers_one, removes_one, Works, works_none, empties, orders_one, tells_one, fires_one, closes_one}
 use Rattle.vh_kernel_laws.proofs.WorksLemmas.{first-of, made-works}
-use Rattle.vh_kernel_laws.specs.Firing.{Frame, standing, frames_in, frames_of, TopFrame, IsTelling}
-use Rattle.vh_kernel_laws.specs.Laws.{KeepsFiringLaw, needs_none, all_need_none}
+use Rattle.vh_kernel_laws.specs.Firing.{Frame, standing, frames_in, frames_of}
+use Rattle.vh_kernel_laws.specs.Laws.{KeepsFiringLaw, all_need_none}
 use Rattle.vh_kernel_laws.specs.Paths.{IsMade, IsPath, end_of}
-use Rattle.vh_kernel_laws.specs.Watching.{watches, IsToldTo, all, TellsThoseWhoWatch, Calls, FiresTop, HasFrameOf, FramesStand, IsRegistration, ComesByRegistration, IsSameCallback, StaysAsRegistered}
+use Rattle.vh_kernel_laws.specs.Watching.{IsToldTo, all, TellsThoseWhoWatch, FiresTop, HasFrameOf, FramesStand, IsRegistration, ComesByRegistration, IsSameCallback, StaysAsRegistered}
 
 -- What has occurred stands for no entry of the event queue, as long as no such reason is built: whether it is pending, or told.
 abbrev pub IsPlain : Occurrence → Type 0
@@ -526,6 +523,7 @@ firing-law s moves path keeps plain = record {
   told_to_watchers = tells-those-who-watch s moves path keeps plain;
   fires_top = fires-top s moves path keeps;
   frames_stand = frames-stand s moves path;
+  told_in_turn = tells-in-turn s moves path;
   comes_by_registration = comes-by-registration s moves path keeps;
   stays_as_registered = stays-as-registered s moves path keeps;
 }

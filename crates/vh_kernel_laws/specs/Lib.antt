@@ -4,6 +4,8 @@ pub mod Paths
 pub mod Firing
 -- The law of callbacks: to whom an occurrence is told, what a fire calls, where callbacks come from.
 pub mod Watching
+-- What occurs is told in turn.
+pub mod Pending
 -- The handle law: what a handle names, from its giving on.
 pub mod HandleLaw
 -- The two laws, of every path and of every run.
