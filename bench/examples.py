@@ -3,12 +3,15 @@
 what is written with the transcripts, byte for byte. Checks also that each file of the folder stands in its table; that each
 block of a page which shows one of them is a part of it (the page names the file in a comment above the block, as
 <!-- examples/once.txt -->), and no transcript, design or script is shown without; and that the stored runs of the gate have the
-same designs, scripts and transcripts. Prints a line for each thing that isn't so, and at the end how many were tried; ends with
+same designs, scripts and transcripts; and runs the lines of the shell that docs/TRANSCRIPT.md and docs/LANGUAGE.md show. Prints a line for each thing that isn't so, and at the end how many were tried; ends with
 1 where one wasn't so. With --files it runs nothing."""
+import ast
 import pathlib
 import re
+import shutil
 import subprocess
 import sys
+import tempfile
 
 TOP = pathlib.Path(__file__).resolve().parent.parent
 FOLDER = TOP / "examples"
@@ -29,13 +32,48 @@ def holds(is_so, told):
 
 
 def runs(table, program):
-    """Each row writes its transcript, nothing else, and exits with 0."""
-    for words, transcript in table:
-        done = subprocess.run([program, "run", *words], cwd=FOLDER, capture_output=True, timeout=120)
-        same = done.stdout == (FOLDER / transcript).read_bytes()
-        told = "" if same else first_difference(done.stdout, (FOLDER / transcript).read_bytes())
-        call = " ".join(words)
-        holds(same and done.stderr == b"" and done.returncode == 0, f"{call}: exit {done.returncode} {done.stderr!r} {told}")
+    """Each row writes its transcript, nothing else, and exits with 0, or with 1 where it tells of a race."""
+    with tempfile.TemporaryDirectory() as folder:
+        launcher = launcher_of(program, pathlib.Path(folder))
+        for words, transcript in table:
+            call = [launcher, *words] if words[0] == "races" else [program, "run", *words]
+            done = subprocess.run(call, cwd=FOLDER, capture_output=True, timeout=120)
+            wanted = (FOLDER / transcript).read_bytes()
+            told = "" if done.stdout == wanted else first_difference(done.stdout, wanted)
+            status = 1 if words[0] == "races" and wanted.startswith(b"a race") else 0
+            is_so = done.stdout == wanted and done.stderr == b"" and done.returncode == status
+            holds(is_so, f"{' '.join(words)}: exit {done.returncode} {done.stderr!r} {told}")
+
+
+def launcher_of(program, folder):
+    """A launcher that takes this program for the proved one of its sources, of which it has none."""
+    (folder / ".vhost").mkdir()
+    shutil.copy(TOP / "vhost", folder)
+    (folder / ".vhost/vhost").symlink_to(program)
+    (folder / ".vhost/watched").touch()
+    (folder / ".vhost/stamp").touch()
+    return folder / "vhost"
+
+
+def lines_of_shell(program):
+    """The lines of the shell that pages show: the plain text of a run comes back, and a sweep counts the runs of each text."""
+    with tempfile.TemporaryDirectory() as folder:
+        launcher_of(program, pathlib.Path(folder))
+        (pathlib.Path(folder) / "examples").symlink_to(FOLDER)
+        plain = "".join(ast.literal_eval(text) for text in re.findall(r'^\d+ out (".*")$', (FOLDER / "counter.txt").read_text(), re.M))
+        for call in re.findall(r"^```\n(\./vhost run .*)\n```$", (TOP / "docs/TRANSCRIPT.md").read_text(), re.M):
+            holds(shell(folder, call) == plain, f"not the plain text: {call}")
+        (sweep,) = re.findall(r"^```\n(seq 1000 .*?)\n```$", (TOP / "docs/LANGUAGE.md").read_text(), re.M | re.S)
+        if not shutil.which("parallel"):
+            print("parallel isn't there, so no sweep was tried")
+            return
+        for call, texts in (sweep, 2), (sweep.replace("stages_race.v", "stages.v"), 1):
+            counts = [int(line.split()[0]) for line in shell(folder, call).splitlines()]
+            holds(len(counts) == texts and sum(counts) == 1000, f"not {texts} texts of 1000 runs: {counts}")
+
+
+def shell(folder, call):
+    return subprocess.run(["sh", "-c", call], cwd=folder, stdout=subprocess.PIPE, text=True, timeout=600).stdout
 
 
 def first_difference(found, wanted):
@@ -89,7 +127,9 @@ def main():
     pages()
     stored(table)
     if words != ["--files"]:
-        runs(table, pathlib.Path(words[0] if words else TOP / ".vhost/vhost").resolve())
+        program = pathlib.Path(words[0] if words else TOP / ".vhost/vhost").resolve()
+        runs(table, program)
+        lines_of_shell(program)
     print(f"{tried} tried, {failed} not so")
     sys.exit(1 if failed or not table else 0)
 

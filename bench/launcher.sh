@@ -15,12 +15,12 @@ fresh_repository() {
     rm -rf "$work/top" "$work/rattle-kept" "$work/cache"
     mkdir -p "$work/top/crates/vh_sim/src" "$work/top/crates/vh_sim/data" "$work/top/crates/vh_low/src" "$work/bin" "$work/kit"
     mkdir -p "$work/top/crates/vh_low/specs" "$work/top/crates/vh_low/must-fail" "$work/top/crates/vh_beside/src" "$work/top/.git"
-    mkdir -p "$work/top/docs" "$work/top/bench" "$work/top/.ci" && cp "$here/docs/FAULTS.md" "$work/top/docs/"
+    mkdir -p "$work/top/docs" "$work/top/bench" "$work/top/.ci" && cp "$here/docs/FAULTS.md" "$here/docs/LANGUAGE.md" "$work/top/docs/"
     cp "$here/vhost" "$work/top/" && cp "$here/.ci/run" "$work/top/.ci/" && cd "$work/top" || exit 1
     printf '# a comment\nvh_sim: vh_low std\nvh_beside: vh_low\nvh_low:\n' >crates.txt
     printf '# a comment\nvh_low 6000\nvh_sim 600\nvh_beside 99999\n' >bench/seconds.txt
     echo 'Handles allowed: none.' >HANDLES
-    for page in pages examples faults; do echo "import os, sys; sys.exit('$page' in os.environ.get('STALE', ''))" >"bench/$page.py"; done
+    for page in pages counts examples faults; do echo "import os, sys; sys.exit('$page' in os.environ.get('STALE', ''))" >"bench/$page.py"; done
     echo 'pub mod Words' >crates/vh_low/specs/Lib.antt
     echo 'old: low' >crates/vh_low/must-fail/low.edit
     echo 'fn beside() {}' >crates/vh_beside/src/lib.rt
@@ -34,7 +34,7 @@ program() {
     cat <<'PROGRAM'
 #!/bin/sh
 [ -z "$SLEEPS" ] || { echo "$$" >"$SLEEPS" && exec sleep 60; }
-echo "ran $*"
+echo "${RAN:-ran} $*"
 [ -z "$TELLS" ] || echo "$TELLS" >&2
 exit "${ENDS:-7}"
 PROGRAM
@@ -155,7 +155,9 @@ unset TELLS ENDS
 : >"$BUILDS"
 mkdir folder.v
 head -c 4194305 /dev/zero >long.v && head -c 1048577 /dev/zero >long.app && head -c 1048576 /dev/zero >short.app
-for call in 'gone.v:cannot read gone.v' 'a.v folder.v:cannot read folder.v' 'long.v gone.v:too long: long.v' 'a.v long.app:too long: long.app'; do
+ln -s itself.v itself.v && ln -s nowhere.v lost.v
+for call in 'gone.v:cannot read gone.v' 'a.v folder.v:cannot read folder.v' 'long.v gone.v:too long: long.v' 'a.v long.app:too long: long.app' \
+    'a.v itself.v:cannot read itself.v' 'a.v lost.v:cannot read lost.v' 'a.v gone/b.app:cannot read gone/b.app'; do
     run "$full" ./vhost run ${call%%:*}
     holds [ "$status" = 6 ]
     holds [ "$(cat "$work/err")" = "${call#*:}" ]
@@ -434,7 +436,7 @@ unset BROKEN
 holds [ "$status" = 1 ]
 tried_so run a.v
 # nor is the gate passed where a page isn't so
-for STALE in pages examples faults; do
+for STALE in pages counts examples faults; do
     export STALE
     run "$full" .ci/run
     holds [ "$status" = 1 ]
@@ -496,6 +498,40 @@ run "$bare" ./vhost explain X9
 holds [ "$status" = 1 ]
 holds [ ! -s "$work/out" ]
 holds grep -q "has no code X9" "$work/err"
+# so has each exit status, by its number and by its word
+for pair in 1:usage 2:refused 3:refused 4:fault 5:budget 6:read 7:write 8:memory 125:125; do
+    run "$bare" ./vhost explain "${pair%%:*}"
+    holds [ "$status" = 0 ]
+    holds [ "$(head -n 1 "$work/out")" = "## ${pair#*:}" ]
+    run "$bare" ./vhost explain "${pair#*:}"
+    holds [ "$(head -n 1 "$work/out")" = "## ${pair#*:}" ]
+done
+run "$bare" ./vhost explain Long
+holds [ "$(head -n 1 "$work/out")" = "## long" ]
+# and each construct that is left out; of a word that isn't known the nearest is told
+for word in specify SPECIFY '$random' logic; do
+    run "$bare" ./vhost explain "$word"
+    holds [ "$word: $status" = "$word: 0" ]
+    holds grep -q "^gets [A-Z][0-9]*; instead: " "$work/out"
+done
+for pair in budgt:budget specfy:specify N12:N1 '$randm:$random'; do
+    run "$bare" ./vhost explain "${pair%%:*}"
+    holds [ "$status" = 1 ]
+    holds grep -qF "vhost: is ${pair#*:} meant?" "$work/err"
+done
+# a page that needs no program
+for word in --help -h help; do
+    run "$bare" ./vhost "$word"
+    holds [ "$status" = 0 ]
+    holds [ "$(head -n 1 "$work/out")" = 'vhost run [--order fifo|lifo|seeded:N] [--budget N] FILES..' ]
+    holds [ ! -s "$work/err" ]
+done
+run "$bare" ./vhost --version
+holds [ "$status" = 0 ]
+holds grep -q '^vhost.*, sources [0-9]*-[0-9]*$' "$work/out"
+holds grep -q '^there is no proved program of these sources$' "$work/out"
+run "$full" ./vhost run --help a.v
+holds [ "$status" = 1 ]
 for words in explain 'explain S3 A2'; do
     run "$bare" ./vhost $words
     holds [ "$status" = 1 ]
@@ -537,7 +573,7 @@ refused_so() {
     shift 2
     run "$full" ./vhost "$@"
     holds [ "$status" = "$ENDS" ]
-    holds [ "$(cat "$work/out")" = "ran $*" ]
+    holds [ "$(cat "$work/out")" = "${RAN:-ran} $*" ]
     printf '%s\n' "$TELLS" >"$work/wanted"
     holds cmp -s "$work/err" "$work/wanted"
     on_terminal "$@"
@@ -568,7 +604,7 @@ sys.exit(os.waitstatus_to_exitcode(os.waitpid(parent, 0)[1]))
 CALL
     run "$full" python3 "$work/call" "$work/text" "$work/lines" "$@"
     holds [ "$status" = "$ENDS" ]
-    holds [ "$(cat "$work/text")" = "ran $*" ]
+    holds [ "$(cat "$work/text")" = "${RAN:-ran} $*" ]
 }
 # behind NAME:LINE:COLUMN TEXT CARET CODE: what is wanted behind a refusal.
 behind() {
@@ -608,7 +644,7 @@ refusals_on_a_terminal() {
     newline='a
 b.v'
     cp a.v "$newline"
-    behind "a b.v:2:7" "  reg a;" "      ^" N2
+    behind 'a\nb.v:2:7' "  reg a;" "      ^" N2
     refused_so "design refused: N2 at 1:2:7" 2 run "$newline"
     # a place behind the last line, in an empty file, in a file that is gone, in one that may not be read twice
     behind a.v:5:1 endmodule "         ^" N2
@@ -642,14 +678,115 @@ b.v'
     # a run that ended with a fault has no place
     behind_alone F4 >"$work/behind"
     refused_so "run fault: F4" 4 run a.v
-    # what is neither is followed by nothing
+    # what is none of these is followed by nothing
     : >"$work/behind"
-    refused_so "budget spent" 5 run a.v
     refused_so "run fault: design refused: N2 at 1:1:1" 4 run a.v
-    refused_so "cannot read design refused: N2 at 1:1:1 .v" 6 run a.v
     refused_so "a line of something else" 2 run a.v
+    refused_so "a line of something else" 6 run a.v
 }
-if command -v python3 >/dev/null; then refusals_on_a_terminal; else echo "python3 isn't there, so no terminal was tried"; fi
+# said LINE..: what is wanted behind a line of the program.
+said() {
+    : >"$work/behind"
+    for line in "$@"; do printf 'vhost: %s\n' "$line" >>"$work/behind"; done
+}
+# Where standard error is a terminal, each exit status is followed by what helps.
+help_on_a_terminal() {
+    # which word has no reading, and why
+    usage='usage: vhost run [--order fifo|lifo|seeded:N] [--budget N] FILES..'
+    whole='a whole number from 1 to 2^63 - 1, in decimal digits without a leading 0'
+    while IFS='|' read -r words why; do
+        said "$why" 'see docs/FAULTS.md#usage'
+        refused_so "$usage" 1 $words
+    done <<WORDS
+run|there is no .v file among the words
+run a.app|there is no .v file among the words
+run a.sv|a.sv: the name of a file ends in .v or in .app
+run --budget 1e6 a.v|1e6: a budget is $whole
+run --budget=0 a.v|0: a budget is $whole
+run a.v --budget=007|007: a budget is $whole
+run a.v --budget|--budget: no value stands behind it
+run --order seeded:x a.v|seeded:x: the number is a whole one below 2^64, in decimal digits without a leading 0
+run --order fofi a.v|fofi: an order is fifo, lifo or seeded:N; is fifo meant?
+run --order random a.v|random: an order is fifo, lifo or seeded:N
+run --oder lifo a.v|--oder: there is no such option; a file of such a name stands behind a word --; is --order meant?
+run -e.v|-e.v: there is no such option; a file of such a name stands behind a word --
+rnu a.v|rnu: there is no such word; run, races, explain and prove are there; is run meant?
+a.v|a.v: the word run is missing before it
+run --help|--help: this word stands alone
+--order lifo explain|explain: this word stands first
+run --order fifo --order=lifo a.v|--order stands more than once
+run --budget 4 --budget 4 a.v|--budget stands more than once
+run 1.v 2.v 3.v 4.v 5.v 6.v 7.v 8.v 9.app|there are 9 files, and a run takes eight; cat makes one of several
+WORDS
+    said 'there is no word run; vhost --help prints a page' 'see docs/FAULTS.md#usage'
+    refused_so "$usage" 1
+    # a budget that is spent, and of which time the last line is where standard output is a file
+    said 'the run made 100000000 steps and isn'"'"'t over' \
+        'where time stands still, a loop without a delay goes on; else --budget N gives it more steps, or $finish an end' 'see docs/FAULTS.md#budget'
+    refused_so "budget spent" 5 run a.v
+    said 'the run made 20 steps and isn'"'"'t over; the last line of its transcript is of time 17' \
+        'where time stands still, a loop without a delay goes on; else --budget N gives it more steps, or $finish an end' 'see docs/FAULTS.md#budget'
+    RAN='17 out "ran'
+    export RAN
+    refused_so "budget spent" 5 run --budget=20 a.v
+    refused_so "budget spent" 5 run a.v --budget 20
+    unset RAN
+    # a file that isn't there, is a folder or a link, or is too long
+    rm -f gone.v && mkdir -p folder.v && ln -sf itself.v itself.v && ln -sf nowhere.v lost.v && head -c 4194305 /dev/zero >much.v
+    cp a.v counter.v
+    while IFS='|' read -r name why; do
+        said "$name: $why" 'see docs/FAULTS.md#read'
+        refused_so "cannot read $name" 6 run a.v "$name"
+    done <<'NAMES'
+folder.v|it is a folder
+itself.v|it is a link that leads back to itself
+lost.v|it is a link, and nowhere.v isn't there
+gone_away_for_ever.v|there is no such file
+conuter.v|there is no such file; is counter.v meant?
+no_such_folder/a.v|there is no folder no_such_folder
+a.v|it can be read now
+NAMES
+    said 'much.v: it has 4194305 bytes, and may have 4194304' 'see docs/FAULTS.md#long'
+    refused_so "too long: much.v" 6 run much.v
+    # bytes that a terminal would obey are shown, not sent
+    obeyed=$(printf 'a\033[31m\tb\nc\177.v')
+    TELLS="cannot read $obeyed" ENDS=6
+    on_terminal run "$obeyed"
+    printf '%s\n' 'cannot read a\x1b[31m\tb\nc\x7f.v' 'vhost: a\x1b[31m\tb\nc\x7f.v: there is no such file' 'vhost: see docs/FAULTS.md#read' >"$work/wanted"
+    holds cmp -s "$work/lines" "$work/wanted"
+    # standard output takes no more, or memory is gone
+    said "standard output took no more: it is $work/text, on a disk with $(df -Pk "$work" | awk 'NR == 2 { print int($4 / 1024) }') MB left" 'see docs/FAULTS.md#write'
+    TELLS='cannot write' ENDS=7
+    on_terminal run a.v
+    holds grep -q "^vhost: standard output took no more: it is $work/text, on a disk with [0-9]* MB left$" "$work/lines"
+    holds [ "$(tail -n 1 "$work/lines")" = 'vhost: see docs/FAULTS.md#write' ]
+    TELLS='out of memory' ENDS=8
+    on_terminal run a.v
+    holds grep -q '^vhost: [0-9]* MB of memory are free' "$work/lines"
+    holds [ "$(tail -n 1 "$work/lines")" = 'vhost: see docs/FAULTS.md#memory' ]
+    # several tops are named, also where comments and texts name them
+    printf '/* one two\n*/ module one; // two\n  initial $display("one \\" two");\nendmodule\nmodule part; endmodule\n' >b.v
+    printf 'module two;\n  part p();\nendmodule\n' >c.v
+    n9='N9: A run has one top, a module that no other one instantiates, and the source has none or several.'
+    said "$n9" 'see docs/FAULTS.md#n9' 'no other module names one, of b.v:2' 'no other module names two, of c.v:1' \
+        'leave all but one out of the call, or write a top that has an instance of each'
+    refused_so "design refused: N9 at 1:1:1" 2 run b.v --order lifo c.v
+    said "$n9" 'see docs/FAULTS.md#n9' 'these files declare no module'
+    refused_so "design refused: N9 at 1:1:1" 2 run empty.v
+    said "$n9" 'see docs/FAULTS.md#n9'
+    refused_so "design refused: N9 at 1:1:1" 2 run c.v
+    # what stands at the place of a construct that is left out has a row of its own
+    printf 'module top;\n  specify endspecify\nendmodule\n' >d.v
+    TELLS='design refused: S3 at 1:2:3' ENDS=2
+    on_terminal run d.v
+    holds grep -q '^vhost: specify is left out; instead: ' "$work/lines"
+}
+if command -v python3 >/dev/null; then
+    refusals_on_a_terminal
+    help_on_a_terminal
+else
+    echo "python3 isn't there, so no terminal was tried"
+fi
 # a status line that is missing names no part, and a closed standard output is the program's to tell
 refused_silently() {
     TELLS= ENDS=8
@@ -713,10 +850,10 @@ ended_on_a_terminal() {
         if [ "$by" = 'unproved one' ]; then fresh_repository; else run "$full" ./vhost prove; fi
         ended_so TERM 143
         ended_so HUP 129
-        ! command -v python3 >/dev/null || ended_by_keys
+        ! command -v python3 >/dev/null || { ended_by_keys 03 SIGINT && ended_by_keys 1c SIGQUIT; }
     done
 }
-# ended_by_keys: a call that ^C on its terminal ends, and what it began with it.
+# ended_by_keys BYTE SIGNAL: a call that this byte on its terminal ends, ^C or ^\, and what it began with it.
 ended_by_keys() {
     SLEEPS=$work/sleeps
     export SLEEPS
@@ -726,19 +863,20 @@ import os, pty, signal, sys, time
 parent, child = pty.fork()
 if parent == 0:
     signal.signal(signal.SIGINT, signal.SIG_DFL)
+    signal.signal(signal.SIGQUIT, signal.SIG_DFL)
     os.execv("./vhost", ["./vhost", "run", "a.v"])
 while not (os.path.exists(os.environ["SLEEPS"]) and os.path.getsize(os.environ["SLEEPS"])):
     time.sleep(0.1)
-os.write(child, b"\x03")
+os.write(child, bytes.fromhex(sys.argv[1]))
 try:
     while os.read(child, 65536):
         pass
 except OSError:
     pass
-print(os.waitstatus_to_exitcode(os.waitpid(parent, 0)[1]))
+print(signal.Signals(-os.waitstatus_to_exitcode(os.waitpid(parent, 0)[1])).name)
 CALL
-    run "$full" python3 "$work/call"
-    holds [ "$(cat "$work/out")" = -2 ]
+    run "$full" python3 "$work/call" "$1"
+    holds [ "$1: $(cat "$work/out")" = "$1: $2" ]
     holds [ ! -d "/proc/$(cat "$SLEEPS")" ]
     unset SLEEPS
 }

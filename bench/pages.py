@@ -35,8 +35,8 @@ def words_of_sources():
 
 CRATES = listed()
 WORDS, FILES = words_of_sources()
-# What stands in pages and is of the language of scripts, of the standard library or of the toolchain.
-OTHERS = set("cK sK tK hN".split())
+# What stands in pages and is of the language of scripts, of SystemVerilog, of the standard library or of the toolchain.
+OTHERS = set("cK sK tK hN always_ff always_comb always_latch join_any join_none".split())
 
 
 def is_there(word, page):
