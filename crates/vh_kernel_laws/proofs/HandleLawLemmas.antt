@@ -595,7 +595,7 @@ stays-freed s moves path keeps before mid behind who o a t h is given gone read 
 -- What orders are answered that nothing speaks against.
 removal-answer : (b : Bool) (t : Option Thing) (h c : ℕ) (w : World) (g : Given) → b ≡ false → t ≡ Some (thing.Callback c)
     → (answered (unless b code.E9 (with_ok (callback_in t) (λ d. Ok (answers_with (answer.Number 1) (without_callback d h w))))) w g).0
-        ≡ answer.Number 1
+    ≡ answer.Number 1
 removal-answer b t h c w g running names = rw (running, names) refl
 
 removes-callbacks : (s : State) (moves : List Move) → IsPath s moves → RemovesCallbacks s moves
@@ -607,9 +607,9 @@ removes-callbacks s moves path before behind who h a t is =
       removes = λ c running names.
           from.is ∙ removal-answer (is_startup who) (thing_at h u.world.handles) h c (performing from.vars u) from.given running names;
       names = λ one. (let gone : RemovedFrom u h (view_of t) =
-      removed-from u (label.Do who (order.Remove (Some h)) a) (view_of t) who h
-      (ap (λ (x : Answer). label.Do who (order.Remove (Some h)) x) one) (made-works u (label.Do who (order.Remove (Some h)) a, t) parts.1.0) in
-      (gone.callback, gone.names));
+          removed-from u (label.Do who (order.Remove (Some h)) a) (view_of t) who h
+          (ap (λ (x : Answer). label.Do who (order.Remove (Some h)) x) one) (made-works u (label.Do who (order.Remove (Some h)) a, t) parts.1.0) in
+          (gone.callback, gone.names));
     }
 
 new-answer : (found : Option Object) (full : Bool) (w : World) (g : Given) → no_handle_more w.handles ≡ full
@@ -620,12 +620,12 @@ new-answer (Some x) false w g is = (g.handle, rw is refl)
 
 name-answer : (b : Bool) (meant : Result (List ℕ) Code) (name : List ℕ) (w : World) (g : Given) → b ≡ false → meant ≡ Ok name
     → answers_found (object_named name w.names) (no_handle_more w.handles)
-        (answered (unless b code.E9 (with_ok meant (λ n. new_handle (object_named n w.names) w))) w g).0
+    (answered (unless b code.E9 (with_ok meant (λ n. new_handle (object_named n w.names) w))) w g).0
 name-answer b meant name w g running is =
     let P : Result (List ℕ) Code → Type 0 = λ r. answers_found (object_named name w.names) (no_handle_more w.handles)
-        (answered (unless false code.E9 (with_ok r (λ n. new_handle (object_named n w.names) w))) w g).0 in
+    (answered (unless false code.E9 (with_ok r (λ n. new_handle (object_named n w.names) w))) w g).0 in
     let Q : Bool → Type 0 = λ x. answers_found (object_named name w.names) (no_handle_more w.handles)
-        (answered (unless x code.E9 (with_ok meant (λ n. new_handle (object_named n w.names) w))) w g).0 in
+    (answered (unless x code.E9 (with_ok meant (λ n. new_handle (object_named n w.names) w))) w g).0 in
     subst Q (sym running) (subst P (sym is) (new-answer (object_named name w.names) (no_handle_more w.handles) w g refl))
 
 finds-names : (s : State) (moves : List Move) → IsPath s moves → FindsNames s moves
@@ -642,7 +642,7 @@ registration-answer : (a b : Bool) (object : Result (Option Object) Code) (body 
     (r : Option Object → ℕ → Registration) (w : World) (g : Given)
     → a ≡ false → b ≡ false → object ≡ Ok o → body ≡ Ok y → no_callback_more w.callbacks ≡ false → no_handle_more w.handles ≡ false
     → (answered (unless a code.E9 (unless b code.E9 (with_ok object (λ x. with_ok body (λ z. new_callback (r x) z w))))) w g).0
-        ≡ answer.Handle g.handle
+    ≡ answer.Handle g.handle
 registration-answer a b object body o y r w g first second watches found room more =
     rw (first, second, watches, found, room, more) refl
 

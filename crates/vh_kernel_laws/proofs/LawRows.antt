@@ -479,9 +479,9 @@ tells_again s t o n why object stood stands law =
     let kept : KeepsPending s (label.Occ n why object, t) = law [] [] (label.Occ n why object, t) refl in
     elim kept.leaves [
       | inl first ↦ (let both : o ∷ [] ≡ first.0 ∷ kept.rest = sym stood ∙ first.2 in
-      let rest : kept.rest ≡ [] = cc in
-      no-front kept.passed o
-      (sym rest ∙ ap (λ (made : List Occurrence). made ++ kept.rest) (sym kept.makes) ∙ kept.in_order
-      ∙ ap (λ (ps : List Occurrence). kept.passed ++ ps) stands))
+          let rest : kept.rest ≡ [] = cc in
+          no-front kept.passed o
+          (sym rest ∙ ap (λ (made : List Occurrence). made ++ kept.rest) (sym kept.makes) ∙ kept.in_order
+          ∙ ap (λ (ps : List Occurrence). kept.passed ++ ps) stands))
       | inr alone ↦ absurd (let wrong : o ∷ [] ≡ [] = sym stood ∙ ap pendings_in alone.0 in cc)
     ]

@@ -188,9 +188,9 @@ telling-at : (n : ℕ) (what : Occurrence) (reason : Reason) (object : Option Ob
     → n ≡ r.occurrence → reason ≡ what.reason → object ≡ what.object → IsTelling (label.Occ n reason object, t) n what
 telling-at n what reason object r u t told is number why whom =
     let P : ℕ → Type 0 = λ k. slice_get (frames_of (settled u)) 0
-        ≡ Some (record { number = k; what = what; left = set_of what (settled u).world.callbacks }) in
+    ≡ Some (record { number = k; what = what; left = set_of what (settled u).world.callbacks }) in
     let Q : Callbacks Body → Type 0 = λ c. slice_get (frames_of (settled u)) 0
-        ≡ Some (record { number = r.occurrence; what = what; left = set_of what c }) in
+    ≡ Some (record { number = r.occurrence; what = what; left = set_of what c }) in
     let R : State → Type 0 = λ x. slice_get (frames_of x) 0 ≡ Some (record { number = n; what = what; left = set_of what x.world.callbacks }) in
     record {
       told = ap (λ (x : Reason). label.Occ n x object) why ∙ ap (λ (x : Option Object). label.Occ n what.reason x) whom;
@@ -276,7 +276,7 @@ row-kept s u (label.Fire n c) row = record {
   leaves = λ t is. refl;
   is = ap pendings_of row.leaves
       ∙ called-pendings (info_of c s.world.callbacks) (body_of c s.world.callbacks) c row.frame.what
-          (with_top (top.Frame row.frame) (with_frames (without_in_top c s.world.frames) (without_top s)))
+      (with_top (top.Frame row.frame) (with_frames (without_in_top c s.world.frames) (without_top s)))
       ∙ popped s (top.Frame row.frame) row.on.on refl;
 }
 row-kept s u (label.Done n) row = record {
