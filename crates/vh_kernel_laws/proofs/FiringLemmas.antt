@@ -20,7 +20,9 @@ use Rattle.vh_callbacks.specs.Marks.{is_among, without_number}
 use Rattle.vh_kernel.specs.Occurrences.{Occurrence, set_of}
 use Rattle.vh_kernel.specs.Outcome.{Move}
 use Rattle.vh_kernel.specs.State.{State}
-use Rattle.vh_kernel_laws.specs.Firing.{frames_of, IsTelling, TellsOnce, WasTold, FiresOnce, left_of, KeepsSets, LeavesNone, DoneOnce, ClosesInOrder, IsRemoval, GoesByRemoval, RemovesForGood}
+use Rattle.vh_kernel_laws.specs.Firing.{frames_of, IsTelling, TellsOnce, WasTold, FiresOnce, left_of, KeepsSets, LeavesNone, DoneOnce, ClosesInOrder, GoesByRemoval, RemovesForGood}
+use Rattle.vh_kernel_laws.specs.Deeds.{removes}
+use Rattle.vh_kernel_laws.proofs.DeedsLemmas.{IsFreeing, freeing-label, FreesOf, removing-frees, removal-removes}
 use Rattle.vh_kernel_laws.specs.Paths.{Deed, tells, fires, closes, answers, other, deed_of, fires_for, fires_any, tells_of, closes_of, is_told, is_fire, is_fire_of, is_done, any, was_removed, IsPath, end_of}
 use Rattle.vh_callbacks.proofs.MarksLemmas.{among_less}
 use Rattle.vh_kernel_laws.proofs.CallbacksLemmas.{ChangesByOne, works-turn, turns_sound, turns_next, stays_gone, set-live, live_low, live_registered, live_removed, gone_removed}
@@ -882,19 +884,16 @@ lost-live c a b alive gone same = not_both (is_live c a) alive (ap (λ (x : Call
 
 goes-by : (b : Bool) (c d h : ℕ) (s : State) (l : Label) (who : Who) (o : Order) (a : Answer) → nat_eq c d ≡ b → l ≡ label.Do who o a
     → o ≡ order.Remove (Some h) → a ≡ answer.Number 1 → thing_at h s.world.handles ≡ Some (thing.Callback d)
-    → is_live c s.world.callbacks ≡ true → is_live c (removed d s.world.callbacks) ≡ false → IsRemoval c s l
+    → is_live c s.world.callbacks ≡ true → is_live c (removed d s.world.callbacks) ≡ false → removes l s ≡ Some c
 goes-by true c d h s l who o a is told by one names alive gone =
-    let same : c ≡ d = eqb-true c d is in record {
-      who = who;
-      handle = h;
-      is = told ∙ ap (λ (x : Order). label.Do who x a) by ∙ ap (λ (x : Answer). label.Do who (order.Remove (Some h)) x) one;
-      names = names ∙ ap (λ (x : ℕ). Some (thing.Callback x)) (sym same);
-    }
+    ap (λ (x : Label). removes x s)
+    (told ∙ ap (λ (x : Order). label.Do who x a) by ∙ ap (λ (x : Answer). label.Do who (order.Remove (Some h)) x) one)
+    ∙ removal-removes who h d 1 s names ∙ ap (λ (x : ℕ). Some x) (sym (eqb-true c d is))
 goes-by false c d h s l who o a is told by one names alive gone =
     absurd (not_both (is_live c s.world.callbacks) alive (sym (live_removed d c s.world.callbacks is) ∙ gone))
 
 works-go : (s : State) (l : Label) (w : View) (c : ℕ) → Works s l w → IsSound s.world.callbacks → is_live c s.world.callbacks ≡ true
-    → is_live c w.callbacks ≡ false → IsRemoval c s l
+    → is_live c w.callbacks ≡ false → removes l s ≡ Some c
 works-go s l w c (works_none quiet is) sound alive gone =
     absurd (lost-live c s.world.callbacks w.callbacks alive gone (ap (λ (x : View). x.callbacks) is))
 works-go s l w c (empties quiet is at_finish) sound alive gone =
@@ -930,14 +929,14 @@ pub record RemovedFrom (s : State) (h : ℕ) (w : View) : Type 0 where
   pub callbacks : w.callbacks ≡ removed callback s.world.callbacks
   pub handles : w.handles ≡ freed h s.world.handles
 
-changes-removed : (s : State) (h : ℕ) (o : Order) (a : Answer) (w : View) → o ≡ order.Remove (Some h) → a ≡ answer.Number 1
+changes-removed : (s : State) (h n : ℕ) (o : Order) (a : Answer) (w : View) → o ≡ order.Remove (Some h) → a ≡ answer.Number n
     → Changes s o a w → RemovedFrom s h w
-changes-removed s h o a w by one (changes_none plain after) = absurd (subst (λ (x : Answer). IsPlain x) one plain)
-changes-removed s h o a w by one (opens_one k x gives fresh finds after) =
-    absurd (let d : answer.Number 1 ≡ answer.Handle k = sym one ∙ gives in cc)
-changes-removed s h o a w by one (registers_one k r b gives fresh room asks after) =
-    absurd (let d : answer.Number 1 ≡ answer.Handle k = sym one ∙ gives in cc)
-changes-removed s h o a w by one (removes_one c k too counts names after) =
+changes-removed s h n o a w by one (changes_none plain after) = absurd (subst (λ (x : Answer). IsPlain x) one plain)
+changes-removed s h n o a w by one (opens_one k x gives fresh finds after) =
+    absurd (let d : answer.Number n ≡ answer.Handle k = sym one ∙ gives in cc)
+changes-removed s h n o a w by one (registers_one k r b gives fresh room asks after) =
+    absurd (let d : answer.Number n ≡ answer.Handle k = sym one ∙ gives in cc)
+changes-removed s h n o a w by one (removes_one c k too counts names after) =
     let both : order.Remove (Some h) ≡ order.Remove (Some k) = sym by ∙ too in
     let same : k ≡ h = cc in record {
       callback = c;
@@ -946,23 +945,23 @@ changes-removed s h o a w by one (removes_one c k too counts names after) =
       handles = ap (λ (x : View). x.handles) after ∙ ap (λ (x : ℕ). freed x s.world.handles) same;
     }
 
-pub removed-from : (s : State) (l : Label) (w : View) (who : Who) (h : ℕ) → l ≡ label.Do who (order.Remove (Some h)) (answer.Number 1)
+pub removed-from : (s : State) (l : Label) (w : View) (who : Who) (h k : ℕ) → l ≡ label.Do who (order.Remove (Some h)) (answer.Number k)
     → Works s l w → RemovedFrom s h w
-removed-from s l w who h removes (works_none quiet is) =
-    absurd (let d : answers (answer.Number 1) ≡ other = ap deed_of (sym removes) ∙ quiet in cc)
-removed-from s l w who h removes (empties quiet is at_finish) =
-    absurd (let d : answers (answer.Number 1) ≡ other = ap deed_of (sym removes) ∙ quiet in cc)
-removed-from s l w who h removes (orders_one by o a is changes) =
-    let both : label.Do who (order.Remove (Some h)) (answer.Number 1) ≡ label.Do by o a = sym removes ∙ is in
+removed-from s l w who h k removes (works_none quiet is) =
+    absurd (let d : answers (answer.Number k) ≡ other = ap deed_of (sym removes) ∙ quiet in cc)
+removed-from s l w who h k removes (empties quiet is at_finish) =
+    absurd (let d : answers (answer.Number k) ≡ other = ap deed_of (sym removes) ∙ quiet in cc)
+removed-from s l w who h k removes (orders_one by o a is changes) =
+    let both : label.Do who (order.Remove (Some h)) (answer.Number k) ≡ label.Do by o a = sym removes ∙ is in
     let same_order : o ≡ order.Remove (Some h) = cc in
-    let same_answer : a ≡ answer.Number 1 = cc in
-    changes-removed s h o a w same_order same_answer changes
-removed-from s l w who h removes (tells_one n what is number after) =
-    absurd (let d : answers (answer.Number 1) ≡ tells n = ap deed_of (sym removes ∙ is) in cc)
-removed-from s l w who h removes (fires_one n c f rest is on number among after) =
-    absurd (let d : answers (answer.Number 1) ≡ fires n c = ap deed_of (sym removes ∙ is) in cc)
-removed-from s l w who h removes (closes_one n f rest is on number none after) =
-    absurd (let d : answers (answer.Number 1) ≡ closes n = ap deed_of (sym removes ∙ is) in cc)
+    let same_answer : a ≡ answer.Number k = cc in
+    changes-removed s h k o a w same_order same_answer changes
+removed-from s l w who h k removes (tells_one n what is number after) =
+    absurd (let d : answers (answer.Number k) ≡ tells n = ap deed_of (sym removes ∙ is) in cc)
+removed-from s l w who h k removes (fires_one n c f rest is on number among after) =
+    absurd (let d : answers (answer.Number k) ≡ fires n c = ap deed_of (sym removes ∙ is) in cc)
+removed-from s l w who h k removes (closes_one n f rest is on number none after) =
+    absurd (let d : answers (answer.Number k) ≡ closes n = ap deed_of (sym removes ∙ is) in cc)
 
 -- A callback that isn't live and was registered before fires no more.
 gone-label : (history : List Move) (s : State) (l : Label) (w : View) (c : ℕ) → Works s l w → Keeps history (view_of s)
@@ -995,13 +994,16 @@ removes-for-good s moves path keeps before behind m c is removal =
     let u : State = end_of s before in
     let there : Keeps before (view_of u) = keeps-on [] s before parts.0 keeps in
     let works : Works u m.0 (view_of m.1) = made-works u m parts.1.0 in
-    let from : RemovedFrom u removal.handle (view_of m.1) = removed-from u m.0 (view_of m.1) removal.who removal.handle removal.is works in
-    let both : Some (thing.Callback from.callback) ≡ Some (thing.Callback c) = sym from.names ∙ removal.names in
+    let freed_by_it : FreesOf m.0 c u = removing-frees m.0 c u removal in
+    let freeing : IsFreeing m.0 freed_by_it.handle = freeing-label m.0 freed_by_it.handle freed_by_it.frees_it in
+    let from : RemovedFrom u freed_by_it.handle (view_of m.1) =
+    removed-from u m.0 (view_of m.1) freeing.who freed_by_it.handle freeing.number freeing.is works in
+    let both : Some (thing.Callback from.callback) ≡ Some (thing.Callback c) = sym from.names ∙ freed_by_it.names in
     let same : from.callback ≡ c = cc in
     let dead : is_live c m.1.world.callbacks ≡ false =
     ap (λ (x : Callbacks Body). is_live c x) from.callbacks
     ∙ ap (λ (x : ℕ). is_live c (removed x u.world.callbacks)) same ∙ gone_removed c u.world.callbacks there.sound in
-    let low : c < u.world.callbacks.next = there.names removal.handle c removal.names in
+    let low : c < u.world.callbacks.next = there.names freed_by_it.handle c freed_by_it.names in
     let grows : u.world.callbacks.next ≤ m.1.world.callbacks.next =
     turns_next u.world.callbacks m.1.world.callbacks (works-turn u m.0 (view_of m.1) works) in
     record {

@@ -41,6 +41,8 @@ use Rattle.vh_kernel.proofs.StepLemmas.{IsActing, returns, passes, orders, acts}
 use Rattle.vh_kernel.proofs.TableLemmas.{steps-by-table}
 use Rattle.vh_kernel_laws.specs.HandleLaw.{is_handle, gives, is_giving, reads, GivesOnce, GivesRight, GivesLive, NamesOne, FindsLive, FreedByRemoval, RemovalFrees, StaysFreed, RemovesCallbacks, answers_found, FindsNames, RegistersAsked}
 use Rattle.vh_kernel_laws.specs.Laws.{KeepsHandleLaw}
+use Rattle.vh_kernel_laws.specs.Deeds.{frees}
+use Rattle.vh_kernel_laws.proofs.DeedsLemmas.{IsFreeing, freeing-label}
 use Rattle.vh_kernel_laws.specs.Paths.{tells, fires, closes, answers, other, deed_of, any, IsMade, IsPath, end_of}
 use Rattle.vh_kernel_laws.proofs.FiringLemmas.{Keeps, keeps-on, RemovedFrom, removed-from}
 use Rattle.vh_handles.specs.Laws.{NumbersRise}
@@ -199,7 +201,7 @@ freed-same false h k a is alive gone =
     absurd (not_both (is_some (thing_at h a)) alive (ap (λ (o : Option Thing). is_some o) (sym (other_less h k a.live is) ∙ gone)))
 
 works-free : (s : State) (l : Label) (w : View) (h : ℕ) → Works s l w → is_some (thing_at h s.world.handles) ≡ true → thing_at h w.handles ≡ None
-    → (who : Who) × (l ≡ label.Do who (order.Remove (Some h)) (answer.Number 1))
+    → frees l ≡ Some h
 works-free s l w h (works_none quiet is) alive gone =
     absurd (lost-thing h s.world.handles w.handles alive gone (ap (λ (x : View). x.handles) is))
 works-free s l w h (empties quiet is at_finish) alive gone =
@@ -212,11 +214,9 @@ works-free s l w h (orders_one who o a is (registers_one k r b gives fresh room 
     absurd (opened-stays (nat_eq h k) h k (thing.Callback s.world.callbacks.next) s.world.handles refl alive
     (ap (λ (y : View). thing_at h y.handles) (sym after) ∙ gone))
 works-free s l w h (orders_one who o a is (removes_one c k by one names after)) alive gone =
-    let same : h ≡ k = freed-same (nat_eq h k) h k s.world.handles refl alive (ap (λ (y : View). thing_at h y.handles) (sym after) ∙ gone) in (
-      who,
-      is ∙ ap (λ (x : Order). label.Do who x a) by ∙ ap (λ (x : ℕ). label.Do who (order.Remove (Some x)) a) (sym same)
-          ∙ ap (λ (x : Answer). label.Do who (order.Remove (Some h)) x) one,
-    )
+    ap frees (is ∙ ap (λ (x : Order). label.Do who x a) by ∙ ap (λ (x : Answer). label.Do who (order.Remove (Some k)) x) one)
+    ∙ ap (λ (x : ℕ). Some x)
+    (sym (freed-same (nat_eq h k) h k s.world.handles refl alive (ap (λ (y : View). thing_at h y.handles) (sym after) ∙ gone)))
 works-free s l w h (tells_one n what is number after) alive gone =
     absurd (lost-thing h s.world.handles w.handles alive gone (ap (λ (x : View). x.handles) after))
 works-free s l w h (fires_one n c f rest is on number among after) alive gone =
@@ -231,12 +231,12 @@ freed-by-removal s moves path before behind m h is alive gone =
     works-free u m.0 (view_of m.1) h (made-works u m parts.1.0) alive gone
 
 removal-frees : (s : State) (moves : List Move) → IsPath s moves → Keeps [] (view_of s) → RemovalFrees moves
-removal-frees s moves path keeps before behind who h t is =
-    let m : Move = (label.Do who (order.Remove (Some h)) (answer.Number 1), t) in
+removal-frees s moves path keeps before behind m h is frees_it =
     let parts = path_at s moves before (m ∷ behind) path is in
     let u : State = end_of s before in
     let there : Keeps before (view_of u) = keeps-on [] s before parts.0 keeps in
-    let from : RemovedFrom u h (view_of t) = removed-from u m.0 (view_of t) who h refl (made-works u m parts.1.0) in
+    let freeing : IsFreeing m.0 h = freeing-label m.0 h frees_it in
+    let from : RemovedFrom u h (view_of m.1) = removed-from u m.0 (view_of m.1) freeing.who h freeing.number freeing.is (made-works u m parts.1.0) in
     ap (λ (x : Handles). thing_at h x) from.handles ∙ freed-none h u.world.handles there.climbs
 
 -- The world in which an order of the activation on top is performed.
@@ -607,7 +607,7 @@ removes-callbacks s moves path before behind who h a t is =
       removes = λ c running names.
           from.is ∙ removal-answer (is_startup who) (thing_at h u.world.handles) h c (performing from.vars u) from.given running names;
       names = λ one. (let gone : RemovedFrom u h (view_of t) =
-          removed-from u (label.Do who (order.Remove (Some h)) a) (view_of t) who h
+          removed-from u (label.Do who (order.Remove (Some h)) a) (view_of t) who h 1
           (ap (λ (x : Answer). label.Do who (order.Remove (Some h)) x) one) (made-works u (label.Do who (order.Remove (Some h)) a, t) parts.1.0) in
           (gone.callback, gone.names));
     }

@@ -38,11 +38,12 @@ use Rattle.vh_kernel_choice.specs.declared.chooser.Chooser.TheVariants.{Fifo}
 use Rattle.vh_kernel.specs.Run.{moves_of}
 use Rattle.vh_kernel_laws.proofs.Openings.{opening}
 use Rattle.vh_kernel.specs.State.{State}
-use Rattle.vh_kernel_laws.specs.Firing.{frames_of, TopFrame, IsTelling, TellsOnce, WasTold, FiresOnce, LeavesNone, DoneOnce, IsRemoval, RemovesForGood}
+use Rattle.vh_kernel_laws.specs.Firing.{frames_of, TopFrame, IsTelling, TellsOnce, WasTold, FiresOnce, LeavesNone, DoneOnce, RemovesForGood}
 use Rattle.vh_kernel_laws.specs.HandleLaw.{GivesOnce, GivesLive, GivesRight, FindsLive, RemovalFrees, StaysFreed, RemovesCallbacks, answers_found, FindsNames, IsRegistrable, RegistersAsked}
 use Rattle.vh_kernel_laws.specs.Pending.{pendings_in, pendings_of, statement_made, KeepsPending, TellsInTurn}
 use Rattle.vh_proc_simulation.specs.Labels.{performed}
 use Rattle.vh_kernel_laws.specs.Watching.{watches, all as to_all, one as to_one, TellsThoseWhoWatch, Calls, FiresTop, HasFrameOf, FramesStand, IsRegistration, ComesByRegistration, IsSameCallback, StaysAsRegistered}
+use Rattle.vh_kernel_laws.specs.Deeds.{removes}
 use Rattle.vh_kernel_laws.specs.Paths.{is_told, is_fire, is_fire_of, is_done, any, was_removed, end_of}
 use Rattle.vh_kernel_laws.proofs.Splits.{not_both, or_left, or_right}
 use Rattle.vh_design_first.specs.Designs.{instructions_of, codes_of}
@@ -139,12 +140,12 @@ no-missing-fire front mid reason object what told t telling among silent stays l
       | inr gone ↦ not_both (was_removed 4 mid) gone stays
     ]
 
-no-fire-of-removed : (s : State) (front behind : List Move) (removal : Move) → IsRemoval 3 (end_of s front) removal.0
+no-fire-of-removed : (s : State) (front behind : List Move) (removal : Move) → removes removal.0 (end_of s front) ≡ Some 3
     → any (is_fire_of 3) behind ≡ true → RemovesForGood s (front ++ removal ∷ behind) → ⊥
 no-fire-of-removed s front behind removal is fires law =
     not_both (any (is_fire_of 3) behind) fires (law front behind removal 3 refl is).silent
 
-no-removal-of-nothing : (s : State) (front : List Move) (removal : Move) → IsRemoval 3 (end_of s front) removal.0
+no-removal-of-nothing : (s : State) (front : List Move) (removal : Move) → removes removal.0 (end_of s front) ≡ Some 3
     → is_live 3 removal.1.world.callbacks ≡ true → RemovesForGood s (front ++ removal ∷ []) → ⊥
 no-removal-of-nothing s front removal is lives law =
     not_both (is_live 3 removal.1.world.callbacks) lives (law front [] removal 3 refl is).dead
@@ -152,7 +153,7 @@ no-removal-of-nothing s front removal is lives law =
 no-handle-left : (front : List Move) (t : State) (x : Thing) → thing_at 3 t.world.handles ≡ Some x
     → RemovalFrees (front ++ (label.Do (who_is.Callback 2) (order.Remove (Some 3)) (answer.Number 1), t) ∷ []) → ⊥
 no-handle-left front t x there law =
-    let gone : thing_at 3 t.world.handles ≡ None = law front [] (who_is.Callback 2) 3 t refl in absurd (cc)
+    let gone : thing_at 3 t.world.handles ≡ None = law front [] (label.Do (who_is.Callback 2) (order.Remove (Some 3)) (answer.Number 1), t) 3 refl refl in absurd (cc)
 
 no-later-fire : (front mid behind : List Move) (here : Move) (f : Frame) (t : State) → is_told 2 here.0 ≡ true
     → any (is_told 2) (mid ++ (label.Fire 2 5, t) ∷ behind) ≡ false → slice_get (frames_of here.1) 0 ≡ Some f → is_among 5 f.left ≡ false
@@ -258,9 +259,9 @@ done_twice t law = no-second-end (up_to 11) (from 11) t done_already law
 abbrev removal : State → Move
 removal t = (label.Do (who_is.Callback 2) (order.Remove (Some 3)) (answer.Number 1), t)
 
-removes_three : (t : State) → IsRemoval 3 (end_of start (up_to 13)) (removal t).0
+removes_three : (t : State) → removes (removal t).0 (end_of start (up_to 13)) ≡ Some 3
 unfolding instructions_of codes_of scopes_below dotted
-removes_three t = record { who = who_is.Callback 2; handle = 3; is = refl; names = refl }
+removes_three t = refl
 
 -- Callback 3 fires after it was removed.
 fires_removed : (t : State) → RemovesForGood start (up_to 13 ++ removal (state_at 13) ∷ (label.Fire 2 3, t) ∷ from 14) → ⊥

@@ -1,5 +1,7 @@
 -- Paths and their parts, and tests.
 pub mod Splits
+-- A label that frees a handle, or removes a callback, is an answered removal.
+pub mod DeedsLemmas
 -- What a label changes of that of which the laws speak.
 pub mod Works
 -- Each step of the machine is one of six kinds.

@@ -23,6 +23,7 @@ use Rattle.vh_orders.specs.Orders.{is_startup, name_meant, needs_object, needs_e
 use Rattle.vh_orders.specs.World.{World}
 use Rattle.vh_kernel.specs.Outcome.{Move}
 use Rattle.vh_kernel.specs.State.{State}
+use Rattle.vh_kernel_laws.specs.Deeds.{frees}
 use Rattle.vh_kernel_laws.specs.Paths.{Deed, tells, fires, closes, answers, other, deed_of, any, end_of}
 
 -- Is this the handle?
@@ -114,19 +115,18 @@ FindsLive s moves =
     → moves ≡ before ++ (label.Do who o a, t) ∷ behind
     → all_named (end_of s before).world (handles_read o) ≡ true → a ≡ answer.Refused code.E1 → ⊥
 
--- A handle stops being live only where the callback that it names is removed by it,
+-- A handle stops being live only where a label frees it,
 abbrev pub FreedByRemoval : State → List Move → Type 0
 FreedByRemoval s moves =
     (before behind : List Move) (m : Move) (h : ℕ) → moves ≡ before ++ m ∷ behind
     → is_some (thing_at h (end_of s before).world.handles) ≡ true → thing_at h m.1.world.handles ≡ None
-    → (who : Who) × (m.0 ≡ label.Do who (order.Remove (Some h)) (answer.Number 1))
+    → frees m.0 ≡ Some h
 
--- And an answered removal frees the handle.
+-- And what a label frees is live no more.
 abbrev pub RemovalFrees : List Move → Type 0
 RemovalFrees moves =
-    (before behind : List Move) (who : Who) (h : ℕ) (t : State)
-    → moves ≡ before ++ (label.Do who (order.Remove (Some h)) (answer.Number 1), t) ∷ behind
-    → thing_at h t.world.handles ≡ None
+    (before behind : List Move) (m : Move) (h : ℕ) → moves ≡ before ++ m ∷ behind → frees m.0 ≡ Some h
+    → thing_at h m.1.world.handles ≡ None
 
 -- After it was freed, every order that reads it answers E1, or in a startup the E9 that comes before.
 abbrev pub StaysFreed : State → List Move → Type 0

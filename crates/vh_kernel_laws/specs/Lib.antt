@@ -1,5 +1,7 @@
 -- Paths of the machine, and what their labels tell.
 pub mod Paths
+-- What a label frees and removes.
+pub mod Deeds
 -- The firing law: which callback fires for an occurrence, and when.
 pub mod Firing
 -- The law of callbacks: to whom an occurrence is told, what a fire calls, where callbacks come from.
