@@ -889,6 +889,91 @@ else
 fi
 unset TELLS ENDS
 
+# races compares what runs under several orders display; the program here displays by its order and by the name of its file
+fresh_repository
+run "$full" ./vhost races race.v
+holds [ "$status" = 125 ]
+holds grep -q '^vhost: there is no proved program of these sources, and races runs it; ./vhost prove makes the proved one' "$work/err"
+run "$full" ./vhost prove
+cat >.vhost/vhost <<'PROGRAM'
+#!/bin/sh
+echo "$*" >>"$RACED"
+case "$4 $3" in
+    "race.v lifo" | "race.v seeded:2") printf '%s\n' '0 out "one\n"' '0 startup x' '7 out "three\n"' '8 end none' ;;
+    "race.v "*) printf '%s\n' '0 startup x' '0 out "one\n"' '7 out "two\n"' '8 end none' ;;
+    "spent.v lifo") printf '%s\n' '0 out "one\n"' '0 out "two\n"' && echo 'budget spent' >&2 && exit 5 ;;
+    "spent.v "*) printf '%s\n' '0 out "one\n"' && echo 'budget spent' >&2 && exit 5 ;;
+    "ended.v lifo") printf '%s\n' '0 out "one\n"' '3 end finish' ;;
+    "ended.v "*) printf '%s\n' '0 out "one\n"' '4 end F2' && echo 'run fault: F2' >&2 && exit 4 ;;
+    "refused.v "*) echo 'design refused: N2 at 1:1:1' >&2 && exit 2 ;;
+    "gone.v lifo") echo 'out of memory' >&2 && exit 8 ;;
+    "slow.v fifo") echo '0 end none' ;;
+    "slow.v "*) echo "$$" >>"$SLEEPS" && exec sleep 60 ;;
+    *) printf '%s\n' "0 startup $3" '0 out "one\n"' '8 end none' ;;
+esac
+PROGRAM
+RACED=$work/raced SLEEPS=$work/sleeps
+export RACED SLEEPS
+# raced_so STATUS OUT ERR WORD..
+raced_so() {
+    printf '%s' "$2" >"$work/wanted.out" && printf '%s' "$3" >"$work/wanted.err"
+    wanted=$1
+    shift 3
+    : >"$RACED"
+    run "$full" ./vhost races "$@"
+    holds [ "$*: $status" = "$*: $wanted" ]
+    holds cmp -s "$work/out" "$work/wanted.out"
+    holds cmp -s "$work/err" "$work/wanted.err"
+}
+end='
+'
+raced_so 1 "a race: line 2 of the text isn't the same under all orders
+under fifo, seeded:1, seeded:3, seeded:4, seeded:5, seeded:6, seeded:7, seeded:8:
+7 out \"two\\n\"
+under lifo, seeded:2:
+7 out \"three\\n\"$end" '' race.v
+holds [ "$(wc -l <"$RACED" | tr -d ' ')" = 10 ]
+for jobs in 1 3 12; do
+    raced_so 1 "a race: line 2 of the text isn't the same under all orders
+under fifo, seeded:1, seeded:3, seeded:4, seeded:5, seeded:6, seeded:7, seeded:8 and 4 more:
+7 out \"two\\n\"
+under lifo, seeded:2:
+7 out \"three\\n\"$end" '' 12 --jobs "$jobs" race.v
+    holds [ "$(LC_ALL=C sort -u "$RACED" | wc -l | tr -d ' ')" = 14 ]
+done
+raced_so 0 "no race is seen: the text is the same under fifo, lifo and seeded:1 to seeded:3$end" '' 3 --jobs=2 a.v --budget 9
+holds [ "$(LC_ALL=C sort "$RACED" | head -n 1)" = 'run --order fifo a.v --budget 9' ]
+raced_so 0 "no race is seen: the text is the same under fifo, lifo and seeded:1 to seeded:8$end" \
+    "vhost: 10 of 10 runs spent their budget, and count as far as they went$end" spent.v
+raced_so 1 "a race: line 2 of the text isn't the same under all orders
+under fifo, seeded:1:
+4 end F2
+under lifo:
+3 end finish$end" '' 1 ended.v
+raced_so 2 '' "design refused: N2 at 1:1:1$end" refused.v
+holds [ "$(wc -l <"$RACED" | tr -d ' ')" = 1 ]
+raced_so 8 '' "out of memory$end" gone.v
+usage="usage: vhost races [N] [--jobs K] [--budget N] FILES..$end"
+raced_so 125 '' "${usage}vhost: an order is no word of races, which runs several$end" --order lifo a.v
+raced_so 125 '' "${usage}vhost: there is no .v file among the words$end"
+raced_so 125 '' "${usage}vhost: 0: how many orders seeded:N are tried is a whole number from 1 to 1000000$end" 0 a.v
+raced_so 125 '' "${usage}vhost: x: how many runs stand side by side is a whole number from 1 to 1000$end" 4 --jobs x a.v
+raced_so 125 '' "${usage}vhost: 1e6: a budget is a whole number from 1 to 2^63 - 1, in decimal digits without a leading 0$end" --budget 1e6 a.v
+holds [ ! -s "$RACED" ]
+# a look that is ended ends its runs, and leaves nothing
+: >"$SLEEPS"
+mkdir -p "$work/temporary"
+TMPDIR=$work/temporary ./vhost races --jobs 3 slow.v >/dev/null 2>&1 &
+look=$!
+while [ "$(wc -l <"$SLEEPS")" -lt 3 ]; do sleep 0.1; done
+kill "$look"
+wait "$look" 2>/dev/null
+holds [ "$?" = 143 ]
+while read -r number; do holds [ ! -d "/proc/$number" ]; done <"$SLEEPS"
+holds [ "$(wc -l <"$SLEEPS" | tr -d ' ')" = 3 ]
+holds [ -z "$(ls "$work/temporary")" ]
+unset RACED SLEEPS
+
 # 40 builds at one time: one proves, and all end well
 fresh_repository
 SLOW=2

@@ -98,6 +98,8 @@ READING = [
         lambda: "module top; reg a, b; initial b = a" + "+a\n" * 1_000_000 + "; endmodule\n",
     ),
     ("a block of 4,000,000 empty statements", lambda: "module top; initial begin " + ";" * 4_000_000 + " end endmodule\n"),
+    ("4 MB of `r=r+1;`", lambda: "module top; reg r; initial begin " + "r=r+1;" * 690_000 + " end endmodule\n"),
+    ("a task whose `fork` calls it twice", lambda: "module top; task t; fork t; t; join endtask initial t; endmodule\n"),
     ("4 MB of `begin`", lambda: "module top; initial " + "begin " * 690_000),
     ("4 MB of `(`", lambda: "module top; reg a; initial a = " + "(" * 4_000_000),
     ("4 MB of `{`", lambda: "module top; reg a; initial a = " + "{" * 4_000_000),
