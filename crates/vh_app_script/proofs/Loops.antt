@@ -13,7 +13,7 @@ use Rattle.vh_app_script.specs.Tree.{Command, Order, Test}
 use Rattle.vh_app_script.specs.Env.{Env}
 use Rattle.vh_app_script.specs.Words.{names_in}
 use Rattle.vh_app_script.specs.Conditions.{eating, one_more_plain, declaration_plain, startup_order_eats, procedure_plain}
-use Rattle.vh_app_script.specs.Grammar.{Run, Procs, grammar, the, in_parens, test, nested_block, loop_of, while_end, is_word, begins_command, begins_order, one_more, more_commands, further_names, declaration, declarations, startup_order, startup_orders, procedure, more_procedures}
+use Rattle.vh_app_script.specs.Grammar.{Run, Procs, grammar, the, in_parens, test_row, nested_block, loop_of, while_end, is_word, begins_command, begins_order, one_more, more_commands, further_names, declaration, declarations, startup_order, startup_orders, procedure, more_procedures}
 use Rattle.vh_app_script.specs.Views.{terminal, terminals}
 
 -- With the code's tokens
@@ -66,7 +66,7 @@ pub procedure_less : (levels : ℕ) (env : Env) (procs more : Procs) (ts mid : L
 procedure_less levels env procs more ts mid r = read_less grammar eating levels (procedure env procs) (procedure_plain env procs).0 ts more mid r
 
 -- A test, and what stands behind it
-pub while-read : (levels : ℕ) (env : Env) (room : ℕ) (ts mid rest : List Terminal) (t : Test) (run : Run) (made : Command × ℕ) → read grammar levels (in_parens (test env)) ts ≡ got t mid → read grammar levels (nested_block env (room - 1)) mid ≡ got run rest → made ≡ loop_of t run →
+pub while-read : (levels : ℕ) (env : Env) (room : ℕ) (ts mid rest : List Terminal) (t : Test) (run : Run) (made : Command × ℕ) → read grammar levels (in_parens (test_row env)) ts ≡ got t mid → read grammar levels (nested_block env (room - 1)) mid ≡ got run rest → made ≡ loop_of t run →
     read grammar levels (while_end env room) ts ≡ got made rest
 unfolding while_end
 while-read levels env room ts mid rest t run made e f m = rw (e, f) (ap (λ x. got x rest) (sym m))

@@ -19,7 +19,7 @@ use Rattle.vh_app_script.specs.Tree.{Test}
 use Rattle.vh_app_script.specs.Env.{Env, startup_env, procedure_env}
 use Rattle.vh_app_script.specs.Words.{opening_in, order_in}
 use Rattle.vh_app_script.specs.Grammar as g
-use Rattle.vh_app_script.specs.Grammar.{Name, block, tree_of, G, Run, Procs, grammar, get_value_row, put_value_row, body, register_row, register_systf_row, arguments, order_end, order, sign, test, set_end, nested_block, otherwise, branches, if_end, while_end, target_end, ask_end, return_end, command_end, command, one_more, any_block, heading, declaration, startup_order, startup, procedure, rest_of, declared, app}
+use Rattle.vh_app_script.specs.Grammar.{Name, block, tree_of, G, Run, Procs, grammar, get_value_row, put_value_row, body, register_row, register_systf_row, arguments, order_end, order, sign, test_row, set_end, nested_block, otherwise, branches, if_end, while_end, target_end, ask_end, return_end, command_end, command, one_more, any_block, heading, declaration, startup_order, startup, procedure, rest_of, declared, app}
 
 -- The tokens with which the production that nests begins.
 abbrev pub begins : Name → Terminal → Bool
@@ -129,8 +129,8 @@ order_plain : (env : Env) → Plain (order env)
 unfolding order
 order_plain env = (tt, order_end_plain env)
 
-test_plain : (env : Env) → Plain (test env)
-unfolding test sign
+test_plain : (env : Env) → Plain (test_row env)
+unfolding test_row sign
 test_plain env = (tt, ((tt, tt), tt))
 
 nested_plain : (env : Env) (room : ℕ) → Plain (nested_block env room)
@@ -255,8 +255,8 @@ sign_heeds (mark marks.Differs) = (refl, refl, tt, tt)
 sign_heeds (mark m) = (refl, refl, tt, tt)
 sign_heeds wrong = (refl, refl, tt, tt)
 
-test_heeds : (env : Env) (t : Terminal) → Heeds begins (test env) t
-unfolding test sign
+test_heeds : (env : Env) (t : Terminal) → Heeds begins (test_row env) t
+unfolding test_row sign
 test_heeds env t = (refl, tt, (refl, sign_heeds t, tt))
 
 nested_heeds : (env : Env) (room : ℕ) (t : Terminal) → Heeds begins (nested_block env room) t
@@ -278,7 +278,7 @@ ask_end_heeds env routine.ChkError t = (and_false _, tt, tt)
 ask_end_heeds env r t = (refl, arguments_heed env r t, tt)
 
 command_end_heeds : (env : Env) (room : ℕ) (o : Opening) (t : Terminal) → Heeds begins (command_end env room o) t
-unfolding target_end set_end return_end if_end while_end order test
+unfolding target_end set_end return_end if_end while_end order test_row
 command_end_heeds env room (opens.Target n) t = (refl, (refl, tt, order_heeds env t), tt)
 command_end_heeds env room opens.Set t =
     (refl, (refl, tt, (refl, tt, (refl, tt, (by_only (is_mark marks.Plus t), refl, (refl, tt, tt), tt)))), tt)

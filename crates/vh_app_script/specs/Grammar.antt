@@ -181,8 +181,8 @@ test_of p = record { left = p.0; same = p.1.0; right = p.1.1 }
 unfoldable pub sign : G Bool
 sign = alt (is_mark mark.Equals) (act (λ u. true) (the mark.Equals)) (act (λ u. false) (the mark.Differs))
 
-unfoldable pub test : Env → G Test
-test env = act test_of (seq (atom env) (seq sign (atom env)))
+unfoldable pub test_row : Env → G Test
+test_row env = act test_of (seq (atom env) (seq sign (atom env)))
 
 -- "set" NAME "=" atom [ "+" atom ] ";", behind its word (own)
 abbrev pub set_of : ℕ × (Atom × Option Atom) → Command
@@ -220,14 +220,14 @@ unfoldable pub branches : Env → Test → ℕ → G (Command × ℕ)
 branches env t room = bind (nested_block env room) (λ holds. act (choice_of t holds.commands) (otherwise env holds.room))
 
 unfoldable pub if_end : Env → ℕ → G (Command × ℕ)
-if_end env room = bind (in_parens (test env)) (λ t. branches env t (room - 1))
+if_end env room = bind (in_parens (test_row env)) (λ t. branches env t (room - 1))
 
 -- "while" "(" test ")" block, behind its word (own)
 abbrev pub loop_of : Test → Run → Command × ℕ
 loop_of t body = (tree.loop t (commands body.commands), body.room)
 
 unfoldable pub while_end : Env → ℕ → G (Command × ℕ)
-while_end env room = two loop_of (in_parens (test env)) (nested_block env (room - 1))
+while_end env room = two loop_of (in_parens (test_row env)) (nested_block env (room - 1))
 
 -- NAME "=" order ";", behind its name, and order ";", behind its word (own)
 unfoldable pub target_end : Env → ℕ → G Command

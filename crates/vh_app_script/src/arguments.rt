@@ -310,9 +310,9 @@ fn sign<'t, 'a>(levels: usize, at: At<'t, 'a>) -> Read<'t, 'a, bool>
 }
 
 /// `test`
-#[tactic(auto, unfolding(crate::specs::Grammar::test))]
+#[tactic(auto, unfolding(crate::specs::Grammar::test_row))]
 pub fn test<'t, 'a>(levels: usize, env: &Env<'a>, at: At<'t, 'a>) -> Read<'t, 'a, Test<'a>>
-    ensures { Reads test_seen levels (rows.test (env_seen env.now)) at.now result }
+    ensures { Reads test_seen levels (rows.test_row (env_seen env.now)) at.now result }
 {
     let (left, more) = atom(env, at)?;
     let (same, more) = sign(levels, more)?;

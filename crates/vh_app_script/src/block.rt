@@ -212,7 +212,7 @@ fn set_end<'t, 'a>(
 
 // `"(" test ")"`
 fn tested<'t, 'a>(levels: usize, env: &Env<'a>, at: At<'t, 'a>) -> Read<'t, 'a, Test<'a>>
-    ensures { let part = rows.in_parens (rows.test (env_seen env.now)) in
+    ensures { let part = rows.in_parens (rows.test_row (env_seen env.now)) in
         Reads test_seen levels part at.now result }
 {
     let inside = take_mark(at, Mark::OpenParen)?;

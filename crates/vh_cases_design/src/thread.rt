@@ -4,7 +4,7 @@ ghost use Rattle.vh_proc_thread.specs.Control.{Runs};
 
 use std::alloc::Global;
 use std::test::Fail;
-use vh_base::{NoMemory, ObjId, Place, ProcId, Sequence};
+use vh_base::{Boxed, NoMemory, ObjId, Place, ProcId, Sequence};
 use vh_design::{
     Block, Code, Design, Detail, Goes, Instruction, Kind, Leave, Name, ObjectInfo, Operation,
     Parts, StmtInfo, StmtKind,
@@ -49,13 +49,19 @@ fn instruction(stmt: u32, next: Goes, block: Option<u32>) -> Instruction {
 }
 
 // The end of a call without outputs.
-fn leave(alloc: Global, stmt: u32, next: Goes, block: Option<u32>) -> Instruction {
-    let mut end = instruction(stmt, next, block);
-    end.operation = Operation::Leave(Leave {
+fn leave(
+    alloc: Global,
+    stmt: u32,
+    next: Goes,
+    block: Option<u32>,
+) -> Result<Instruction, NoMemory> {
+    let without_outputs = Leave {
         outputs: Sequence::new(Vec::new(alloc)),
         result: None,
-    });
-    end
+    };
+    let mut end = instruction(stmt, next, block);
+    end.operation = Operation::Leave(Boxed::new(alloc, without_outputs)?);
+    Ok(end)
 }
 
 fn block(object: u32, around: Option<u32>) -> Block {
@@ -82,7 +88,7 @@ fn statement() -> StmtInfo {
 fn process(alloc: Global) -> Result<Code, NoMemory> {
     let mut instructions = Vec::new(alloc);
     instructions.push(instruction(0, Goes::To(1), Some(0)))?;
-    instructions.push(leave(alloc, 1, Goes::To(2), Some(0)))?;
+    instructions.push(leave(alloc, 1, Goes::To(2), Some(0))?)?;
     instructions.push(instruction(2, Goes::To(3), Some(1)))?;
     instructions.push(instruction(3, Goes::Back, None))?;
     let mut blocks = Vec::new(alloc);

@@ -27,7 +27,7 @@ some_told (Some k) = refl
 live_info : (c : ℕ) (s : Callbacks Body) → is_some (info_of c s) ≡ is_live c s
 live_info c s = some_told (live_at c s.live)
 
-live_by_info : (c : ℕ) (s t : Callbacks Body) → info_of c t ≡ info_of c s → is_live c t ≡ is_live c s
+pub live_by_info : (c : ℕ) (s t : Callbacks Body) → info_of c t ≡ info_of c s → is_live c t ≡ is_live c s
 live_by_info c s t same = sym (live_info c t) ∙ ap (λ (o : Option Registration). is_some o) same ∙ live_info c s
 
 some_for : (reason : Reason) (object : Option Object) (o : Option Registration) → is_some_for reason object o ≡ true → is_some o ≡ true
@@ -92,7 +92,7 @@ changes-turn s o a w (removes_one c h by one names is) = drops c (ap (λ (x : Vi
 
 pub works-turn : (s : State) (l : Label) (w : View) → Works s l w → ChangesByOne s.world.callbacks w.callbacks
 works-turn s l w (works_none quiet is) = stays (ap (λ (x : View). x.callbacks) is)
-works-turn s l w (empties quiet is) = stays (ap (λ (x : View). x.callbacks) is)
+works-turn s l w (empties quiet is at_finish) = stays (ap (λ (x : View). x.callbacks) is)
 works-turn s l w (orders_one who o a is changes) = changes-turn s o a w changes
 works-turn s l w (tells_one n what is number after) = stays (ap (λ (x : View). x.callbacks) after)
 works-turn s l w (fires_one n c f rest is on number among after) = stays (ap (λ (x : View). x.callbacks) after)
@@ -113,7 +113,7 @@ turns_next a b (adds r body room is) = let e : b.next ≡ a.next + 1 = ap (λ (x
 turns_next a b (drops c is) = let e : b.next ≡ a.next = ap (λ (x : Callbacks Body). x.next) is in omega arith
 
 -- And what was live and isn't any more isn't live again.
-gone_by : (b : Bool) (c d : ℕ) (s : Callbacks Body) → nat_eq c d ≡ b → IsSound s → is_live c s ≡ false → is_live c (removed d s) ≡ false
+pub gone_by : (b : Bool) (c d : ℕ) (s : Callbacks Body) → nat_eq c d ≡ b → IsSound s → is_live c s ≡ false → is_live c (removed d s) ≡ false
 gone_by true c d s is sound gone =
     let same : d ≡ c = sym (eqb-true c d is) in
     subst (λ (n : ℕ). is_live c (removed n s) ≡ false) (sym same) (gone_removed c s sound)

@@ -1,4 +1,4 @@
--- The firing law.
+-- The firing law: occurrences are told, their callbacks fire, and they are done.
 use Rattle.std.proofs.Common.{◌≡◌, ℕ, zero, suc, ◌+◌, ◌<◌, ◌≤◌, List, [], ◌∷◌, ◌++◌, map, filter, Bool, true, false, not, ◌&&◌, ◌||◌, nat_eq, nat_le, Option, Some, None, slice_get, refl, sym, ap, subst, ◌∙◌, arith, ◌⊎◌, inl, inr, append_assoc, append-nil}
 use Rattle.std.proofs.lemmas.Bool.{eqb-true, eq-eqb, ne_eqb, or_parts, leb-true, leb-false}
 use Rattle.vh_base.specs.declared.orders.Answer.{Answer}
@@ -20,8 +20,9 @@ use Rattle.vh_callbacks.specs.Marks.{is_among, without_number}
 use Rattle.vh_kernel.specs.Occurrences.{Occurrence, set_of}
 use Rattle.vh_kernel.specs.Outcome.{Move}
 use Rattle.vh_kernel.specs.State.{State}
-use Rattle.vh_kernel_laws.specs.Firing.{frames_of, IsTelling, TellsOnce, WasTold, FiresOnce, left_of, KeepsSets, LeavesNone, DoneOnce, ClosesInOrder, IsRemoval, GoesByRemoval, RemovesForGood}
-use Rattle.vh_kernel_laws.specs.Laws.{KeepsFiringLaw}
+use Rattle.vh_kernel_laws.specs.Firing.{frames_of, IsTelling, TellsOnce, WasTold, FiresOnce, left_of, KeepsSets, LeavesNone, DoneOnce, ClosesInOrder, GoesByRemoval, RemovesForGood}
+use Rattle.vh_kernel_laws.specs.Deeds.{removes}
+use Rattle.vh_kernel_laws.proofs.DeedsLemmas.{IsFreeing, freeing-label, FreesOf, removing-frees, removal-removes}
 use Rattle.vh_kernel_laws.specs.Paths.{Deed, tells, fires, closes, answers, other, deed_of, fires_for, fires_any, tells_of, closes_of, is_told, is_fire, is_fire_of, is_done, any, was_removed, IsPath, end_of}
 use Rattle.vh_callbacks.proofs.MarksLemmas.{among_less}
 use Rattle.vh_kernel_laws.proofs.CallbacksLemmas.{ChangesByOne, works-turn, turns_sound, turns_next, stays_gone, set-live, live_low, live_registered, live_removed, gone_removed}
@@ -271,7 +272,7 @@ works-stands history s m (works_none quiet is) keeps i f at =
     quiet-stands history s.world.callbacks m.1.world.callbacks m (frames_of s) (quiet-of m.0 quiet)
     (same-live s.world.callbacks m.1.world.callbacks (ap (λ (x : View). x.callbacks) is)) keeps.stands i f
     (sym (ap (λ (x : View). slice_get x.frames i) is) ∙ at)
-works-stands history s m (empties quiet is) keeps i f at =
+works-stands history s m (empties quiet is at_finish) keeps i f at =
     absurd (let none : slice_get (frames_of m.1) i ≡ None = ap (λ (x : View). slice_get x.frames i) is in cc)
 works-stands history s m (orders_one who o a is (changes_none plain after)) keeps i f at =
     quiet-stands history s.world.callbacks m.1.world.callbacks m (frames_of s) (order-quiet m.0 who o a is)
@@ -310,7 +311,7 @@ works-stands history s m (closes_one n g rest is on number none after) keeps i f
 works-yet : (s : State) (m : Move) → Works s m.0 (view_of m.1) → Falls s.occurrence (frames_of s)
     → (n : ℕ) → s.occurrence ≤ n → (is_done n m.0 ≡ false) × ((c : ℕ) → is_fire n c m.0 ≡ false)
 works-yet s m (works_none quiet is) falls n above = ((quiet-of m.0 quiet).undone n, (quiet-of m.0 quiet).unfired n)
-works-yet s m (empties quiet is) falls n above = ((quiet-of m.0 quiet).undone n, (quiet-of m.0 quiet).unfired n)
+works-yet s m (empties quiet is at_finish) falls n above = ((quiet-of m.0 quiet).undone n, (quiet-of m.0 quiet).unfired n)
 works-yet s m (orders_one who o a is changes) falls n above =
     ((order-quiet m.0 who o a is).undone n, (order-quiet m.0 who o a is).unfired n)
 works-yet s m (tells_one k what is number after) falls n above =
@@ -359,7 +360,7 @@ works-names : (s : State) (l : Label) (w : View) → Works s l w → NumbersRise
     → (h c : ℕ) → thing_at h w.handles ≡ Some (thing.Callback c) → c < w.callbacks.next
 works-names s l w (works_none quiet is) climb names h c =
     subst (λ (x : View). thing_at h x.handles ≡ Some (thing.Callback c) → c < x.callbacks.next) (sym is) (names h c)
-works-names s l w (empties quiet is) climb names h c =
+works-names s l w (empties quiet is at_finish) climb names h c =
     subst (λ (x : View). thing_at h x.handles ≡ Some (thing.Callback c) → c < x.callbacks.next) (sym is) (names h c)
 works-names s l w (orders_one who o a is (changes_none plain after)) climb names h c =
     subst (λ (x : View). thing_at h x.handles ≡ Some (thing.Callback c) → c < x.callbacks.next) (sym after) (names h c)
@@ -412,7 +413,7 @@ told-from : (s : State) (l : Label) (n : ℕ) (reason : Reason) (object : Option
     → Works s l w → ToldFrom s n w
 told-from s l n reason object w told (works_none quiet is) =
     absurd (let d : tells n ≡ other = ap deed_of (sym told) ∙ quiet in cc)
-told-from s l n reason object w told (empties quiet is) =
+told-from s l n reason object w told (empties quiet is at_finish) =
     absurd (let d : tells n ≡ other = ap deed_of (sym told) ∙ quiet in cc)
 told-from s l n reason object w told (orders_one who o a is changes) =
     absurd (let d : tells n ≡ answers a = ap deed_of (sym told ∙ is) in cc)
@@ -430,16 +431,16 @@ told-from s l n reason object w told (fires_one k c f rest is on number among af
 told-from s l n reason object w told (closes_one k f rest is on number none after) =
     absurd (let d : tells n ≡ closes k = ap deed_of (sym told ∙ is) in cc)
 
-record FiredFrom (s : State) (n c : ℕ) : Type 0 where
-  frame : Frame
-  rest : List Frame
-  on : frames_of s ≡ frame ∷ rest
-  number : n ≡ frame.number
-  among : is_among c frame.left ≡ true
+pub record FiredFrom (s : State) (n c : ℕ) : Type 0 where
+  pub frame : Frame
+  pub rest : List Frame
+  pub on : frames_of s ≡ frame ∷ rest
+  pub number : n ≡ frame.number
+  pub among : is_among c frame.left ≡ true
 
-fired-from : (s : State) (n c : ℕ) (w : View) → Works s (label.Fire n c) w → FiredFrom s n c
+pub fired-from : (s : State) (n c : ℕ) (w : View) → Works s (label.Fire n c) w → FiredFrom s n c
 fired-from s n c w (works_none quiet is) = absurd (let d : fires n c ≡ other = quiet in cc)
-fired-from s n c w (empties quiet is) = absurd (let d : fires n c ≡ other = quiet in cc)
+fired-from s n c w (empties quiet is at_finish) = absurd (let d : fires n c ≡ other = quiet in cc)
 fired-from s n c w (orders_one who o a is changes) = absurd (let d : fires n c ≡ answers a = ap deed_of is in cc)
 fired-from s n c w (tells_one k what is number after) = absurd (let d : fires n c ≡ tells k = ap deed_of is in cc)
 fired-from s n c w (fires_one k e f rest is on number among after) =
@@ -465,7 +466,7 @@ record DoneFrom (s : State) (n : ℕ) (w : View) : Type 0 where
 
 done-from : (s : State) (n : ℕ) (w : View) → Works s (label.Done n) w → DoneFrom s n w
 done-from s n w (works_none quiet is) = absurd (let d : closes n ≡ other = quiet in cc)
-done-from s n w (empties quiet is) = absurd (let d : closes n ≡ other = quiet in cc)
+done-from s n w (empties quiet is at_finish) = absurd (let d : closes n ≡ other = quiet in cc)
 done-from s n w (orders_one who o a is changes) = absurd (let d : closes n ≡ answers a = ap deed_of is in cc)
 done-from s n w (tells_one k what is number after) = absurd (let d : closes n ≡ tells k = ap deed_of is in cc)
 done-from s n w (fires_one k e f rest is on number among after) = absurd (let d : closes n ≡ fires k e = ap deed_of is in cc)
@@ -481,11 +482,11 @@ done-from s n w (closes_one k f rest is on number none after) =
       next = ap (λ (x : View). x.occurrence) after;
     }
 
-at-top : (s : State) (f : Frame) (rest : List Frame) → frames_of s ≡ f ∷ rest → slice_get (frames_of s) 0 ≡ Some f
+pub at-top : (s : State) (f : Frame) (rest : List Frame) → frames_of s ≡ f ∷ rest → slice_get (frames_of s) 0 ≡ Some f
 at-top s f rest on = ap (λ (fs : List Frame). slice_get fs 0) on
 
 -- A callback fires right.
-fires-once : (s : State) (moves : List Move) → IsPath s moves → Keeps [] (view_of s) → FiresOnce moves
+pub fires-once : (s : State) (moves : List Move) → IsPath s moves → Keeps [] (view_of s) → FiresOnce moves
 fires-once s moves path keeps before behind n c t is =
     let m : Move = (label.Fire n c, t) in
     let parts = path_at s moves before (m ∷ behind) path is in
@@ -535,7 +536,7 @@ set-along s moves front mid rest m n what path keeps is telling =
     let halves = path_split m.1 mid rest parts.1.1 in
     (has-on n (set_of what m.1.world.callbacks) m.1 mid halves.0 sound (starts-set u m n what works telling sound there.falls), halves.1)
 
-keeps-sets : (s : State) (moves : List Move) → IsPath s moves → Keeps [] (view_of s) → KeepsSets moves
+pub keeps-sets : (s : State) (moves : List Move) → IsPath s moves → Keeps [] (view_of s) → KeepsSets moves
 keeps-sets s moves path keeps front mid behind m n i what f is telling at of =
     (set-along s moves front mid behind m n what path keeps is telling).0.sets i f at of
 
@@ -552,7 +553,7 @@ none-among set p c none among = elim (either (p c)) [
   | inr fails ↦ fails
 ]
 
-leaves-none : (s : State) (moves : List Move) → IsPath s moves → Keeps [] (view_of s) → LeavesNone moves
+pub leaves-none : (s : State) (moves : List Move) → IsPath s moves → Keeps [] (view_of s) → LeavesNone moves
 leaves-none s moves path keeps front mid behind m n c what t is telling among =
     let last : Move = (label.Done n, t) in
     let along = set-along s moves front mid (last ∷ behind) m n what path keeps is telling in
@@ -566,7 +567,7 @@ leaves-none s moves path keeps front mid behind m n c what t is telling among =
 -- A number that was told is told no more.
 told-high : (n : ℕ) (s : State) (l : Label) (w : View) → Works s l w → n < s.occurrence → is_told n l ≡ false
 told-high n s l w (works_none quiet is) low = ap (λ (d : Deed). tells_of n d) quiet
-told-high n s l w (empties quiet is) low = ap (λ (d : Deed). tells_of n d) quiet
+told-high n s l w (empties quiet is at_finish) low = ap (λ (d : Deed). tells_of n d) quiet
 told-high n s l w (orders_one who o a is changes) low = ap (λ (x : Label). is_told n x) is
 told-high n s l w (tells_one k what is number after) low =
     ap (λ (x : Label). is_told n x) is ∙ ne_eqb n k (λ same. omega arith)
@@ -583,7 +584,7 @@ told-on n s (m ∷ moves) path low =
 telling-in : (s : State) (m : Move) (n : ℕ) (reason : Reason) (object : Option Object) → m.0 ≡ label.Occ n reason object
     → Works s m.0 (view_of m.1) → (what : Occurrence) × IsTelling m n what
 telling-in s m n reason object told (works_none quiet is) = absurd (let d : tells n ≡ other = ap deed_of (sym told) ∙ quiet in cc)
-telling-in s m n reason object told (empties quiet is) = absurd (let d : tells n ≡ other = ap deed_of (sym told) ∙ quiet in cc)
+telling-in s m n reason object told (empties quiet is at_finish) = absurd (let d : tells n ≡ other = ap deed_of (sym told) ∙ quiet in cc)
 telling-in s m n reason object told (orders_one who o a is changes) =
     absurd (let d : tells n ≡ answers a = ap deed_of (sym told ∙ is) in cc)
 telling-in s m n reason object told (tells_one k what is number after) =
@@ -595,7 +596,7 @@ telling-in s m n reason object told (fires_one k c f rest is on number among aft
 telling-in s m n reason object told (closes_one k f rest is on number none after) =
     absurd (let d : tells n ≡ closes k = ap deed_of (sym told ∙ is) in cc)
 
-tells-once : (s : State) (moves : List Move) → IsPath s moves → TellsOnce moves
+pub tells-once : (s : State) (moves : List Move) → IsPath s moves → TellsOnce moves
 tells-once s moves path before behind n reason object t is =
     let m : Move = (label.Occ n reason object, t) in
     let parts = path_at s moves before (m ∷ behind) path is in
@@ -631,7 +632,7 @@ fired-none n c (suc i) s g rest f has on at of = has.none (suc i) f (ap (λ (fs 
 frames-none : (n : ℕ) (s : State) (l : Label) (w : View) → Works s l w → HasNone n (view_of s)
     → (i : ℕ) (f : Frame) → slice_get w.frames i ≡ Some f → f.number ≡ n → ⊥
 frames-none n s l w (works_none quiet is) has i f at of = same-none n s w (ap (λ (x : View). x.frames) is) has i f at of
-frames-none n s l w (empties quiet is) has i f at of =
+frames-none n s l w (empties quiet is at_finish) has i f at of =
     let none : slice_get w.frames i ≡ None = ap (λ (x : View). slice_get x.frames i) is in absurd (cc)
 frames-none n s l w (orders_one who o a is (changes_none plain after)) has i f at of =
     same-none n s w (ap (λ (x : View). x.frames) after) has i f at of
@@ -651,7 +652,7 @@ frames-none n s l w (closes_one k g rest is on number none after) has i f at of 
 
 done-high : (n : ℕ) (s : State) (l : Label) (w : View) → Works s l w → HasNone n (view_of s) → is_done n l ≡ false
 done-high n s l w (works_none quiet is) has = ap (λ (d : Deed). closes_of n d) quiet
-done-high n s l w (empties quiet is) has = ap (λ (d : Deed). closes_of n d) quiet
+done-high n s l w (empties quiet is at_finish) has = ap (λ (d : Deed). closes_of n d) quiet
 done-high n s l w (orders_one who o a is changes) has = ap (λ (x : Label). is_done n x) is
 done-high n s l w (tells_one k what is number after) has = ap (λ (x : Label). is_done n x) is
 done-high n s l w (fires_one k c f rest is on number among after) has = ap (λ (x : Label). is_done n x) is
@@ -675,7 +676,7 @@ rest-none s f rest n on number falls i g at of =
     let there : Falls s.occurrence (f ∷ rest) = subst (λ (fs : List Frame). Falls s.occurrence fs) on falls in
     let low : g.number < f.number = falls-below f.number i rest g there.1 at in omega arith
 
-done-once : (s : State) (moves : List Move) → IsPath s moves → Keeps [] (view_of s) → DoneOnce moves
+pub done-once : (s : State) (moves : List Move) → IsPath s moves → Keeps [] (view_of s) → DoneOnce moves
 done-once s moves path keeps before behind n t is =
     let m : Move = (label.Done n, t) in
     let parts = path_at s moves before (m ∷ behind) path is in
@@ -725,12 +726,12 @@ settled-same seen s m untold frames settled k told =
 same-frames : (s : State) (w : View) → w.frames ≡ frames_of s → (k : ℕ) → HasFrame k (view_of s) → HasFrame k w
 same-frames s w same k (i, f, at, of) = (i, f, ap (λ (fs : List Frame). slice_get fs i) same ∙ at, of)
 
-get-map : (c i : ℕ) (fs : List Frame) (f : Frame) → slice_get fs i ≡ Some f → slice_get (map (taken_from c) fs) i ≡ Some (taken_from c f)
+pub get-map : (c i : ℕ) (fs : List Frame) (f : Frame) → slice_get fs i ≡ Some f → slice_get (map (taken_from c) fs) i ≡ Some (taken_from c f)
 get-map c i [] f at = absurd (cc)
 get-map c zero (g ∷ fs) f at = let same : g ≡ f = cc in ap (λ (x : Frame). Some (taken_from c x)) same
 get-map c (suc i) (g ∷ fs) f at = get-map c i fs f at
 
-fired-frames : (c : ℕ) (s : State) (f : Frame) (rest : List Frame) → frames_of s ≡ f ∷ rest
+pub fired-frames : (c : ℕ) (s : State) (f : Frame) (rest : List Frame) → frames_of s ≡ f ∷ rest
     → (k i : ℕ) (g : Frame) → slice_get (f ∷ rest) i ≡ Some g → g.number ≡ k
     → (j : ℕ) × (h : Frame) × (slice_get (taken_from c f ∷ rest) j ≡ Some h) × (h.number ≡ k)
 fired-frames c s f rest on k zero g at of =
@@ -772,7 +773,7 @@ nest-settled : (seen : List Move) (s : State) (m : Move) → Works s m.0 (view_o
     → (view_of m.1 ≡ record (view_of s) { frames = [] }) ⊎ Settled (and_then seen m) (view_of m.1)
 nest-settled seen s m (works_none quiet is) settled =
     inr (settled-same seen s m (quiet-told m.0 quiet) (same-frames s (view_of m.1) (ap (λ (x : View). x.frames) is)) settled)
-nest-settled seen s m (empties quiet is) settled = inl is
+nest-settled seen s m (empties quiet is at_finish) settled = inl is
 nest-settled seen s m (orders_one who o a is (changes_none plain after)) settled =
     inr (settled-same seen s m (λ k. ap (λ (x : Label). is_told k x) is)
     (same-frames s (view_of m.1) (ap (λ (x : View). x.frames) after)) settled)
@@ -852,7 +853,7 @@ top-is-highest s k n f rest (i, g, at, of) on number falls above =
     falls-below (f.number + 1) i (f ∷ rest) g (omega arith, there.1) (ap (λ (fs : List Frame). slice_get fs i) (sym on) ∙ at) in
     omega arith
 
-closes-in-order : (s : State) (moves : List Move) → IsPath s moves → Keeps [] (view_of s) → ClosesInOrder moves
+pub closes-in-order : (s : State) (moves : List Move) → IsPath s moves → Keeps [] (view_of s) → ClosesInOrder moves
 closes-in-order s moves path keeps front mid behind n k reason object u t is told =
     let first : Move = (label.Occ n reason object, u) in
     let last : Move = (label.Done n, t) in
@@ -883,22 +884,19 @@ lost-live c a b alive gone same = not_both (is_live c a) alive (ap (λ (x : Call
 
 goes-by : (b : Bool) (c d h : ℕ) (s : State) (l : Label) (who : Who) (o : Order) (a : Answer) → nat_eq c d ≡ b → l ≡ label.Do who o a
     → o ≡ order.Remove (Some h) → a ≡ answer.Number 1 → thing_at h s.world.handles ≡ Some (thing.Callback d)
-    → is_live c s.world.callbacks ≡ true → is_live c (removed d s.world.callbacks) ≡ false → IsRemoval c s l
+    → is_live c s.world.callbacks ≡ true → is_live c (removed d s.world.callbacks) ≡ false → removes l s ≡ Some c
 goes-by true c d h s l who o a is told by one names alive gone =
-    let same : c ≡ d = eqb-true c d is in record {
-      who = who;
-      handle = h;
-      is = told ∙ ap (λ (x : Order). label.Do who x a) by ∙ ap (λ (x : Answer). label.Do who (order.Remove (Some h)) x) one;
-      names = names ∙ ap (λ (x : ℕ). Some (thing.Callback x)) (sym same);
-    }
+    ap (λ (x : Label). removes x s)
+    (told ∙ ap (λ (x : Order). label.Do who x a) by ∙ ap (λ (x : Answer). label.Do who (order.Remove (Some h)) x) one)
+    ∙ removal-removes who h d 1 s names ∙ ap (λ (x : ℕ). Some x) (sym (eqb-true c d is))
 goes-by false c d h s l who o a is told by one names alive gone =
     absurd (not_both (is_live c s.world.callbacks) alive (sym (live_removed d c s.world.callbacks is) ∙ gone))
 
 works-go : (s : State) (l : Label) (w : View) (c : ℕ) → Works s l w → IsSound s.world.callbacks → is_live c s.world.callbacks ≡ true
-    → is_live c w.callbacks ≡ false → IsRemoval c s l
+    → is_live c w.callbacks ≡ false → removes l s ≡ Some c
 works-go s l w c (works_none quiet is) sound alive gone =
     absurd (lost-live c s.world.callbacks w.callbacks alive gone (ap (λ (x : View). x.callbacks) is))
-works-go s l w c (empties quiet is) sound alive gone =
+works-go s l w c (empties quiet is at_finish) sound alive gone =
     absurd (lost-live c s.world.callbacks w.callbacks alive gone (ap (λ (x : View). x.callbacks) is))
 works-go s l w c (orders_one who o a is (changes_none plain after)) sound alive gone =
     absurd (lost-live c s.world.callbacks w.callbacks alive gone (ap (λ (x : View). x.callbacks) after))
@@ -917,7 +915,7 @@ works-go s l w c (fires_one n d f rest is on number among after) sound alive gon
 works-go s l w c (closes_one n f rest is on number none after) sound alive gone =
     absurd (lost-live c s.world.callbacks w.callbacks alive gone (ap (λ (x : View). x.callbacks) after))
 
-goes-by-removal : (s : State) (moves : List Move) → IsPath s moves → Keeps [] (view_of s) → GoesByRemoval s moves
+pub goes-by-removal : (s : State) (moves : List Move) → IsPath s moves → Keeps [] (view_of s) → GoesByRemoval s moves
 goes-by-removal s moves path keeps before behind m c is alive gone =
     let parts = path_at s moves before (m ∷ behind) path is in
     let u : State = end_of s before in
@@ -931,14 +929,14 @@ pub record RemovedFrom (s : State) (h : ℕ) (w : View) : Type 0 where
   pub callbacks : w.callbacks ≡ removed callback s.world.callbacks
   pub handles : w.handles ≡ freed h s.world.handles
 
-changes-removed : (s : State) (h : ℕ) (o : Order) (a : Answer) (w : View) → o ≡ order.Remove (Some h) → a ≡ answer.Number 1
+changes-removed : (s : State) (h n : ℕ) (o : Order) (a : Answer) (w : View) → o ≡ order.Remove (Some h) → a ≡ answer.Number n
     → Changes s o a w → RemovedFrom s h w
-changes-removed s h o a w by one (changes_none plain after) = absurd (subst (λ (x : Answer). IsPlain x) one plain)
-changes-removed s h o a w by one (opens_one k x gives fresh finds after) =
-    absurd (let d : answer.Number 1 ≡ answer.Handle k = sym one ∙ gives in cc)
-changes-removed s h o a w by one (registers_one k r b gives fresh room asks after) =
-    absurd (let d : answer.Number 1 ≡ answer.Handle k = sym one ∙ gives in cc)
-changes-removed s h o a w by one (removes_one c k too counts names after) =
+changes-removed s h n o a w by one (changes_none plain after) = absurd (subst (λ (x : Answer). IsPlain x) one plain)
+changes-removed s h n o a w by one (opens_one k x gives fresh finds after) =
+    absurd (let d : answer.Number n ≡ answer.Handle k = sym one ∙ gives in cc)
+changes-removed s h n o a w by one (registers_one k r b gives fresh room asks after) =
+    absurd (let d : answer.Number n ≡ answer.Handle k = sym one ∙ gives in cc)
+changes-removed s h n o a w by one (removes_one c k too counts names after) =
     let both : order.Remove (Some h) ≡ order.Remove (Some k) = sym by ∙ too in
     let same : k ≡ h = cc in record {
       callback = c;
@@ -947,29 +945,29 @@ changes-removed s h o a w by one (removes_one c k too counts names after) =
       handles = ap (λ (x : View). x.handles) after ∙ ap (λ (x : ℕ). freed x s.world.handles) same;
     }
 
-pub removed-from : (s : State) (l : Label) (w : View) (who : Who) (h : ℕ) → l ≡ label.Do who (order.Remove (Some h)) (answer.Number 1)
+pub removed-from : (s : State) (l : Label) (w : View) (who : Who) (h k : ℕ) → l ≡ label.Do who (order.Remove (Some h)) (answer.Number k)
     → Works s l w → RemovedFrom s h w
-removed-from s l w who h removes (works_none quiet is) =
-    absurd (let d : answers (answer.Number 1) ≡ other = ap deed_of (sym removes) ∙ quiet in cc)
-removed-from s l w who h removes (empties quiet is) =
-    absurd (let d : answers (answer.Number 1) ≡ other = ap deed_of (sym removes) ∙ quiet in cc)
-removed-from s l w who h removes (orders_one by o a is changes) =
-    let both : label.Do who (order.Remove (Some h)) (answer.Number 1) ≡ label.Do by o a = sym removes ∙ is in
+removed-from s l w who h k removes (works_none quiet is) =
+    absurd (let d : answers (answer.Number k) ≡ other = ap deed_of (sym removes) ∙ quiet in cc)
+removed-from s l w who h k removes (empties quiet is at_finish) =
+    absurd (let d : answers (answer.Number k) ≡ other = ap deed_of (sym removes) ∙ quiet in cc)
+removed-from s l w who h k removes (orders_one by o a is changes) =
+    let both : label.Do who (order.Remove (Some h)) (answer.Number k) ≡ label.Do by o a = sym removes ∙ is in
     let same_order : o ≡ order.Remove (Some h) = cc in
-    let same_answer : a ≡ answer.Number 1 = cc in
-    changes-removed s h o a w same_order same_answer changes
-removed-from s l w who h removes (tells_one n what is number after) =
-    absurd (let d : answers (answer.Number 1) ≡ tells n = ap deed_of (sym removes ∙ is) in cc)
-removed-from s l w who h removes (fires_one n c f rest is on number among after) =
-    absurd (let d : answers (answer.Number 1) ≡ fires n c = ap deed_of (sym removes ∙ is) in cc)
-removed-from s l w who h removes (closes_one n f rest is on number none after) =
-    absurd (let d : answers (answer.Number 1) ≡ closes n = ap deed_of (sym removes ∙ is) in cc)
+    let same_answer : a ≡ answer.Number k = cc in
+    changes-removed s h k o a w same_order same_answer changes
+removed-from s l w who h k removes (tells_one n what is number after) =
+    absurd (let d : answers (answer.Number k) ≡ tells n = ap deed_of (sym removes ∙ is) in cc)
+removed-from s l w who h k removes (fires_one n c f rest is on number among after) =
+    absurd (let d : answers (answer.Number k) ≡ fires n c = ap deed_of (sym removes ∙ is) in cc)
+removed-from s l w who h k removes (closes_one n f rest is on number none after) =
+    absurd (let d : answers (answer.Number k) ≡ closes n = ap deed_of (sym removes ∙ is) in cc)
 
 -- A callback that isn't live and was registered before fires no more.
 gone-label : (history : List Move) (s : State) (l : Label) (w : View) (c : ℕ) → Works s l w → Keeps history (view_of s)
     → is_live c s.world.callbacks ≡ false → is_fire_of c l ≡ false
 gone-label history s l w c (works_none quiet is) keeps gone = ap (λ (d : Deed). fires_any c d) quiet
-gone-label history s l w c (empties quiet is) keeps gone = ap (λ (d : Deed). fires_any c d) quiet
+gone-label history s l w c (empties quiet is at_finish) keeps gone = ap (λ (d : Deed). fires_any c d) quiet
 gone-label history s l w c (orders_one who o a is changes) keeps gone = ap (λ (x : Label). is_fire_of c x) is
 gone-label history s l w c (tells_one n what is number after) keeps gone = ap (λ (x : Label). is_fire_of c x) is
 gone-label history s l w c (fires_one n d f rest is on number among after) keeps gone =
@@ -990,34 +988,25 @@ gone-on c history s (m ∷ moves) path keeps below gone =
     (gone-on c (and_then history m) m.1 moves path.1 (works-keeps history s m works keeps) (omega arith)
     (stays_gone c s.world.callbacks m.1.world.callbacks turns keeps.sound below gone))
 
-removes-for-good : (s : State) (moves : List Move) → IsPath s moves → Keeps [] (view_of s) → RemovesForGood s moves
+pub removes-for-good : (s : State) (moves : List Move) → IsPath s moves → Keeps [] (view_of s) → RemovesForGood s moves
 removes-for-good s moves path keeps before behind m c is removal =
     let parts = path_at s moves before (m ∷ behind) path is in
     let u : State = end_of s before in
     let there : Keeps before (view_of u) = keeps-on [] s before parts.0 keeps in
     let works : Works u m.0 (view_of m.1) = made-works u m parts.1.0 in
-    let from : RemovedFrom u removal.handle (view_of m.1) = removed-from u m.0 (view_of m.1) removal.who removal.handle removal.is works in
-    let both : Some (thing.Callback from.callback) ≡ Some (thing.Callback c) = sym from.names ∙ removal.names in
+    let freed_by_it : FreesOf m.0 c u = removing-frees m.0 c u removal in
+    let freeing : IsFreeing m.0 freed_by_it.handle = freeing-label m.0 freed_by_it.handle freed_by_it.frees_it in
+    let from : RemovedFrom u freed_by_it.handle (view_of m.1) =
+    removed-from u m.0 (view_of m.1) freeing.who freed_by_it.handle freeing.number freeing.is works in
+    let both : Some (thing.Callback from.callback) ≡ Some (thing.Callback c) = sym from.names ∙ freed_by_it.names in
     let same : from.callback ≡ c = cc in
     let dead : is_live c m.1.world.callbacks ≡ false =
     ap (λ (x : Callbacks Body). is_live c x) from.callbacks
     ∙ ap (λ (x : ℕ). is_live c (removed x u.world.callbacks)) same ∙ gone_removed c u.world.callbacks there.sound in
-    let low : c < u.world.callbacks.next = there.names removal.handle c removal.names in
+    let low : c < u.world.callbacks.next = there.names freed_by_it.handle c freed_by_it.names in
     let grows : u.world.callbacks.next ≤ m.1.world.callbacks.next =
     turns_next u.world.callbacks m.1.world.callbacks (works-turn u m.0 (view_of m.1) works) in
     record {
       dead = dead;
       silent = gone-on c (and_then before m) m.1 behind parts.1.1 (works-keeps before u m works there) (omega arith) dead;
     }
-
-pub firing-law : (s : State) (moves : List Move) → IsPath s moves → Keeps [] (view_of s) → KeepsFiringLaw s moves
-firing-law s moves path keeps = record {
-  told_once = tells-once s moves path;
-  fires_once = fires-once s moves path keeps;
-  sets_kept = keeps-sets s moves path keeps;
-  none_left = leaves-none s moves path keeps;
-  done_once = done-once s moves path keeps;
-  in_order = closes-in-order s moves path keeps;
-  goes_by_removal = goes-by-removal s moves path keeps;
-  removes_for_good = removes-for-good s moves path keeps;
-}

@@ -1,5 +1,5 @@
 -- The handle law.
-use Rattle.std.proofs.Common.{◌≡◌, ℕ, List, [], ◌∷◌, ◌++◌, Bool, true, false, not, ◌&&◌, ◌||◌, nat_eq, Option, Some, None, is_some, Result, Err, slice_get, refl, sym, ap, subst, ◌∙◌, ◌⊎◌, inl, inr, append_assoc}
+use Rattle.std.proofs.Common.{◌≡◌, ℕ, List, [], ◌∷◌, ◌++◌, Bool, true, false, not, ◌&&◌, ◌||◌, nat_eq, Option, Some, None, is_some, Result, Ok, Err, slice_get, refl, sym, ap, subst, ◌∙◌, ◌⊎◌, inl, inr, append_assoc}
 use Rattle.std.proofs.lemmas.Bool.{eqb-true, eq-eqb, and_parts}
 use Rattle.std.specs.List.{list_any, position}
 use Rattle.std.specs.Option.{ok_or}
@@ -15,9 +15,10 @@ use Rattle.vh_base.specs.declared.words.Code.{Code}
 use Rattle.vh_base.specs.declared.words.Code.TheVariants as code
 use Rattle.vh_base.specs.declared.words.Reason.{Reason}
 use Rattle.vh_base.specs.declared.words.Reason.TheVariants as reason
-use Rattle.vh_base.specs.Checks.{with_ok}
+use Rattle.vh_base.specs.Checks.{unless, with_ok}
 use Rattle.vh_base.proofs.ChecksLemmas.{unless-holds, with_some-holds, with_ok-holds}
 use Rattle.vh_app.specs.Script.{ScriptData}
+use Rattle.vh_callbacks.specs.declared.registration.Registration.{Registration}
 use Rattle.vh_callbacks.specs.Callbacks.{info_of, body_of, is_full as no_callback_more}
 use Rattle.vh_callbacks.proofs.LawsLemmas.{tells_registered}
 use Rattle.vh_kernel.specs.Activations.{Activation}
@@ -30,7 +31,7 @@ use Rattle.vh_kernel.specs.declared.label.Label.TheVariants as label
 use Rattle.vh_handles.specs.Handles.{Handles, thing_at, opened, freed, no_handle_more}
 use Rattle.vh_design_nodes.specs.Kinds.{is_scope}
 use Rattle.vh_orders.specs.Names.{object_named, is_kind, may_watch}
-use Rattle.vh_orders.specs.Orders.{Given, Effect, answered, effect_of, is_startup, object_in, callback_in, name_meant, new_handle, needs_object, needs_entry, object_watched, body_named, start_in, registration_of, handle_or_null, handle_if, handles_read, is_named, all_named, not_yet}
+use Rattle.vh_orders.specs.Orders.{Given, Effect, answers as answers_with, answered, effect_of, is_startup, object_in, callback_in, name_meant, new_handle, new_callback, without_callback, needs_object, needs_entry, object_watched, body_named, start_in, registration_of, handle_or_null, handle_if, handles_read, is_named, all_named, not_yet}
 use Rattle.vh_kernel.specs.Outcome.{Move}
 use Rattle.vh_kernel.specs.State.{State, without_top, with_variables}
 use Rattle.vh_orders.specs.World.{World}
@@ -38,8 +39,10 @@ use Rattle.vh_kernel.specs.Table.{Acts, Step}
 use Rattle.vh_orders.proofs.OrdersLemmas.{IsForm, refuses, answers_only, opens_object, registers, removes, effect-form}
 use Rattle.vh_kernel.proofs.StepLemmas.{IsActing, returns, passes, orders, acts}
 use Rattle.vh_kernel.proofs.TableLemmas.{steps-by-table}
-use Rattle.vh_kernel_laws.specs.HandleLaw.{is_handle, gives, is_giving, reads, GivesOnce, GivesRight, GivesLive, NamesOne, FindsLive, FreedByRemoval, RemovalFrees, StaysFreed}
+use Rattle.vh_kernel_laws.specs.HandleLaw.{is_handle, gives, is_giving, reads, GivesOnce, GivesRight, GivesLive, NamesOne, FindsLive, FreedByRemoval, RemovalFrees, StaysFreed, RemovesCallbacks, answers_found, FindsNames, RegistersAsked}
 use Rattle.vh_kernel_laws.specs.Laws.{KeepsHandleLaw}
+use Rattle.vh_kernel_laws.specs.Deeds.{frees}
+use Rattle.vh_kernel_laws.proofs.DeedsLemmas.{IsFreeing, freeing-label}
 use Rattle.vh_kernel_laws.specs.Paths.{tells, fires, closes, answers, other, deed_of, any, IsMade, IsPath, end_of}
 use Rattle.vh_kernel_laws.proofs.FiringLemmas.{Keeps, keeps-on, RemovedFrom, removed-from}
 use Rattle.vh_handles.specs.Laws.{NumbersRise}
@@ -47,7 +50,7 @@ use Rattle.vh_handles.proofs.EntriesLemmas.{other_more, same_more, other_less}
 use Rattle.vh_kernel_laws.proofs.HandlesLemmas.{Hands, works-hand, stays-given, gives-new, stays-climbing, names-still, freed-none}
 use Rattle.vh_kernel_laws.proofs.Splits.{either, not_both, or_false, path_split, path_at}
 use Rattle.vh_kernel_laws.proofs.Works.{View, view_of, Changes, changes_none, opens_one, registers_one, removes_one, Works, works_none, empties, orders_one, tells_one, fires_one, closes_one}
-use Rattle.vh_kernel_laws.proofs.WorksLemmas.{made-works}
+use Rattle.vh_kernel_laws.proofs.WorksLemmas.{same-meant, same-watched, made-works}
 
 hands : (s : State) (m : Move) → IsMade s m → Hands s.world.handles m.0 m.1.world.handles
 hands s m made = works-hand s m.0 (view_of m.1) (made-works s m made)
@@ -98,7 +101,7 @@ record AnsweredBy (s : State) (o : Order) (a : Answer) (w : View) : Type 0 where
 
 answered-by : (s : State) (who : Who) (o : Order) (a : Answer) (w : View) → Works s (label.Do who o a) w → AnsweredBy s o a w
 answered-by s who o a w (works_none quiet is) = absurd (let d : answers a ≡ other = quiet in cc)
-answered-by s who o a w (empties quiet is) = absurd (let d : answers a ≡ other = quiet in cc)
+answered-by s who o a w (empties quiet is at_finish) = absurd (let d : answers a ≡ other = quiet in cc)
 answered-by s who o a w (orders_one by p b is changes) =
     let same_order : p ≡ o = cc in
     let same_answer : b ≡ a = cc in record {
@@ -198,10 +201,10 @@ freed-same false h k a is alive gone =
     absurd (not_both (is_some (thing_at h a)) alive (ap (λ (o : Option Thing). is_some o) (sym (other_less h k a.live is) ∙ gone)))
 
 works-free : (s : State) (l : Label) (w : View) (h : ℕ) → Works s l w → is_some (thing_at h s.world.handles) ≡ true → thing_at h w.handles ≡ None
-    → (who : Who) × (l ≡ label.Do who (order.Remove (Some h)) (answer.Number 1))
+    → frees l ≡ Some h
 works-free s l w h (works_none quiet is) alive gone =
     absurd (lost-thing h s.world.handles w.handles alive gone (ap (λ (x : View). x.handles) is))
-works-free s l w h (empties quiet is) alive gone =
+works-free s l w h (empties quiet is at_finish) alive gone =
     absurd (lost-thing h s.world.handles w.handles alive gone (ap (λ (x : View). x.handles) is))
 works-free s l w h (orders_one who o a is (changes_none plain after)) alive gone =
     absurd (lost-thing h s.world.handles w.handles alive gone (ap (λ (x : View). x.handles) after))
@@ -211,11 +214,9 @@ works-free s l w h (orders_one who o a is (registers_one k r b gives fresh room 
     absurd (opened-stays (nat_eq h k) h k (thing.Callback s.world.callbacks.next) s.world.handles refl alive
     (ap (λ (y : View). thing_at h y.handles) (sym after) ∙ gone))
 works-free s l w h (orders_one who o a is (removes_one c k by one names after)) alive gone =
-    let same : h ≡ k = freed-same (nat_eq h k) h k s.world.handles refl alive (ap (λ (y : View). thing_at h y.handles) (sym after) ∙ gone) in (
-      who,
-      is ∙ ap (λ (x : Order). label.Do who x a) by ∙ ap (λ (x : ℕ). label.Do who (order.Remove (Some x)) a) (sym same)
-          ∙ ap (λ (x : Answer). label.Do who (order.Remove (Some h)) x) one,
-    )
+    ap frees (is ∙ ap (λ (x : Order). label.Do who x a) by ∙ ap (λ (x : Answer). label.Do who (order.Remove (Some k)) x) one)
+    ∙ ap (λ (x : ℕ). Some x)
+    (sym (freed-same (nat_eq h k) h k s.world.handles refl alive (ap (λ (y : View). thing_at h y.handles) (sym after) ∙ gone)))
 works-free s l w h (tells_one n what is number after) alive gone =
     absurd (lost-thing h s.world.handles w.handles alive gone (ap (λ (x : View). x.handles) after))
 works-free s l w h (fires_one n c f rest is on number among after) alive gone =
@@ -230,12 +231,12 @@ freed-by-removal s moves path before behind m h is alive gone =
     works-free u m.0 (view_of m.1) h (made-works u m parts.1.0) alive gone
 
 removal-frees : (s : State) (moves : List Move) → IsPath s moves → Keeps [] (view_of s) → RemovalFrees moves
-removal-frees s moves path keeps before behind who h t is =
-    let m : Move = (label.Do who (order.Remove (Some h)) (answer.Number 1), t) in
+removal-frees s moves path keeps before behind m h is frees_it =
     let parts = path_at s moves before (m ∷ behind) path is in
     let u : State = end_of s before in
     let there : Keeps before (view_of u) = keeps-on [] s before parts.0 keeps in
-    let from : RemovedFrom u h (view_of t) = removed-from u m.0 (view_of t) who h refl (made-works u m parts.1.0) in
+    let freeing : IsFreeing m.0 h = freeing-label m.0 h frees_it in
+    let from : RemovedFrom u h (view_of m.1) = removed-from u m.0 (view_of m.1) freeing.who h freeing.number freeing.is (made-works u m parts.1.0) in
     ap (λ (x : Handles). thing_at h x) from.handles ∙ freed-none h u.world.handles there.climbs
 
 -- The world in which an order of the activation on top is performed.
@@ -591,6 +592,74 @@ stays-freed s moves path keeps before mid behind who o a t h is given gone read 
       | inr early ↦ inr (early.0, from.is ∙ ap (λ (x : Effect). (answered x r from.given).0) early.1)
     ]
 
+-- What orders are answered that nothing speaks against.
+removal-answer : (b : Bool) (t : Option Thing) (h c : ℕ) (w : World) (g : Given) → b ≡ false → t ≡ Some (thing.Callback c)
+    → (answered (unless b code.E9 (with_ok (callback_in t) (λ d. Ok (answers_with (answer.Number 1) (without_callback d h w))))) w g).0
+    ≡ answer.Number 1
+removal-answer b t h c w g running names = rw (running, names) refl
+
+removes-callbacks : (s : State) (moves : List Move) → IsPath s moves → RemovesCallbacks s moves
+removes-callbacks s moves path before behind who h a t is =
+    let parts = path_at s moves before ((label.Do who (order.Remove (Some h)) a, t) ∷ behind) path is in
+    let u : State = end_of s before in
+    let from : OrderedFrom u who (order.Remove (Some h)) a = ordered-from u t who (order.Remove (Some h)) a parts.1.0 in
+    record {
+      removes = λ c running names.
+          from.is ∙ removal-answer (is_startup who) (thing_at h u.world.handles) h c (performing from.vars u) from.given running names;
+      names = λ one. (let gone : RemovedFrom u h (view_of t) =
+          removed-from u (label.Do who (order.Remove (Some h)) a) (view_of t) who h 1
+          (ap (λ (x : Answer). label.Do who (order.Remove (Some h)) x) one) (made-works u (label.Do who (order.Remove (Some h)) a, t) parts.1.0) in
+          (gone.callback, gone.names));
+    }
+
+new-answer : (found : Option Object) (full : Bool) (w : World) (g : Given) → no_handle_more w.handles ≡ full
+    → answers_found found full (answered (new_handle found w) w g).0
+new-answer None full w g is = refl
+new-answer (Some x) true w g is = rw is refl
+new-answer (Some x) false w g is = (g.handle, rw is refl)
+
+name-answer : (b : Bool) (meant : Result (List ℕ) Code) (name : List ℕ) (w : World) (g : Given) → b ≡ false → meant ≡ Ok name
+    → answers_found (object_named name w.names) (no_handle_more w.handles)
+    (answered (unless b code.E9 (with_ok meant (λ n. new_handle (object_named n w.names) w))) w g).0
+name-answer b meant name w g running is =
+    let P : Result (List ℕ) Code → Type 0 = λ r. answers_found (object_named name w.names) (no_handle_more w.handles)
+    (answered (unless false code.E9 (with_ok r (λ n. new_handle (object_named n w.names) w))) w g).0 in
+    let Q : Bool → Type 0 = λ x. answers_found (object_named name w.names) (no_handle_more w.handles)
+    (answered (unless x code.E9 (with_ok meant (λ n. new_handle (object_named n w.names) w))) w g).0 in
+    subst Q (sym running) (subst P (sym is) (new-answer (object_named name w.names) (no_handle_more w.handles) w g refl))
+
+finds-names : (s : State) (moves : List Move) → IsPath s moves → FindsNames s moves
+finds-names s moves path before behind who text scope name a t is running means =
+    let parts = path_at s moves before ((label.Do who (order.ByName text scope) a, t) ∷ behind) path is in
+    let u : State = end_of s before in
+    let from : OrderedFrom u who (order.ByName text scope) a = ordered-from u t who (order.ByName text scope) a parts.1.0 in
+    let w : World = performing from.vars u in
+    let P : Answer → Type 0 = answers_found (object_named name u.world.names) (no_handle_more u.world.handles) in
+    subst P (sym from.is)
+    (name-answer (is_startup who) (name_meant scope text w) name w from.given running (same-meant from.vars u scope text ∙ means))
+
+registration-answer : (a b : Bool) (object : Result (Option Object) Code) (body : Result Body Code) (o : Option Object) (y : Body)
+    (r : Option Object → ℕ → Registration) (w : World) (g : Given)
+    → a ≡ false → b ≡ false → object ≡ Ok o → body ≡ Ok y → no_callback_more w.callbacks ≡ false → no_handle_more w.handles ≡ false
+    → (answered (unless a code.E9 (unless b code.E9 (with_ok object (λ x. with_ok body (λ z. new_callback (r x) z w))))) w g).0
+    ≡ answer.Handle g.handle
+registration-answer a b object body o y r w g first second watches found room more =
+    rw (first, second, watches, found, room, more) refl
+
+registers-asked : (s : State) (moves : List Move) → IsPath s moves → RegistersAsked s moves
+registers-asked s moves path before behind who reason watched time calls user_data a t is can =
+    let o : Order = order.Register reason watched time calls user_data in
+    let parts = path_at s moves before ((label.Do who o a, t) ∷ behind) path is in
+    let u : State = end_of s before in
+    let from : OrderedFrom u who o a = ordered-from u t who o a parts.1.0 in
+    let w : World = performing from.vars u in (
+      from.given.handle,
+      from.is ∙ registration-answer (is_startup who && needs_object reason) (needs_entry reason)
+          (object_watched (needs_object reason) reason watched w) (body_named calls w.scripts) can.object can.body
+          (λ x me. registration_of reason x watched time user_data me) w from.given can.in_time can.built
+          (same-watched from.vars u (needs_object reason) reason watched ∙ can.watches) can.found can.room can.handles,
+    )
+
 pub handle-law : (s : State) (moves : List Move) → IsPath s moves → Keeps [] (view_of s) → KeepsHandleLaw s moves
 handle-law s moves path keeps = record {
   given_once = gives-once s moves path;
@@ -600,4 +669,7 @@ handle-law s moves path keeps = record {
   freed_by_removal = freed-by-removal s moves path;
   removal_frees = removal-frees s moves path keeps;
   stays_freed = stays-freed s moves path keeps;
+  removes_callbacks = removes-callbacks s moves path;
+  finds_names = finds-names s moves path;
+  registers_asked = registers-asked s moves path;
 }

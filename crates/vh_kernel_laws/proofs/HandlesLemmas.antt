@@ -49,7 +49,7 @@ changes-hand s l who o a w is (removes_one c h by one names after) =
 
 pub works-hand : (s : State) (l : Label) (w : View) → Works s l w → Hands s.world.handles l w.handles
 works-hand s l w (works_none quiet is) = gives_none (λ h. ap (λ (d : Deed). gives_of h d) quiet) (ap (λ (x : View). x.handles) is)
-works-hand s l w (empties quiet is) = gives_none (λ h. ap (λ (d : Deed). gives_of h d) quiet) (ap (λ (x : View). x.handles) is)
+works-hand s l w (empties quiet is at_finish) = gives_none (λ h. ap (λ (d : Deed). gives_of h d) quiet) (ap (λ (x : View). x.handles) is)
 works-hand s l w (orders_one who o a is changes) = changes-hand s l who o a w is changes
 works-hand s l w (tells_one n what is number after) =
     gives_none (λ h. ap (λ (x : Label). is_giving h x) is) (ap (λ (x : View). x.handles) after)

@@ -1,5 +1,5 @@
 -- Worked rows with one label changed: each is refused by a law.
-use Rattle.std.proofs.Common.{◌≡◌, ℕ, List, [], ◌∷◌, ◌++◌, take, drop, Bool, true, false, Option, Some, None, slice_get, refl, sym, ap, ◌∙◌, inl, inr, append_assoc}
+use Rattle.std.proofs.Common.{◌≡◌, ℕ, List, [], ◌∷◌, ◌++◌, take, drop, Bool, true, false, Option, Some, None, slice_get, refl, sym, ap, subst, ◌∙◌, inl, inr, append_assoc, append-nil}
 use Rattle.std.specs.Prelude.{codes, unwrap_or}
 use Rattle.std.specs.Option.{option_map}
 use Rattle.vh_base.specs.declared.first.First.{First}
@@ -13,7 +13,15 @@ use Rattle.vh_app.specs.declared.form.Form.{Form}
 use Rattle.vh_app.specs.declared.form.Form.TheVariants as form
 use Rattle.vh_app.specs.declared.form.Node.TheVariants.{Ask, Return}
 use Rattle.vh_app.specs.Script.{ScriptData}
-use Rattle.vh_callbacks.specs.Callbacks.{is_live}
+use Rattle.vh_callbacks.specs.Callbacks.{info_of, is_live}
+use Rattle.vh_callbacks.specs.declared.registration.Registration.{Registration}
+use Rattle.vh_base.specs.declared.orders.BodyName.{BodyName}
+use Rattle.vh_kernel.specs.declared.control.Control.{Control}
+use Rattle.vh_kernel.specs.declared.control.Control.TheVariants as top
+use Rattle.vh_kernel.specs.declared.occurrence.Told.{Told}
+use Rattle.vh_orders.specs.declared.who.Who.{Who}
+use Rattle.vh_orders.specs.Names.{object_named}
+use Rattle.vh_orders.specs.Orders.{needs_entry}
 use Rattle.vh_orders.specs.declared.who.Who.TheVariants as who_is
 use Rattle.vh_handles.specs.declared.handles.Thing.TheVariants as thing
 use Rattle.vh_kernel.specs.declared.label.Label.{Label}
@@ -23,15 +31,19 @@ use Rattle.vh_kernel_laws.specs.Firing.{Frame}
 use Rattle.vh_base.specs.declared.words.Reason.{Reason}
 use Rattle.vh_base.specs.declared.orders.Object.{Object}
 use Rattle.vh_handles.specs.declared.handles.Thing.{Thing}
-use Rattle.vh_handles.specs.Handles.{Handles, thing_at, opened}
+use Rattle.vh_handles.specs.Handles.{Handles, thing_at, opened, no_handle_more}
 use Rattle.vh_kernel.specs.Occurrences.{Occurrence, set_of}
 use Rattle.vh_kernel.specs.Outcome.{Move}
 use Rattle.vh_kernel_choice.specs.declared.chooser.Chooser.TheVariants.{Fifo}
 use Rattle.vh_kernel.specs.Run.{moves_of}
 use Rattle.vh_kernel_laws.proofs.Openings.{opening}
 use Rattle.vh_kernel.specs.State.{State}
-use Rattle.vh_kernel_laws.specs.Firing.{frames_of, IsTelling, TellsOnce, WasTold, FiresOnce, LeavesNone, DoneOnce, IsRemoval, RemovesForGood}
-use Rattle.vh_kernel_laws.specs.HandleLaw.{GivesOnce, GivesLive, GivesRight, FindsLive, RemovalFrees, StaysFreed}
+use Rattle.vh_kernel_laws.specs.Firing.{frames_of, TopFrame, IsTelling, TellsOnce, WasTold, FiresOnce, LeavesNone, DoneOnce, RemovesForGood}
+use Rattle.vh_kernel_laws.specs.HandleLaw.{GivesOnce, GivesLive, GivesRight, FindsLive, RemovalFrees, StaysFreed, RemovesCallbacks, answers_found, FindsNames, IsRegistrable, RegistersAsked}
+use Rattle.vh_kernel_laws.specs.Pending.{pendings_in, pendings_of, statement_made, KeepsPending, TellsInTurn}
+use Rattle.vh_proc_simulation.specs.Labels.{performed}
+use Rattle.vh_kernel_laws.specs.Watching.{watches, all as to_all, one as to_one, TellsThoseWhoWatch, Calls, FiresTop, HasFrameOf, FramesStand, IsRegistration, ComesByRegistration, IsSameCallback, StaysAsRegistered}
+use Rattle.vh_kernel_laws.specs.Deeds.{removes}
 use Rattle.vh_kernel_laws.specs.Paths.{is_told, is_fire, is_fire_of, is_done, any, was_removed, end_of}
 use Rattle.vh_kernel_laws.proofs.Splits.{not_both, or_left, or_right}
 use Rattle.vh_design_first.specs.Designs.{instructions_of, codes_of}
@@ -128,12 +140,12 @@ no-missing-fire front mid reason object what told t telling among silent stays l
       | inr gone ↦ not_both (was_removed 4 mid) gone stays
     ]
 
-no-fire-of-removed : (s : State) (front behind : List Move) (removal : Move) → IsRemoval 3 (end_of s front) removal.0
+no-fire-of-removed : (s : State) (front behind : List Move) (removal : Move) → removes removal.0 (end_of s front) ≡ Some 3
     → any (is_fire_of 3) behind ≡ true → RemovesForGood s (front ++ removal ∷ behind) → ⊥
 no-fire-of-removed s front behind removal is fires law =
     not_both (any (is_fire_of 3) behind) fires (law front behind removal 3 refl is).silent
 
-no-removal-of-nothing : (s : State) (front : List Move) (removal : Move) → IsRemoval 3 (end_of s front) removal.0
+no-removal-of-nothing : (s : State) (front : List Move) (removal : Move) → removes removal.0 (end_of s front) ≡ Some 3
     → is_live 3 removal.1.world.callbacks ≡ true → RemovesForGood s (front ++ removal ∷ []) → ⊥
 no-removal-of-nothing s front removal is lives law =
     not_both (is_live 3 removal.1.world.callbacks) lives (law front [] removal 3 refl is).dead
@@ -141,7 +153,7 @@ no-removal-of-nothing s front removal is lives law =
 no-handle-left : (front : List Move) (t : State) (x : Thing) → thing_at 3 t.world.handles ≡ Some x
     → RemovalFrees (front ++ (label.Do (who_is.Callback 2) (order.Remove (Some 3)) (answer.Number 1), t) ∷ []) → ⊥
 no-handle-left front t x there law =
-    let gone : thing_at 3 t.world.handles ≡ None = law front [] (who_is.Callback 2) 3 t refl in absurd (cc)
+    let gone : thing_at 3 t.world.handles ≡ None = law front [] (label.Do (who_is.Callback 2) (order.Remove (Some 3)) (answer.Number 1), t) 3 refl refl in absurd (cc)
 
 no-later-fire : (front mid behind : List Move) (here : Move) (f : Frame) (t : State) → is_told 2 here.0 ≡ true
     → any (is_told 2) (mid ++ (label.Fire 2 5, t) ∷ behind) ≡ false → slice_get (frames_of here.1) 0 ≡ Some f → is_among 5 f.left ≡ false
@@ -247,9 +259,9 @@ done_twice t law = no-second-end (up_to 11) (from 11) t done_already law
 abbrev removal : State → Move
 removal t = (label.Do (who_is.Callback 2) (order.Remove (Some 3)) (answer.Number 1), t)
 
-removes_three : (t : State) → IsRemoval 3 (end_of start (up_to 13)) (removal t).0
+removes_three : (t : State) → removes (removal t).0 (end_of start (up_to 13)) ≡ Some 3
 unfolding instructions_of codes_of scopes_below dotted
-removes_three t = record { who = who_is.Callback 2; handle = 3; is = refl; names = refl }
+removes_three t = refl
 
 -- Callback 3 fires after it was removed.
 fires_removed : (t : State) → RemovesForGood start (up_to 13 ++ removal (state_at 13) ∷ (label.Fire 2 3, t) ∷ from 14) → ⊥
@@ -329,3 +341,148 @@ names_another law =
 given_twice : (t : State) → GivesOnce (up_to 7 ++ registers_two t ∷ []) → ⊥
 unfolding instructions_of codes_of scopes_below dotted
 given_twice t law = not_both true refl (law (up_to 7) [] (who_is.Callback 1) _ 2 t refl).0
+
+-- An occurrence is told to another set than that of the callbacks that watch: one of several is left out, or one is in it that
+-- was registered for another reason.
+told_to_others : (m : Move) (n c : ℕ) (what : Occurrence) → IsTelling m n what → needs_entry what.reason ≡ false
+    → (is_among c (set_of what m.1.world.callbacks) ≡ watches what.reason what.object c m.1 → ⊥) → TellsThoseWhoWatch (m ∷ []) → ⊥
+told_to_others m n c what telling stands apart law = elim (law [] [] m n what refl telling) [
+  | to_all plain each ↦ apart (each c)
+  | to_one d needs alone for ↦ absurd (not_both (needs_entry what.reason) needs stands)
+]
+
+-- Of three that watch the start of simulation the last alone is told.
+abbrev to_the_last : Occurrence
+to_the_last = record { reason = reason.CbStartOfSimulation; object = None; value = None; index = None; only = Some 4 }
+
+told_to_one : (t : State) → IsTelling (label.Occ 2 reason.CbStartOfSimulation None, t) 2 to_the_last
+    → set_of to_the_last t.world.callbacks ≡ 4 ∷ [] → watches reason.CbStartOfSimulation None 2 t ≡ true
+    → TellsThoseWhoWatch ((label.Occ 2 reason.CbStartOfSimulation None, t) ∷ []) → ⊥
+told_to_one t telling set there law =
+    told_to_others (label.Occ 2 reason.CbStartOfSimulation None, t) 2 2 to_the_last telling refl
+    (λ same. not_both (watches reason.CbStartOfSimulation None 2 t) there (sym same ∙ ap (λ (xs : List ℕ). is_among 2 xs) set)) law
+
+-- A fire that calls nothing.
+fire_calls_nothing : (s : State) (f : Told) (rest : List Control) (n c : ℕ) → s.control ≡ top.Frame f ∷ rest
+    → FiresTop s ((label.Fire n c, s) ∷ []) → ⊥
+fire_calls_nothing s f rest n c on law =
+    let fire : Calls s n c s = law [] [] n c s refl in
+    let both : top.Frame f ∷ rest ≡ top.Activation fire.activation ∷ s.control = sym on ∙ fire.begins in
+    let wrong : top.Frame f ≡ top.Activation fire.activation = cc in absurd (cc)
+
+-- A fire for an occurrence whose frame isn't on top.
+fires_below : (s t : State) (f : Frame) (c : ℕ) → TopFrame s f → f.number ≡ 3 → FiresTop s ((label.Fire 2 c, t) ∷ []) → ⊥
+fires_below s t f c on above law =
+    let fire : Calls s 2 c t = law [] [] 2 c t refl in
+    let both : Some f ≡ Some fire.frame = sym on ∙ fire.is_top in
+    let same : f ≡ fire.frame = cc in
+    absurd (let number : 3 ≡ 2 = sym above ∙ ap (λ (g : Frame). g.number) same ∙ fire.number in cc)
+
+-- A frame goes without its end.
+frame_vanishes : (who : Who) (s t : State) (n : ℕ) → HasFrameOf n s → frames_of t ≡ [] → FramesStand s ((label.Pass who, t) ∷ []) → ⊥
+frame_vanishes who s t n has none law = elim (law [] [] (label.Pass who, t) n refl has) [
+  | inl still ↦ absurd (let at : None ≡ Some still.1 = ap (λ (fs : List Frame). slice_get fs still.0) (sym none) ∙ still.2 in cc)
+  | inr gone ↦ elim gone [
+    | inl is ↦ absurd (let wrong : label.Pass who ≡ label.Done n = is in cc)
+    | inr finish ↦ absurd (let wrong : label.Pass who ≡ label.Finish finish.0 = finish.1 in cc)
+  ]
+]
+
+-- A callback from nowhere.
+from_nowhere : (who : Who) (s t : State) (c : ℕ) → is_live c s.world.callbacks ≡ false → is_live c t.world.callbacks ≡ true
+    → ComesByRegistration s ((label.Pass who, t) ∷ []) → ⊥
+from_nowhere who s t c gone alive law =
+    let came : IsRegistration c (label.Pass who) t = law [] [] (label.Pass who, t) c refl gone alive in absurd (let wrong = came.is in cc)
+
+-- What a callback was registered for changes.
+changes_what_it_watches : (who : Who) (s t : State) (c : ℕ) (r q : Registration) → info_of c s.world.callbacks ≡ Some r
+    → info_of c t.world.callbacks ≡ Some q → is_live c s.world.callbacks ≡ true → is_live c t.world.callbacks ≡ true → (r ≡ q → ⊥)
+    → StaysAsRegistered s ((label.Pass who, t) ∷ []) → ⊥
+changes_what_it_watches who s t c r q first second was alive apart law =
+    let same : IsSameCallback c s t = law [] [] (label.Pass who, t) c refl was alive in
+    let both : Some r ≡ Some q = sym first ∙ sym same.registration ∙ second in apart (cc)
+
+-- A removal of a live callback that is refused, and one of an object's handle that is answered 1.
+removal_refused : (s t : State) (h c : ℕ) → thing_at h s.world.handles ≡ Some (thing.Callback c)
+    → RemovesCallbacks s ((label.Do (who_is.Callback 2) (order.Remove (Some h)) (answer.Refused code.E2), t) ∷ []) → ⊥
+removal_refused s t h c names law =
+    let right : answer.Refused code.E2 ≡ answer.Number 1 =
+    (law [] [] (who_is.Callback 2) h (answer.Refused code.E2) t refl).removes c refl names in absurd (cc)
+
+removes_an_object : (who : Who) (s t : State) (h : ℕ) (x : Object) → thing_at h s.world.handles ≡ Some (thing.Object x)
+    → RemovesCallbacks s ((label.Do who (order.Remove (Some h)) (answer.Number 1), t) ∷ []) → ⊥
+removes_an_object who s t h x names law =
+    let found = (law [] [] who h (answer.Number 1) t refl).names refl in
+    let both : Some (thing.Object x) ≡ Some (thing.Callback found.0) = sym names ∙ found.1 in absurd (cc)
+
+-- A name that is there and isn't found, and a registration that is refused without a cause.
+name_not_found : (s t : State) (text : List ℕ) (x : Object) → object_named text s.world.names ≡ Some x
+    → no_handle_more s.world.handles ≡ false
+    → FindsNames s ((label.Do (who_is.Callback 1) (order.ByName text None) answer.Null, t) ∷ []) → ⊥
+name_not_found s t text x found room law =
+    let told : answers_found (object_named text s.world.names) (no_handle_more s.world.handles) answer.Null =
+    law [] [] (who_is.Callback 1) text None text answer.Null t refl refl refl in
+    let right : answers_found (Some x) false answer.Null =
+    subst (λ (b : Bool). answers_found (Some x) b answer.Null) room
+    (subst (λ (o : Option Object). answers_found o (no_handle_more s.world.handles) answer.Null) found told) in
+    let wrong : answer.Null ≡ answer.Handle right.0 = right.1 in absurd (cc)
+
+registration_refused : (who : Who) (s t : State) (watched : Option ℕ) (time n : ℕ) (calls : BodyName)
+    → IsRegistrable s.world who reason.CbValueChange watched calls
+    → RegistersAsked s ((label.Do who (order.Register reason.CbValueChange watched time calls n) (answer.Refused code.E13), t) ∷ []) → ⊥
+registration_refused who s t watched time n calls can law =
+    let right = law [] [] who reason.CbValueChange watched time calls n (answer.Refused code.E13) t refl can in
+    let wrong : answer.Refused code.E13 ≡ answer.Handle right.0 = right.1 in absurd (cc)
+
+-- Somebody watches what is passed over.
+some-watch : (o : Occurrence) (passed : List Occurrence) (t : State) (c : ℕ) (cs : List ℕ) → slice_get passed 0 ≡ Some o
+    → ((i : ℕ) (p : Occurrence) → slice_get passed i ≡ Some p → set_of p t.world.callbacks ≡ [])
+    → set_of o t.world.callbacks ≡ c ∷ cs → ⊥
+some-watch o passed t c cs at none watched = absurd (let wrong : [] ≡ c ∷ cs = sym (none 0 o at) ∙ watched in cc)
+
+-- No change is ever told: what was pending is dropped, or what a statement has changed isn't pending.
+drops_what_is_pending : (who : Who) (s t : State) (o : Occurrence) (os : List Occurrence) (c : ℕ) (cs : List ℕ)
+    → pendings_of s ≡ o ∷ os → pendings_of t ≡ [] → set_of o t.world.callbacks ≡ c ∷ cs → TellsInTurn s ((label.Pass who, t) ∷ []) → ⊥
+drops_what_is_pending who s t o os c cs stood none watched law =
+    let kept : KeepsPending s (label.Pass who, t) = law [] [] (label.Pass who, t) refl in
+    let all : o ∷ os ≡ kept.passed =
+    sym stood ∙ sym kept.leaves ∙ ap (λ (made : List Occurrence). made ++ kept.rest) (sym kept.makes) ∙ kept.in_order
+    ∙ ap (λ (ps : List Occurrence). kept.passed ++ ps) none ∙ append-nil kept.passed in
+    some-watch o kept.passed t c cs (ap (λ (ps : List Occurrence). slice_get ps 0) (sym all)) kept.unwatched watched
+
+drops_what_it_makes : (p : ℕ) (s t : State) (o : Occurrence) (os : List Occurrence) (c : ℕ) (cs : List ℕ)
+    → statement_made (performed p s.world.activity) ≡ o ∷ os → pendings_of t ≡ [] → set_of o t.world.callbacks ≡ c ∷ cs
+    → TellsInTurn s ((label.Stmt p None, t) ∷ []) → ⊥
+drops_what_it_makes p s t o os c cs makes none watched law =
+    let kept : KeepsPending s (label.Stmt p None, t) = law [] [] (label.Stmt p None, t) refl in
+    let all : o ∷ (os ++ kept.rest) ≡ kept.passed =
+    ap (λ (made : List Occurrence). made ++ kept.rest) (sym makes ∙ sym kept.makes) ∙ kept.in_order
+    ∙ ap (λ (ps : List Occurrence). kept.passed ++ ps) none ∙ append-nil kept.passed in
+    some-watch o kept.passed t c cs (ap (λ (ps : List Occurrence). slice_get ps 0) (sym all)) kept.unwatched watched
+
+-- An occurrence that nothing made is told; and one is told that is still pending then.
+tells_what_did_not_happen : (s t : State) (p n : ℕ) (xs : List Control) (why : Reason) (object : Option Object)
+    → s.control ≡ top.Process p ∷ xs → pendings_of s ≡ [] → TellsInTurn s ((label.Occ n why object, t) ∷ []) → ⊥
+tells_what_did_not_happen s t p n xs why object on none law =
+    let kept : KeepsPending s (label.Occ n why object, t) = law [] [] (label.Occ n why object, t) refl in
+    elim kept.leaves [
+      | inl first ↦ absurd (let wrong : [] ≡ first.0 ∷ kept.rest = sym none ∙ first.2 in cc)
+      | inr alone ↦ absurd (let wrong : top.Process p ∷ xs ≡ [] = sym on ∙ alone.0 in cc)
+    ]
+
+no-front : (passed : List Occurrence) (o : Occurrence) → [] ≡ passed ++ o ∷ [] → ⊥
+no-front [] o same = absurd (cc)
+no-front (p ∷ passed) o same = absurd (cc)
+
+tells_again : (s t : State) (o : Occurrence) (n : ℕ) (why : Reason) (object : Option Object) → pendings_of s ≡ o ∷ []
+    → pendings_of t ≡ o ∷ [] → TellsInTurn s ((label.Occ n why object, t) ∷ []) → ⊥
+tells_again s t o n why object stood stands law =
+    let kept : KeepsPending s (label.Occ n why object, t) = law [] [] (label.Occ n why object, t) refl in
+    elim kept.leaves [
+      | inl first ↦ (let both : o ∷ [] ≡ first.0 ∷ kept.rest = sym stood ∙ first.2 in
+          let rest : kept.rest ≡ [] = cc in
+          no-front kept.passed o
+          (sym rest ∙ ap (λ (made : List Occurrence). made ++ kept.rest) (sym kept.makes) ∙ kept.in_order
+          ∙ ap (λ (ps : List Occurrence). kept.passed ++ ps) stands))
+      | inr alone ↦ absurd (let wrong : o ∷ [] ≡ [] = sym stood ∙ ap pendings_in alone.0 in cc)
+    ]

@@ -1,5 +1,5 @@
 -- Every path from a fresh state keeps the laws, and so does every run.
-use Rattle.std.proofs.Common.{◌≡◌, ℕ, ◌<◌, ◌%◌, List, [], ◌∷◌, Bool, true, false, if◌then◌else◌, nat_lt, None, slice_get, refl, sym, ap, subst, inl, inr, arith}
+use Rattle.std.proofs.Common.{◌≡◌, ℕ, zero, suc, ◌+◌, ◌<◌, ◌%◌, List, [], ◌∷◌, ◌++◌, length, is_some, Bool, true, false, if◌then◌else◌, nat_lt, None, slice_get, refl, sym, ap, subst, inl, inr, arith}
 use Rattle.std.proofs.Math.Nat.{mod-lt}
 use Rattle.vh_callbacks.proofs.LawsLemmas.{sound_opening}
 use Rattle.vh_orders.specs.declared.who.Body.{Body}
@@ -9,17 +9,21 @@ use Rattle.vh_kernel_choice.specs.declared.chooser.Chooser.{Chooser}
 use Rattle.vh_kernel_choice.specs.declared.chooser.Chooser.TheVariants as chooser
 use Rattle.vh_kernel_choice.specs.Choices.{drawn, chosen, chooser_after}
 use Rattle.vh_kernel.specs.Run.{IsRun}
-use Rattle.vh_kernel.specs.State.{State}
+use Rattle.vh_kernel.specs.State.{State, startups}
+use Rattle.vh_kernel.specs.declared.occurrence.Agendum.{Agendum}
+use Rattle.vh_kernel.specs.declared.occurrence.Agendum.TheVariants as agendum
+use Rattle.vh_base.specs.declared.words.Reason.TheVariants as reason
 use Rattle.vh_kernel.specs.declared.control.Control.{Control}
-use Rattle.vh_kernel.specs.Settle.{is_void, without_front}
+use Rattle.vh_kernel.specs.Settle.{is_void, is_void_item, settled, settled_control, without_front}
 use Rattle.vh_kernel.specs.Step.{choices_of, is_end, is_over}
 use Rattle.vh_callbacks.specs.Callbacks.{IsSound}
 use Rattle.vh_orders.specs.World.{World}
 use Rattle.vh_kernel.proofs.StepLemmas.{some-choice, step-goes}
 use Rattle.vh_kernel_laws.specs.Firing.{frames_in, frames_of}
-use Rattle.vh_kernel_laws.specs.Laws.{IsFresh, PathsKeepLaws, RunsKeepLaws, OpensFresh}
+use Rattle.vh_kernel_laws.specs.Laws.{IsFresh, all_need_none, PathsKeepLaws, RunsKeepLaws, OpensFresh}
 use Rattle.vh_kernel_laws.specs.Paths.{IsPath}
-use Rattle.vh_kernel_laws.proofs.FiringLemmas.{Keeps, firing-law}
+use Rattle.vh_kernel_laws.proofs.FiringLemmas.{Keeps}
+use Rattle.vh_kernel_laws.proofs.WatchingLemmas.{AllPlain, IsPlainState, items-plain, firing-law}
 use Rattle.vh_kernel_laws.proofs.HandleLawLemmas.{handle-law}
 use Rattle.vh_handles.specs.Laws.{NumbersRise}
 use Rattle.vh_kernel_laws.proofs.SetsLemmas.{Falls}
@@ -37,9 +41,14 @@ fresh-keeps s fresh = record {
   ahead = λ n above. record { undone = refl; unfired = λ c. refl };
 }
 
+fresh-plain : (s : State) → IsFresh s → IsPlainState s
+fresh-plain s fresh = record { control = subst AllPlain (sym fresh.alone) tt; agenda = fresh.plain }
+
 pub paths-keep-laws : PathsKeepLaws
-paths-keep-laws s moves fresh path =
-    record { firing = firing-law s moves path (fresh-keeps s fresh); handles = handle-law s moves path (fresh-keeps s fresh) }
+paths-keep-laws s moves fresh path = record {
+  firing = firing-law s moves path (fresh-keeps s fresh) (fresh-plain s fresh);
+  handles = handle-law s moves path (fresh-keeps s fresh);
+}
 
 -- The choice of an order is one of those that there are.
 drawn-low : (b : Bool) (n count : ℕ) → 0 < count → (if b then n % count else 0) < count
@@ -68,11 +77,27 @@ pub runs-keep-laws : RunsKeepLaws
 runs-keep-laws s fresh order moves run =
     paths-keep-laws s moves fresh (run-path order s moves (some-choice s fresh.going) run)
 
+-- Nothing on the agenda of an opening stands for an entry of the event queue.
+opening-plain : (k n : ℕ) → all_need_none (startups k n ++ agendum.Occurrence reason.CbEndOfCompile ∷ agendum.Occurrence reason.CbStartOfSimulation ∷ [])
+opening-plain k zero = (refl, (refl, tt))
+opening-plain k (suc n) = (tt, opening-plain (k + 1) n)
+
+either-items : (b : Bool) (xs ys : List Agendum) → all_need_none xs → all_need_none ys → all_need_none (if b then xs else ys)
+either-items true xs ys first second = first
+either-items false xs ys first second = second
+
+settled-items : (s : State) → all_need_none s.agenda → all_need_none (settled s).agenda
+settled-items s plain =
+    either-items (is_some (slice_get (settled_control s) 0)) s.agenda (without_front (is_void_item s.world.callbacks) s.agenda) plain
+    (items-plain s.world.callbacks s.agenda plain)
+
 pub opens-fresh : OpensFresh
 opens-fresh d scripts s opens =
     let P : State → Type 0 = IsFresh in
     subst P (sym opens.settles) (record {
       going = ap (λ (w : World). is_over w.phase) opens.is.world;
+      plain = settled-items opens.before
+          (subst all_need_none (sym opens.is.agenda) (opening-plain 1 (length scripts)));
       alone = ap (λ (cs : List Control). without_front (is_void opens.before.world.callbacks) cs) opens.is.control;
       none_given = ap (λ (w : World). w.handles) opens.is.world;
       sound = subst (λ (w : World). IsSound w.callbacks) (sym opens.is.world) (sound_opening Body);

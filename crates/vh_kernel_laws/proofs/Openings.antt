@@ -1,5 +1,5 @@
 -- The opening of a design of the first subset with its scripts, with the store and the waits written out, for rows that are computed.
-use Rattle.std.specs.Prelude.{List, [], map}
+use Rattle.std.specs.Prelude.{List, []}
 use Rattle.vh_app.specs.Script.{ScriptData}
 use Rattle.vh_base.specs.declared.first.First.{First}
 use Rattle.vh_design.specs.Shape.{Shape}

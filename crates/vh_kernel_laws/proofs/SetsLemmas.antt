@@ -121,7 +121,7 @@ falls-map c high (f ∷ fs) falls = (falls.0, falls-map c f.number fs falls.1)
 
 pub works-falls : (s : State) (l : Label) (w : View) → Works s l w → Falls s.occurrence (frames_of s) → Falls w.occurrence w.frames
 works-falls s l w (works_none quiet is) falls = subst (λ (x : View). Falls x.occurrence x.frames) (sym is) falls
-works-falls s l w (empties quiet is) falls = subst (λ (x : View). Falls x.occurrence x.frames) (sym is) tt
+works-falls s l w (empties quiet is at_finish) falls = subst (λ (x : View). Falls x.occurrence x.frames) (sym is) tt
 works-falls s l w (orders_one who o a is (changes_none plain after)) falls = subst (λ (x : View). Falls x.occurrence x.frames) (sym after) falls
 works-falls s l w (orders_one who o a is (opens_one h x gives fresh finds after)) falls =
     subst (λ (x : View). Falls x.occurrence x.frames) (sym after) falls
@@ -143,7 +143,7 @@ works-falls s l w (closes_one n f rest is on number none after) falls =
 -- The number of the next occurrence doesn't fall.
 pub works-number : (s : State) (l : Label) (w : View) → Works s l w → s.occurrence ≤ w.occurrence
 works-number s l w (works_none quiet is) = let e : w.occurrence ≡ s.occurrence = ap (λ (x : View). x.occurrence) is in omega arith
-works-number s l w (empties quiet is) = let e : w.occurrence ≡ s.occurrence = ap (λ (x : View). x.occurrence) is in omega arith
+works-number s l w (empties quiet is at_finish) = let e : w.occurrence ≡ s.occurrence = ap (λ (x : View). x.occurrence) is in omega arith
 works-number s l w (orders_one who o a is (changes_none plain after)) =
     let e : w.occurrence ≡ s.occurrence = ap (λ (x : View). x.occurrence) after in omega arith
 works-number s l w (orders_one who o a is (opens_one h x gives fresh finds after)) =
@@ -285,7 +285,7 @@ works-sets n set s l w (works_none quiet is) sound has =
     sets-same n s l w set (ap (λ (x : View). x.frames) is)
     (left-all n l w.callbacks set (quiet-fire l quiet n)
     (λ c among. ap (λ (x : View). is_live c x.callbacks) is ∙ has.live c among)) has.sets
-works-sets n set s l w (empties quiet is) sound has =
+works-sets n set s l w (empties quiet is at_finish) sound has =
     subst (λ (fs : List Frame). SetsAre n (left_by n l w.callbacks set) fs) (sym (ap (λ (x : View). x.frames) is))
     (λ i f at of. absurd (cc))
 works-sets n set s l w (orders_one who o a is (changes_none plain after)) sound has =

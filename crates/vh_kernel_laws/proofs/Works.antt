@@ -1,6 +1,7 @@
 -- What a label changes of that of which the laws speak: the frames, the callbacks, the handles and the
 -- number of the next occurrence. Each step of the machine is one of six kinds.
 use Rattle.std.proofs.Common.{◌≡◌, ℕ, ◌+◌, List, [], ◌∷◌, map, true, false, Option, Some, Ok}
+use Rattle.vh_base.specs.declared.faults.Cause.{Cause}
 use Rattle.vh_base.specs.declared.orders.Answer.{Answer}
 use Rattle.vh_base.specs.declared.orders.Answer.TheVariants as answer
 use Rattle.vh_base.specs.declared.orders.BodyName.{BodyName}
@@ -87,8 +88,8 @@ pub data Changes (s : State) (o : Order) (a : Answer) (w : View) : Type 0 where
 pub data Works (s : State) (l : Label) (w : View) : Type 0 where
   -- nothing;
   works_none : deed_of l ≡ other → w ≡ view_of s → Works s l w
-  -- control is emptied;
-  empties : deed_of l ≡ other → w ≡ record (view_of s) { frames = [] } → Works s l w
+  -- a finish empties control;
+  empties : deed_of l ≡ other → w ≡ record (view_of s) { frames = [] } → (cause : Cause) × (l ≡ label.Finish cause) → Works s l w
   -- an order is answered;
   orders_one : (who : Who) (o : Order) (a : Answer) → l ≡ label.Do who o a → Changes s o a w → Works s l w
   -- an occurrence gets the next number, and a frame with its set;

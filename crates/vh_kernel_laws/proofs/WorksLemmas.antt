@@ -246,15 +246,15 @@ form-changes o s g e (removes c h by names is) =
     (frames-without c s.control s.world.frames)))
 
 -- The same change, seen from the state with the activation on top.
-abbrev performing : List (List Answer) → State → State
+abbrev pub performing : List (List Answer) → State → State
 performing vars s = with_variables vars (without_top s)
 
-same-meant : (vars : List (List Answer)) (s : State) (scope : Option ℕ) (text : List ℕ)
+pub same-meant : (vars : List (List Answer)) (s : State) (scope : Option ℕ) (text : List ℕ)
     → name_meant scope text (performing vars s).world ≡ name_meant scope text s.world
 same-meant vars s None text = refl
 same-meant vars s (Some h) text = refl
 
-same-watched : (vars : List (List Answer)) (s : State) (needs : Bool) (r : Reason) (h : Option ℕ)
+pub same-watched : (vars : List (List Answer)) (s : State) (needs : Bool) (r : Reason) (h : Option ℕ)
     → object_watched needs r h (performing vars s).world ≡ object_watched needs r h s.world
 same-watched vars s false r h = refl
 same-watched vars s true r None = refl
@@ -388,7 +388,7 @@ row-works s u (label.Stmt p shown) row =
     works_none refl
     (left-view (view_of (without_top s)) _ row.made u row.makes row.leaves.1 (statement-view p (performed p s.world.activity) (without_top s))
     ∙ popped-view s (top.Process p) row.on.on refl)
-row-works s u (label.Finish c) row = empties refl (ap view_of row.1)
+row-works s u (label.Finish c) row = empties refl (ap view_of row.1) (c, refl)
 row-works s u (label.End (ending.Cause c)) row = works_none refl (ap view_of row.3)
 row-works s u (label.End (ending.Fault f)) row = works_none refl (ap view_of row.1)
 

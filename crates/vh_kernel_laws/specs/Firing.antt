@@ -1,24 +1,20 @@
 -- The firing law: which callback fires for an occurrence, and when. (IEEE 1364-2005, 27.33; what a removal
 -- or a registration meanwhile does is own)
 use Rattle.std.specs.Prelude.{◌≡◌, ℕ, List, [], ◌∷◌, ◌++◌, true, false, not, ◌&&◌, drop, filter, slice_get, Option, Some, ◌⊎◌}
-use Rattle.vh_base.specs.declared.orders.Answer.TheVariants as answer
 use Rattle.vh_base.specs.declared.orders.Object.{Object}
-use Rattle.vh_base.specs.declared.orders.Order.TheVariants as orders
 use Rattle.vh_base.specs.declared.words.Reason.{Reason}
 use Rattle.vh_callbacks.specs.Callbacks.{is_live}
 use Rattle.vh_dispatch.specs.Frames.{top_set}
-use Rattle.vh_orders.specs.declared.who.Who.{Who}
 use Rattle.vh_kernel.specs.declared.control.Control.{Control}
 use Rattle.vh_kernel.specs.declared.control.Control.TheVariants as top
-use Rattle.vh_handles.specs.declared.handles.Thing.TheVariants as thing
 use Rattle.vh_kernel.specs.declared.label.Label.{Label}
 use Rattle.vh_kernel.specs.declared.label.Label.TheVariants as label
 use Rattle.vh_kernel.specs.declared.occurrence.Told.{Told}
-use Rattle.vh_handles.specs.Handles.{thing_at}
 use Rattle.vh_kernel.specs.Occurrences.{Occurrence, set_of}
 use Rattle.vh_kernel.specs.Outcome.{Move}
 use Rattle.vh_kernel.specs.State.{State}
 use Rattle.vh_callbacks.specs.Marks.{is_among}
+use Rattle.vh_kernel_laws.specs.Deeds.{removes}
 use Rattle.vh_kernel_laws.specs.Paths.{is_told, is_fire, is_fire_of, is_done, any, was_removed, end_of}
 
 -- A frame: the number of its occurrence, the occurrence, and the callbacks that are still to fire for it.
@@ -113,19 +109,12 @@ ClosesInOrder moves =
     → moves ≡ front ++ (label.Occ n reason object, u) ∷ mid ++ (label.Done n, t) ∷ behind
     → any (is_told k) mid ≡ true → any (is_done k) mid ≡ true
 
--- The label is a removal of the callback, by a handle that names it.
-pub record IsRemoval (c : ℕ) (s : State) (l : Label) : Type 0 where
-  pub who : Who
-  pub handle : ℕ
-  pub is : l ≡ label.Do who (orders.Remove (Some handle)) (answer.Number 1)
-  pub names : thing_at handle s.world.handles ≡ Some (thing.Callback c)
-
 -- A callback stops being live only where it is removed,
 abbrev pub GoesByRemoval : State → List Move → Type 0
 GoesByRemoval s moves =
     (before behind : List Move) (m : Move) (c : ℕ) → moves ≡ before ++ m ∷ behind
     → is_live c (end_of s before).world.callbacks ≡ true → is_live c m.1.world.callbacks ≡ false
-    → IsRemoval c (end_of s before) m.0
+    → removes m.0 (end_of s before) ≡ Some c
 
 -- And where it is removed it is live no more, and fires no more.
 pub record IsGone (c : ℕ) (m : Move) (behind : List Move) : Type 0 where
@@ -135,4 +124,4 @@ pub record IsGone (c : ℕ) (m : Move) (behind : List Move) : Type 0 where
 abbrev pub RemovesForGood : State → List Move → Type 0
 RemovesForGood s moves =
     (before behind : List Move) (m : Move) (c : ℕ) → moves ≡ before ++ m ∷ behind
-    → IsRemoval c (end_of s before) m.0 → IsGone c m behind
+    → removes m.0 (end_of s before) ≡ Some c → IsGone c m behind

@@ -1,6 +1,6 @@
 -- The handle law: what a handle names from its giving to its freeing, and what it answers after that.
 -- (IEEE 1364-2005, clause 26; that a number isn't given again is own)
-use Rattle.std.specs.Prelude.{◌≡◌, ℕ, List, ◌∷◌, ◌++◌, Bool, true, false, ◌==◌, Option, Some, None, is_some, Ok, ◌⊎◌}
+use Rattle.std.specs.Prelude.{◌≡◌, ℕ, List, ◌∷◌, ◌++◌, Bool, true, false, ◌==◌, ◌&&◌, Option, Some, None, is_some, Ok, ◌⊎◌}
 use Rattle.std.specs.List.{list_any}
 use Rattle.vh_base.specs.declared.orders.Answer.{Answer}
 use Rattle.vh_base.specs.declared.orders.Answer.TheVariants as answer
@@ -10,18 +10,20 @@ use Rattle.vh_base.specs.declared.orders.Order.{Order}
 use Rattle.vh_base.specs.declared.orders.Order.TheVariants as order
 use Rattle.vh_base.specs.declared.words.Code.TheVariants as code
 use Rattle.vh_base.specs.declared.words.Reason.{Reason}
-use Rattle.vh_callbacks.specs.Callbacks.{info_of, body_of}
+use Rattle.vh_callbacks.specs.Callbacks.{info_of, body_of, is_full}
 use Rattle.vh_orders.specs.declared.who.Body.{Body}
 use Rattle.vh_orders.specs.declared.who.Who.{Who}
 use Rattle.vh_handles.specs.declared.handles.Thing.{Thing}
 use Rattle.vh_handles.specs.declared.handles.Thing.TheVariants as thing
 use Rattle.vh_kernel.specs.declared.label.Label.{Label}
 use Rattle.vh_kernel.specs.declared.label.Label.TheVariants as label
-use Rattle.vh_handles.specs.Handles.{thing_at}
+use Rattle.vh_handles.specs.Handles.{thing_at, no_handle_more}
 use Rattle.vh_orders.specs.Names.{object_named}
-use Rattle.vh_orders.specs.Orders.{is_startup, name_meant, needs_object, object_watched, body_named, registration_of, handles_read, all_named}
+use Rattle.vh_orders.specs.Orders.{is_startup, name_meant, needs_object, needs_entry, object_watched, body_named, registration_of, handles_read, all_named}
+use Rattle.vh_orders.specs.World.{World}
 use Rattle.vh_kernel.specs.Outcome.{Move}
 use Rattle.vh_kernel.specs.State.{State}
+use Rattle.vh_kernel_laws.specs.Deeds.{frees}
 use Rattle.vh_kernel_laws.specs.Paths.{Deed, tells, fires, closes, answers, other, deed_of, any, end_of}
 
 -- Is this the handle?
@@ -113,19 +115,18 @@ FindsLive s moves =
     → moves ≡ before ++ (label.Do who o a, t) ∷ behind
     → all_named (end_of s before).world (handles_read o) ≡ true → a ≡ answer.Refused code.E1 → ⊥
 
--- A handle stops being live only where the callback that it names is removed by it,
+-- A handle stops being live only where a label frees it,
 abbrev pub FreedByRemoval : State → List Move → Type 0
 FreedByRemoval s moves =
     (before behind : List Move) (m : Move) (h : ℕ) → moves ≡ before ++ m ∷ behind
     → is_some (thing_at h (end_of s before).world.handles) ≡ true → thing_at h m.1.world.handles ≡ None
-    → (who : Who) × (m.0 ≡ label.Do who (order.Remove (Some h)) (answer.Number 1))
+    → frees m.0 ≡ Some h
 
--- And an answered removal frees the handle.
+-- And what a label frees is live no more.
 abbrev pub RemovalFrees : List Move → Type 0
 RemovalFrees moves =
-    (before behind : List Move) (who : Who) (h : ℕ) (t : State)
-    → moves ≡ before ++ (label.Do who (order.Remove (Some h)) (answer.Number 1), t) ∷ behind
-    → thing_at h t.world.handles ≡ None
+    (before behind : List Move) (m : Move) (h : ℕ) → moves ≡ before ++ m ∷ behind → frees m.0 ≡ Some h
+    → thing_at h m.1.world.handles ≡ None
 
 -- After it was freed, every order that reads it answers E1, or in a startup the E9 that comes before.
 abbrev pub StaysFreed : State → List Move → Type 0
@@ -135,3 +136,43 @@ StaysFreed s moves =
     → (end_of s before).world.handles.is_given h ≡ true → thing_at h (end_of s before).world.handles ≡ None
     → reads h o ≡ true
     → (a ≡ answer.Refused code.E1) ⊎ ((is_startup who ≡ true) × (a ≡ answer.Refused code.E9))
+
+-- A removal by a handle of a live callback is answered 1, and none by another handle.
+pub record AnswersRemoval (s : State) (who : Who) (h : ℕ) (a : Answer) : Type 0 where
+  pub removes : (c : ℕ) → is_startup who ≡ false → thing_at h s.world.handles ≡ Some (thing.Callback c) → a ≡ answer.Number 1
+  pub names : a ≡ answer.Number 1 → (c : ℕ) × (thing_at h s.world.handles ≡ Some (thing.Callback c))
+
+abbrev pub RemovesCallbacks : State → List Move → Type 0
+RemovesCallbacks s moves =
+    (before behind : List Move) (who : Who) (h : ℕ) (a : Answer) (t : State)
+    → moves ≡ before ++ (label.Do who (order.Remove (Some h)) a, t) ∷ behind → AnswersRemoval (end_of s before) who h a
+
+-- The name of an object is found: a handle is given, unless as many are live as may be; and null where the name is of none.
+abbrev pub answers_found : Option Object → Bool → Answer → Type 0
+answers_found None is_full a = a ≡ answer.Null
+answers_found (Some x) true a = a ≡ answer.Refused code.E10
+answers_found (Some x) false a = (h : ℕ) × (a ≡ answer.Handle h)
+
+abbrev pub FindsNames : State → List Move → Type 0
+FindsNames s moves =
+    (before behind : List Move) (who : Who) (text : List ℕ) (scope : Option ℕ) (name : List ℕ) (a : Answer) (t : State)
+    → moves ≡ before ++ (label.Do who (order.ByName text scope) a, t) ∷ behind → is_startup who ≡ false
+    → name_meant scope text (end_of s before).world ≡ Ok name
+    → answers_found (object_named name (end_of s before).world.names) (no_handle_more (end_of s before).world.handles) a
+
+-- A registration that nothing speaks against is answered a handle.
+pub record IsRegistrable (w : World) (who : Who) (reason : Reason) (watched : Option ℕ) (calls : BodyName) : Type 0 where
+  pub object : Option Object
+  pub body : Body
+  pub in_time : (is_startup who && needs_object reason) ≡ false
+  pub built : needs_entry reason ≡ false
+  pub watches : object_watched (needs_object reason) reason watched w ≡ Ok object
+  pub found : body_named calls w.scripts ≡ Ok body
+  pub room : is_full w.callbacks ≡ false
+  pub handles : no_handle_more w.handles ≡ false
+
+abbrev pub RegistersAsked : State → List Move → Type 0
+RegistersAsked s moves =
+    (before behind : List Move) (who : Who) (reason : Reason) (watched : Option ℕ) (time : ℕ) (calls : BodyName) (user_data : ℕ) (a : Answer) (t : State)
+    → moves ≡ before ++ (label.Do who (order.Register reason watched time calls user_data) a, t) ∷ behind
+    → IsRegistrable (end_of s before).world who reason watched calls → (h : ℕ) × (a ≡ answer.Handle h)

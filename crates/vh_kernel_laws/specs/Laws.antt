@@ -1,10 +1,13 @@
 -- The laws of every path, of every run and of every prefix of one.
-use Rattle.std.specs.Prelude.{◌≡◌, List, [], false}
+use Rattle.std.specs.Prelude.{◌≡◌, List, [], ◌∷◌, false}
 use Rattle.vh_design.specs.Shape.{Shape}
 use Rattle.vh_app.specs.Script.{ScriptData}
 use Rattle.vh_callbacks.specs.Callbacks.{IsSound}
 use Rattle.vh_handles.specs.Handles.{no_handles}
+use Rattle.vh_kernel.specs.declared.occurrence.Agendum.{Agendum}
+use Rattle.vh_kernel.specs.declared.occurrence.Agendum.TheVariants as agendum
 use Rattle.vh_kernel.specs.Outcome.{Move}
+use Rattle.vh_orders.specs.Orders.{needs_entry}
 use Rattle.vh_kernel_choice.specs.declared.chooser.Chooser.{Chooser}
 use Rattle.vh_kernel.specs.Run.{IsRun}
 use Rattle.vh_kernel.specs.Settle.{Opens}
@@ -12,7 +15,9 @@ use Rattle.vh_kernel.specs.State.{State}
 use Rattle.vh_kernel.specs.Step.{is_over}
 use Rattle.vh_kernel_laws.specs.Paths.{IsPath}
 use Rattle.vh_kernel_laws.specs.Firing.{TellsOnce, FiresOnce, KeepsSets, LeavesNone, DoneOnce, ClosesInOrder, GoesByRemoval, RemovesForGood}
-use Rattle.vh_kernel_laws.specs.HandleLaw.{GivesOnce, GivesLive, NamesOne, FindsLive, FreedByRemoval, RemovalFrees, StaysFreed}
+use Rattle.vh_kernel_laws.specs.HandleLaw.{GivesOnce, GivesLive, NamesOne, FindsLive, FreedByRemoval, RemovalFrees, StaysFreed, RemovesCallbacks, FindsNames, RegistersAsked}
+use Rattle.vh_kernel_laws.specs.Pending.{TellsInTurn}
+use Rattle.vh_kernel_laws.specs.Watching.{TellsThoseWhoWatch, FiresTop, FramesStand, ComesByRegistration, StaysAsRegistered}
 
 -- Labels that are made from a state keep the firing law.
 pub record KeepsFiringLaw (s : State) (moves : List Move) : Type 0 where
@@ -24,6 +29,12 @@ pub record KeepsFiringLaw (s : State) (moves : List Move) : Type 0 where
   pub in_order : ClosesInOrder moves
   pub goes_by_removal : GoesByRemoval s moves
   pub removes_for_good : RemovesForGood s moves
+  pub told_to_watchers : TellsThoseWhoWatch moves
+  pub fires_top : FiresTop s moves
+  pub frames_stand : FramesStand s moves
+  pub told_in_turn : TellsInTurn s moves
+  pub comes_by_registration : ComesByRegistration s moves
+  pub stays_as_registered : StaysAsRegistered s moves
 
 -- And the handle law.
 pub record KeepsHandleLaw (s : State) (moves : List Move) : Type 0 where
@@ -34,15 +45,28 @@ pub record KeepsHandleLaw (s : State) (moves : List Move) : Type 0 where
   pub freed_by_removal : FreedByRemoval s moves
   pub removal_frees : RemovalFrees moves
   pub stays_freed : StaysFreed s moves
+  pub removes_callbacks : RemovesCallbacks s moves
+  pub finds_names : FindsNames s moves
+  pub registers_asked : RegistersAsked s moves
 
 pub record KeepsLaws (s : State) (moves : List Move) : Type 0 where
   pub firing : KeepsFiringLaw s moves
   pub handles : KeepsHandleLaw s moves
 
--- The run isn't over, nothing is on control and no handle was given; the numbers of callbacks rise.
+-- Nothing on the agenda stands for an entry of the event queue.
+abbrev pub needs_none : Agendum → Type 0
+needs_none (agendum.Startup k) = Unit {0}
+needs_none (agendum.Occurrence reason) = needs_entry reason ≡ false
+
+abbrev pub all_need_none : List Agendum → Type 0
+all_need_none [] = Unit {0}
+all_need_none (x ∷ xs) = needs_none x × all_need_none xs
+
+-- The run isn't over, nothing is on control, such an agenda stands, and no handle was given; the numbers of callbacks rise.
 pub record IsFresh (s : State) : Type 0 where
   pub going : is_over s.world.phase ≡ false
   pub alone : s.control ≡ []
+  pub plain : all_need_none s.agenda
   pub none_given : s.world.handles ≡ no_handles
   pub sound : IsSound s.world.callbacks
 

@@ -11,8 +11,8 @@ use std::rt::{Clock, Env};
 use std::{env, rt};
 use thiserror::Error;
 use vh_base::NoMemory;
-use vh_host::{Status, exit_number, run, status_line};
 use vh_base_outside::{Holding, Output, Source, is_file_or_pipe};
+use vh_host::{Status, exit_number, run, status_line};
 
 // How many bytes of the transcript are held at most.
 const ROOM: usize = 65_536;
