@@ -24,6 +24,8 @@ use Rattle.vh_orders.specs.Names.{object_named}
 use Rattle.vh_orders.specs.Orders.{needs_entry}
 use Rattle.vh_orders.specs.declared.who.Who.TheVariants as who_is
 use Rattle.vh_handles.specs.declared.handles.Thing.TheVariants as thing
+use Rattle.vh_kernel.specs.Activations.{Activation}
+use Rattle.vh_base.specs.declared.orders.Seen.{Seen}
 use Rattle.vh_kernel.specs.declared.label.Label.{Label}
 use Rattle.vh_kernel.specs.declared.label.Label.TheVariants as label
 use Rattle.vh_callbacks.specs.Marks.{is_among}
@@ -38,11 +40,11 @@ use Rattle.vh_kernel_choice.specs.declared.chooser.Chooser.TheVariants.{Fifo}
 use Rattle.vh_kernel.specs.Run.{moves_of}
 use Rattle.vh_kernel_laws.proofs.Openings.{opening}
 use Rattle.vh_kernel.specs.State.{State}
-use Rattle.vh_kernel_laws.specs.Firing.{frames_of, TopFrame, IsTelling, TellsOnce, WasTold, FiresOnce, LeavesNone, DoneOnce, RemovesForGood}
+use Rattle.vh_kernel_laws.specs.Firing.{frames_of, IsTelling, TellsOnce, WasTold, FiresOnce, LeavesNone, DoneOnce, RemovesForGood}
 use Rattle.vh_kernel_laws.specs.HandleLaw.{GivesOnce, GivesLive, GivesRight, FindsLive, RemovalFrees, StaysFreed, RemovesCallbacks, answers_found, FindsNames, IsRegistrable, RegistersAsked}
 use Rattle.vh_kernel_laws.specs.Pending.{pendings_in, pendings_of, statement_made, KeepsPending, TellsInTurn}
 use Rattle.vh_proc_simulation.specs.Labels.{performed}
-use Rattle.vh_kernel_laws.specs.Watching.{watches, all as to_all, one as to_one, TellsThoseWhoWatch, Calls, FiresTop, HasFrameOf, FramesStand, IsRegistration, ComesByRegistration, IsSameCallback, StaysAsRegistered}
+use Rattle.vh_kernel_laws.specs.Watching.{watches, all as to_all, one as to_one, TellsThoseWhoWatch, Calls, FiresTop, Closes, ClosesTop, HasFrameOf, FramesStand, IsRegistration, ComesByRegistration, IsSameCallback, StaysAsRegistered}
 use Rattle.vh_kernel_laws.specs.Deeds.{removes}
 use Rattle.vh_kernel_laws.specs.Paths.{is_told, is_fire, is_fire_of, is_done, any, was_removed, end_of}
 use Rattle.vh_kernel_laws.proofs.Splits.{not_both, or_left, or_right}
@@ -370,13 +372,39 @@ fire_calls_nothing s f rest n c on law =
     let both : top.Frame f ∷ rest ≡ top.Activation fire.activation ∷ s.control = sym on ∙ fire.begins in
     let wrong : top.Frame f ≡ top.Activation fire.activation = cc in absurd (cc)
 
--- A fire for an occurrence whose frame isn't on top.
-fires_below : (s t : State) (f : Frame) (c : ℕ) → TopFrame s f → f.number ≡ 3 → FiresTop s ((label.Fire 2 c, t) ∷ []) → ⊥
+-- A fire for an occurrence whose frame isn't on top, or while what was called for another callback still runs.
+fires_below : (s t : State) (f : Told) (c : ℕ) → slice_get s.control 0 ≡ Some (top.Frame f) → f.number ≡ 3
+    → FiresTop s ((label.Fire 2 c, t) ∷ []) → ⊥
 fires_below s t f c on above law =
     let fire : Calls s 2 c t = law [] [] 2 c t refl in
-    let both : Some f ≡ Some fire.frame = sym on ∙ fire.is_top in
-    let same : f ≡ fire.frame = cc in
-    absurd (let number : 3 ≡ 2 = sym above ∙ ap (λ (g : Frame). g.number) same ∙ fire.number in cc)
+    let both : Some (top.Frame f) ≡ Some (top.Frame fire.told) = sym on ∙ fire.on_top in
+    let same : f ≡ fire.told = cc in
+    absurd (let number : 3 ≡ 2 = sym above ∙ ap (λ (g : Told). g.number) same ∙ fire.number in cc)
+
+fires_amid_another : (s t : State) (a : Activation) (n c : ℕ) → slice_get s.control 0 ≡ Some (top.Activation a)
+    → FiresTop s ((label.Fire n c, t) ∷ []) → ⊥
+fires_amid_another s t a n c on law =
+    let fire : Calls s n c t = law [] [] n c t refl in
+    absurd (let wrong : Some (top.Activation a) ≡ Some (top.Frame fire.told) = sym on ∙ fire.on_top in cc)
+
+-- A fire whose callback sees another user's data than it was registered with.
+sees_other_data : (s t : State) (n c : ℕ) (a : Activation) (xs : List Control) (r : Registration) → t.control ≡ top.Activation a ∷ xs
+    → info_of c s.world.callbacks ≡ Some r → (a.seen.user_data ≡ r.user_data → ⊥) → FiresTop s ((label.Fire n c, t) ∷ []) → ⊥
+sees_other_data s t n c a xs r on registered other law =
+    let fire : Calls s n c t = law [] [] n c t refl in
+    let both : top.Activation a ∷ xs ≡ top.Activation fire.activation ∷ s.control = sym on ∙ fire.begins in
+    let one : a ≡ fire.activation = cc in
+    let same : Some r ≡ Some fire.registration = sym registered ∙ fire.registered in
+    let is : fire.registration ≡ r = cc in
+    other (ap (λ (x : Activation). x.seen.user_data) one ∙ ap (λ (x : Seen). x.user_data) fire.sees
+    ∙ ap (λ (x : Registration). x.user_data) is)
+
+-- An occurrence is done while what was called for it still runs.
+done_amid_a_call : (s t : State) (a : Activation) (n : ℕ) → slice_get s.control 0 ≡ Some (top.Activation a)
+    → ClosesTop s ((label.Done n, t) ∷ []) → ⊥
+done_amid_a_call s t a n on law =
+    let closes : Closes s n t = law [] [] n t refl in
+    absurd (let wrong : Some (top.Activation a) ≡ Some (top.Frame closes.told) = sym on ∙ closes.on_top in cc)
 
 -- A frame goes without its end.
 frame_vanishes : (who : Who) (s t : State) (n : ℕ) → HasFrameOf n s → frames_of t ≡ [] → FramesStand s ((label.Pass who, t) ∷ []) → ⊥

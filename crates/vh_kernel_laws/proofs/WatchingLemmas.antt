@@ -41,7 +41,7 @@ use Rattle.vh_kernel.specs.Settle.{settled, settled_control, is_void, is_void_it
 use Rattle.vh_kernel.specs.State.{State, with_top, without_top, without_item, with_frames}
 use Rattle.vh_kernel.specs.Statements.{next_on, performed_outcome, worked_outcome, on_control}
 use Rattle.vh_kernel.specs.Step.{telling_outcome, called, started, is_end}
-use Rattle.vh_kernel.specs.Table.{TellsNext, Fires, Row, Step}
+use Rattle.vh_kernel.specs.Table.{TellsNext, Fires, Closes as Closes_row, Row, Step}
 use Rattle.vh_orders.specs.declared.phase.Ending.TheVariants as ending
 use Rattle.vh_orders.specs.declared.who.Body.{Body}
 use Rattle.vh_orders.specs.declared.who.Who.{Who}
@@ -57,11 +57,11 @@ use Rattle.vh_kernel_laws.proofs.FiringLemmas.{Keeps, Waits, keeps-on, FiredFrom
 use Rattle.vh_kernel_laws.proofs.PendingLemmas.{tells-in-turn}
 use Rattle.vh_kernel_laws.proofs.Splits.{not_both, path_at}
 use Rattle.vh_kernel_laws.proofs.Works.{View, view_of, taken_from, RegistersAs, changes_none, opens_one, registers_one, removes_one, Works, works_none, empties, orders_one, tells_one, fires_one, closes_one}
-use Rattle.vh_kernel_laws.proofs.WorksLemmas.{first-of, made-works}
+use Rattle.vh_kernel_laws.proofs.WorksLemmas.{first-of, frames-top, frames-settled, made-works}
 use Rattle.vh_kernel_laws.specs.Firing.{Frame, standing, frames_in, frames_of}
 use Rattle.vh_kernel_laws.specs.Laws.{KeepsFiringLaw, all_need_none}
 use Rattle.vh_kernel_laws.specs.Paths.{IsMade, IsPath, end_of}
-use Rattle.vh_kernel_laws.specs.Watching.{IsToldTo, all, TellsThoseWhoWatch, FiresTop, HasFrameOf, FramesStand, IsRegistration, ComesByRegistration, IsSameCallback, StaysAsRegistered}
+use Rattle.vh_kernel_laws.specs.Watching.{IsToldTo, all, TellsThoseWhoWatch, FiresTop, ClosesTop, HasFrameOf, FramesStand, IsRegistration, ComesByRegistration, IsSameCallback, StaysAsRegistered}
 
 -- What has occurred stands for no entry of the event queue, as long as no such reason is built: whether it is pending, or told.
 abbrev pub IsPlain : Occurrence → Type 0
@@ -317,18 +317,22 @@ tells-those-who-watch s moves path keeps plain before behind m n what is telling
 
 -- A fire calls.
 record CalledAs (live : Option (Live Body)) (c : ℕ) (what : Occurrence) (s : State) : Type 0 where
+  registration : Registration
   body : Body
   activation : Activation
+  registered : option_map (λ (l : Live Body). l.registration) live ≡ Some registration
   calls : option_map (λ (l : Live Body). l.body) live ≡ Some body
   begins : (called (option_map (λ (l : Live Body). l.registration) live) (option_map (λ (l : Live Body). l.body) live) c what s).control
       ≡ top.Activation activation ∷ s.control
   who : activation.who ≡ who_is.Callback c
   script : activation.script ≡ body.script
   at : activation.at ≡ body.start
+  sees : activation.seen ≡ first_seen registration what s.world.activity.queue.time
 
 called-as : (live : Option (Live Body)) (c : ℕ) (what : Occurrence) (s : State) → is_some live ≡ true → CalledAs live c what s
 called-as None c what s alive = absurd (cc)
 called-as (Some l) c what s alive = record {
+  registration = l.registration;
   body = l.body;
   activation = record {
     who = who_is.Callback c;
@@ -336,11 +340,13 @@ called-as (Some l) c what s alive = record {
     at = l.body.start;
     seen = first_seen l.registration what s.world.activity.queue.time;
   };
+  registered = refl;
   calls = refl;
   begins = refl;
   who = refl;
   script = refl;
   at = refl;
+  sees = refl;
 }
 
 fires-top : (s : State) (moves : List Move) → IsPath s moves → Keeps [] (view_of s) → FiresTop s moves
@@ -360,16 +366,37 @@ fires-top s moves path keeps before behind n c t is =
     ap (λ (x : State). x.control) row.leaves ∙ called_so.begins
     ∙ ap (λ (xs : List Control). top.Activation called_so.activation ∷ xs) (sym (first-of u.control (top.Frame row.frame) row.on.on)) in
     record {
-      frame = from.frame;
+      told = row.frame;
+      registration = called_so.registration;
       body = called_so.body;
       activation = called_so.activation;
-      is_top = at-top u from.frame from.rest from.on;
-      number = sym from.number;
+      on_top = row.on.on;
+      number = sym row.number;
+      registered = called_so.registered;
       calls = called_so.calls;
       begins = ap (λ (x : State). x.control) table.settles ∙ ap (λ (xs : List Control). without_front (is_void table.before.world.callbacks) xs) begins;
       who = called_so.who;
       script = called_so.script;
       at = called_so.at;
+      sees = called_so.sees;
+    }
+
+-- An occurrence is done on top.
+closes-top : (s : State) (moves : List Move) → IsPath s moves → ClosesTop s moves
+closes-top s moves path before behind n t is =
+    let m : Move = (label.Done n, t) in
+    let u : State = end_of s before in
+    let made : IsMade u m = (path_at s moves before (m ∷ behind) path is).1.0 in
+    let table : Step u (label.Done n) t = steps-by-table u t made.choice (label.Done n) made.below made.step in
+    let row : Closes_row u n table.before = table.row in
+    record {
+      told = row.frame;
+      on_top = row.on.on;
+      number = sym row.number;
+      gone = ap frames_of table.settles
+          ∙ frames-settled table.before.world.callbacks table.before.control table.before.world.frames
+          ∙ ap frames_of row.leaves
+          ∙ ap (λ (fs : List Frame). drop 1 fs) (sym (frames-top u (top.Frame row.frame) row.on.on));
     }
 
 -- Frames stand.
@@ -522,6 +549,7 @@ firing-law s moves path keeps plain = record {
   removes_for_good = removes-for-good s moves path keeps;
   told_to_watchers = tells-those-who-watch s moves path keeps plain;
   fires_top = fires-top s moves path keeps;
+  closes_top = closes-top s moves path;
   frames_stand = frames-stand s moves path;
   told_in_turn = tells-in-turn s moves path;
   comes_by_registration = comes-by-registration s moves path keeps;

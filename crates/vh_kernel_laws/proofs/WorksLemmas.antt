@@ -54,7 +54,7 @@ pub first-of : {X : Type 0} (xs : List X) (x : X) → slice_get xs 0 ≡ Some x 
 first-of [] x is = absurd (cc)
 first-of (y ∷ ys) x is = let same : y ≡ x = cc in ap (λ (z : _). z ∷ ys) same
 
-frames-top : (s : State) (x : Control) → slice_get s.control 0 ≡ Some x
+pub frames-top : (s : State) (x : Control) → slice_get s.control 0 ≡ Some x
     → frames_of s ≡ frames_in (x ∷ drop 1 s.control) s.world.frames
 frames-top s x is = ap (λ (xs : List Control). frames_in xs s.world.frames) (first-of s.control x is)
 
@@ -76,7 +76,7 @@ void-by : (b : Bool) (xs ys : List Control) (sets : List (List ℕ)) → frames_
 void-by true xs ys sets same = same
 void-by false xs ys sets same = refl
 
-frames-settled : (c : Callbacks Body) (xs : List Control) (sets : List (List ℕ))
+pub frames-settled : (c : Callbacks Body) (xs : List Control) (sets : List (List ℕ))
     → frames_in (without_front (is_void c) xs) sets ≡ frames_in xs sets
 frames-settled c [] sets = refl
 frames-settled c (top.Process p ∷ xs) sets = refl

@@ -17,7 +17,7 @@ use Rattle.vh_kernel_laws.specs.Paths.{IsPath}
 use Rattle.vh_kernel_laws.specs.Firing.{TellsOnce, FiresOnce, KeepsSets, LeavesNone, DoneOnce, ClosesInOrder, GoesByRemoval, RemovesForGood}
 use Rattle.vh_kernel_laws.specs.HandleLaw.{GivesOnce, GivesLive, NamesOne, FindsLive, FreedByRemoval, RemovalFrees, StaysFreed, RemovesCallbacks, FindsNames, RegistersAsked}
 use Rattle.vh_kernel_laws.specs.Pending.{TellsInTurn}
-use Rattle.vh_kernel_laws.specs.Watching.{TellsThoseWhoWatch, FiresTop, FramesStand, ComesByRegistration, StaysAsRegistered}
+use Rattle.vh_kernel_laws.specs.Watching.{TellsThoseWhoWatch, FiresTop, ClosesTop, FramesStand, ComesByRegistration, StaysAsRegistered}
 
 -- Labels that are made from a state keep the firing law.
 pub record KeepsFiringLaw (s : State) (moves : List Move) : Type 0 where
@@ -31,6 +31,7 @@ pub record KeepsFiringLaw (s : State) (moves : List Move) : Type 0 where
   pub removes_for_good : RemovesForGood s moves
   pub told_to_watchers : TellsThoseWhoWatch moves
   pub fires_top : FiresTop s moves
+  pub closes_top : ClosesTop s moves
   pub frames_stand : FramesStand s moves
   pub told_in_turn : TellsInTurn s moves
   pub comes_by_registration : ComesByRegistration s moves

@@ -1,25 +1,27 @@
 -- The law of callbacks: to whom an occurrence is told, what a fire calls, how long a frame stands, where callbacks come from,
 -- and what stays of them. (IEEE 1364-2005, 27.33 and 27.34)
-use Rattle.std.specs.Prelude.{◌≡◌, ℕ, List, [], ◌∷◌, ◌++◌, Bool, true, false, Option, Some, slice_get, ◌⊎◌}
+use Rattle.std.specs.Prelude.{◌≡◌, ℕ, List, [], ◌∷◌, ◌++◌, Bool, true, false, drop, Option, Some, slice_get, ◌⊎◌}
 use Rattle.vh_base.specs.declared.faults.Cause.{Cause}
 use Rattle.vh_base.specs.declared.orders.Answer.TheVariants as answer
 use Rattle.vh_base.specs.declared.orders.BodyName.{BodyName}
 use Rattle.vh_base.specs.declared.orders.Object.{Object}
 use Rattle.vh_base.specs.declared.orders.Order.TheVariants as order
 use Rattle.vh_base.specs.declared.words.Reason.{Reason}
+use Rattle.vh_callbacks.specs.declared.registration.Registration.{Registration}
 use Rattle.vh_callbacks.specs.Callbacks.{info_of, body_of, is_live}
 use Rattle.vh_callbacks.specs.Marks.{is_among}
 use Rattle.vh_callbacks.specs.Registration.{is_some_for}
 use Rattle.vh_handles.specs.declared.handles.Thing.TheVariants as thing
 use Rattle.vh_handles.specs.Handles.{thing_at}
-use Rattle.vh_kernel.specs.Activations.{Activation}
+use Rattle.vh_kernel.specs.Activations.{Activation, first_seen}
 use Rattle.vh_kernel.specs.declared.control.Control.TheVariants as top
 use Rattle.vh_kernel.specs.declared.label.Label.{Label}
 use Rattle.vh_kernel.specs.declared.label.Label.TheVariants as label
+use Rattle.vh_kernel.specs.declared.occurrence.Told.{Told}
 use Rattle.vh_kernel.specs.Occurrences.{Occurrence, set_of}
 use Rattle.vh_kernel.specs.Outcome.{Move}
 use Rattle.vh_kernel.specs.State.{State}
-use Rattle.vh_kernel_laws.specs.Firing.{Frame, frames_of, TopFrame, IsTelling}
+use Rattle.vh_kernel_laws.specs.Firing.{Frame, frames_of, IsTelling}
 use Rattle.vh_kernel_laws.specs.Paths.{end_of}
 use Rattle.vh_orders.specs.declared.who.Body.{Body}
 use Rattle.vh_orders.specs.declared.who.Who.{Who}
@@ -42,22 +44,37 @@ TellsThoseWhoWatch moves =
     (before behind : List Move) (m : Move) (n : ℕ) (what : Occurrence) → moves ≡ before ++ m ∷ behind → IsTelling m n what
     → IsToldTo what m.1 (set_of what m.1.world.callbacks)
 
--- A callback fires for the occurrence of the frame on top, and what it was registered with begins above all that stood on control.
+-- A callback fires for the occurrence whose frame is on top of control, so that what it called before for others has ended; and what
+-- it was registered with begins above that, and sees the occurrence.
 pub record Calls (s : State) (n c : ℕ) (t : State) : Type 0 where
-  pub frame : Frame
+  pub told : Told
+  pub registration : Registration
   pub body : Body
   pub activation : Activation
-  pub is_top : TopFrame s frame
-  pub number : frame.number ≡ n
+  pub on_top : slice_get s.control 0 ≡ Some (top.Frame told)
+  pub number : told.number ≡ n
+  pub registered : info_of c s.world.callbacks ≡ Some registration
   pub calls : body_of c s.world.callbacks ≡ Some body
   pub begins : t.control ≡ top.Activation activation ∷ s.control
   pub who : activation.who ≡ who_is.Callback c
   pub script : activation.script ≡ body.script
   pub at : activation.at ≡ body.start
+  pub sees : activation.seen ≡ first_seen registration told.what s.world.activity.queue.time
 
 abbrev pub FiresTop : State → List Move → Type 0
 FiresTop s moves =
     (before behind : List Move) (n c : ℕ) (t : State) → moves ≡ before ++ (label.Fire n c, t) ∷ behind → Calls (end_of s before) n c t
+
+-- An occurrence is done where its frame is on top of control, and then the frame is gone.
+pub record Closes (s : State) (n : ℕ) (t : State) : Type 0 where
+  pub told : Told
+  pub on_top : slice_get s.control 0 ≡ Some (top.Frame told)
+  pub number : told.number ≡ n
+  pub gone : frames_of t ≡ drop 1 (frames_of s)
+
+abbrev pub ClosesTop : State → List Move → Type 0
+ClosesTop s moves =
+    (before behind : List Move) (n : ℕ) (t : State) → moves ≡ before ++ (label.Done n, t) ∷ behind → Closes (end_of s before) n t
 
 -- The frame of an occurrence stands until that is done, or a finish empties control.
 abbrev pub HasFrameOf : ℕ → State → Type 0
