@@ -42,6 +42,11 @@ use Rattle.vh_kernel_laws.proofs.Openings.{opening}
 use Rattle.vh_kernel.specs.State.{State}
 use Rattle.vh_kernel_laws.specs.Firing.{frames_of, IsTelling, TellsOnce, WasTold, FiresOnce, LeavesNone, DoneOnce, RemovesForGood}
 use Rattle.vh_kernel_laws.specs.HandleLaw.{GivesOnce, GivesLive, GivesRight, FindsLive, RemovalFrees, StaysFreed, RemovesCallbacks, answers_found, FindsNames, IsRegistrable, RegistersAsked}
+use Rattle.vh_kernel_laws.specs.Acting.{Orders, OrdersNext, Returns, ReturnsLast}
+use Rattle.vh_app.specs.Next.{next_of}
+use Rattle.vh_orders.specs.Orders.{is_return}
+use Rattle.vh_base.specs.declared.orders.Answer.{Answer}
+use Rattle.vh_base.specs.declared.orders.Order.{Order}
 use Rattle.vh_kernel_laws.specs.Pending.{pendings_in, pendings_of, statement_made, KeepsPending, TellsInTurn}
 use Rattle.vh_proc_simulation.specs.Labels.{performed}
 use Rattle.vh_kernel_laws.specs.Watching.{watches, all as to_all, one as to_one, TellsThoseWhoWatch, Calls, FiresTop, Closes, ClosesTop, HasFrameOf, FramesStand, IsRegistration, ComesByRegistration, IsSameCallback, StaysAsRegistered}
@@ -514,3 +519,36 @@ tells_again s t o n why object stood stands law =
           ∙ ap (λ (ps : List Occurrence). kept.passed ++ ps) stands))
       | inr alone ↦ absurd (let wrong : o ∷ [] ≡ [] = sym stood ∙ ap pendings_in alone.0 in cc)
     ]
+
+-- An activation gives another order than its script has next, or returns before its script says so.
+orders_another : (s t : State) (act : Activation) (script : ScriptData) (vars : List Answer) (o : Order) (a : Answer)
+    → slice_get s.control 0 ≡ Some (top.Activation act) → slice_get s.world.scripts act.script ≡ Some script
+    → slice_get s.world.variables act.script ≡ Some vars → ((next_of script act.at vars act.seen).0 ≡ o → ⊥)
+    → OrdersNext s ((label.Do act.who o a, t) ∷ []) → ⊥
+orders_another s t act script vars o a on script_is vars_are other law =
+    let right : Orders s act.who o a t = law [] [] act.who o a t refl in
+    let both : Some (top.Activation act) ≡ Some (top.Activation right.stands.activation) = sym on ∙ right.stands.on_top in
+    let same : right.stands.activation ≡ act = cc in
+    let scripts : Some right.stands.script ≡ Some script =
+    sym right.stands.script_is ∙ ap (λ (x : Activation). slice_get s.world.scripts x.script) same ∙ script_is in
+    let script_same : right.stands.script ≡ script = cc in
+    let variables : Some right.stands.variables ≡ Some vars =
+    sym right.stands.variables_are ∙ ap (λ (x : Activation). slice_get s.world.variables x.script) same ∙ vars_are in
+    let vars_same : right.stands.variables ≡ vars = cc in
+    other
+    (ap (λ (x : Activation). (next_of script x.at vars x.seen).0) (sym same)
+    ∙ ap (λ (x : ScriptData). (next_of x right.stands.activation.at vars right.stands.activation.seen).0) (sym script_same)
+    ∙ ap (λ (x : List Answer). (next_of right.stands.script right.stands.activation.at x right.stands.activation.seen).0) (sym vars_same)
+    ∙ right.next)
+
+returns_early : (s t : State) (act : Activation) (script : ScriptData) (vars : List Answer)
+    → slice_get s.control 0 ≡ Some (top.Activation act) → slice_get s.world.scripts act.script ≡ Some script
+    → slice_get s.world.variables act.script ≡ Some vars → is_return (next_of script act.at vars act.seen).0 ≡ false
+    → ReturnsLast s ((label.Ret act.who, t) ∷ []) → ⊥
+returns_early s t act script vars on script_is vars_are goes law =
+    let right : Returns s act.who = law [] [] act.who t refl in
+    let both : Some (top.Activation act) ≡ Some (top.Activation right.activation) = sym on ∙ right.on_top in
+    let same : right.activation ≡ act = cc in
+    let P : Activation → Type 0 = λ x. (y : ScriptData) (z : List Answer) → slice_get s.world.scripts x.script ≡ Some y
+    → slice_get s.world.variables x.script ≡ Some z → is_return (next_of y x.at z x.seen).0 ≡ true in
+    not_both (is_return (next_of script act.at vars act.seen).0) ((subst P same right.last) script vars script_is vars_are) goes

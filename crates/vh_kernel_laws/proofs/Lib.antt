@@ -16,6 +16,8 @@ pub mod HandlesLemmas
 pub mod FiringLemmas
 -- The firing law: what occurs is told in turn.
 pub mod PendingLemmas
+-- The firing law: what an activation does is what its script has next.
+pub mod ActingLemmas
 -- The firing law: to whom an occurrence is told, what a fire calls, where callbacks come from; and with it the whole law.
 pub mod WatchingLemmas
 -- The handle law.

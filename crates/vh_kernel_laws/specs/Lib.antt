@@ -8,6 +8,8 @@ pub mod Firing
 pub mod Watching
 -- What occurs is told in turn.
 pub mod Pending
+-- What an activation does is what its script has next.
+pub mod Acting
 -- The handle law: what a handle names, from its giving on.
 pub mod HandleLaw
 -- The two laws, of every path and of every run.
