@@ -15,13 +15,15 @@ mod found;
 mod kind;
 mod kinds;
 mod lister;
-mod property;
+mod order;
+mod properties;
 mod relation;
+mod tables;
 
 pub use children::Children;
 pub use found::Found;
 pub use kind::ObjectKind;
 pub use kinds::{has_name, has_path};
 pub use lister::Lister;
-pub use property::is_by_get_str;
+pub use properties::{is_by_get_str, property, push_address};
 pub use relation::{info_at, kind_of, one};

@@ -34,7 +34,7 @@ fn has_object(info: &ObjectInfo, word: Option<u32>) -> bool
 }
 
 // What the design has at a number.
-fn object_at(d: &Design, id: ObjId) -> Option<&ObjectInfo>
+pub(crate) fn object_at(d: &Design, id: ObjId) -> Option<&ObjectInfo>
     ensures value { option_copied result ≡ slice_get d.now.objects id }
     ensures inside { IfSome result (λ i. id < length d.now.objects) }
     ensures scope { IfSome result (λ i. IfSome i.now.parent (λ s. s < id)) }
@@ -50,6 +50,7 @@ fn object_at(d: &Design, id: ObjId) -> Option<&ObjectInfo>
 pub fn info_at<'a>(d: &'a Design, o: &Object) -> Option<&'a ObjectInfo>
     ensures value { option_copied result ≡ info_at d.now.objects o.now }
     ensures there { IfSome result (λ i. slice_get d.now.objects o.now.id ≡ Some i.now) }
+    ensures inside { IfSome result (λ i. o.now.id < length d.now.objects) }
     ensures scope { IfSome result (λ i. IfSome i.now.parent (λ s. s < length d.now.objects)) }
 {
     let Some(info) = object_at(d, o.id) else {
