@@ -24,6 +24,6 @@ pub use children::Children;
 pub use found::Found;
 pub use kind::ObjectKind;
 pub use kinds::{has_name, has_path};
-pub use lister::Lister;
+pub use lister::{Lister, count_from};
 pub use properties::{is_by_get_str, property, push_address};
 pub use relation::{info_at, kind_of, one};

@@ -125,8 +125,8 @@ impl Lister {
     }
 }
 
-// How many words with an address there are from the lowest on.
-fn count_from(lowest: u32, words: u32) -> u32
+/// How many words with an address a memory has, from the lowest on: all addresses are below 2^32.
+pub fn count_from(lowest: u32, words: u32) -> u32
     ensures value { result ≡ count_from lowest words }
     ensures fits { lowest + result ≤ 2 ^ 32 }
 {

@@ -1,0 +1,2 @@
+-- Addresses in brackets
+mod AddressesLemmas
