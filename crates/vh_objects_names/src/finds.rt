@@ -37,12 +37,12 @@ fn meant_by(text: &[u8], id: ObjId, info: &ObjectInfo, path: &[u8]) -> Option<Ob
 fn meant(
     alloc: Global,
     d: &Design,
-    scope: Option<ObjId>,
+    scope: &Option<ObjId>,
     text: &[u8],
     id: ObjId,
 ) -> Result<Option<Object>, NoMemory>
     requires { id < length d.now.objects }
-    ensures { IfOk result (λ o. o ≡ meant d.now.objects scope text.now id) }
+    ensures { IfOk result (λ o. o ≡ meant d.now.objects scope.now text.now id) }
 {
     let info = d.object(id);
     if !has_path(info.kind) {
@@ -67,7 +67,7 @@ pub fn by_name(
 {
     design_laws();
     for k in 0..d.counts().objects {
-        let found = meant(alloc, d, scope, text, ObjId::new(k))?;
+        let found = meant(alloc, d, &scope, text, ObjId::new(k))?;
         if found.is_some() {
             return Ok(found);
         }

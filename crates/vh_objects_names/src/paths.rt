@@ -9,8 +9,8 @@ use vh_base::{Bytes, NoMemory, ObjId};
 use vh_design::Design;
 
 // Is it the same scope, or none both times?
-fn same_scope(a: Option<ObjId>, b: Option<ObjId>) -> bool
-    ensures { result ≡ same_scope a b }
+fn same_scope(a: &Option<ObjId>, b: &Option<ObjId>) -> bool
+    ensures { result ≡ same_scope a.now b.now }
 {
     match (a, b) {
         (None, None) => true,
@@ -23,22 +23,24 @@ fn same_scope(a: Option<ObjId>, b: Option<ObjId>) -> bool
 fn objects_to(
     alloc: Global,
     d: &Design,
-    scope: Option<ObjId>,
+    scope: &Option<ObjId>,
     o: ObjId,
 ) -> Result<Option<Vec<ObjId>>, NoMemory>
     requires { o < length d.now.objects }
-    ensures objects { IfOk result (λ found. option_map (λ v. v.items) found ≡ objects_to d.now.objects scope o) }
-    ensures there { IfOk result (λ found. IfSome found (λ v. All (λ p. p < length d.now.objects) v.items)) }
+    ensures objects { IfOk result (λ found. option_map (λ v. v.items) found
+        ≡ objects_to d.now.objects scope.now o) }
+    ensures there { IfOk result (λ found. IfSome found (λ v. All (λ p. p < length d.now.objects)
+        v.items)) }
 {
     let mut objects = Vec::new(alloc);
     let mut next = Some(o);
     while let Some(o) = next {
         objects.push(o)?;
-        let parent = d.object(o).parent;
-        if same_scope(scope, parent) {
+        let info = d.object(o);
+        if same_scope(scope, &info.parent) {
             return Ok(Some(objects));
         }
-        next = parent;
+        next = info.parent;
     }
     Ok(None)
 }
@@ -61,11 +63,11 @@ fn push_names(name: &mut Vec<u8>, d: &Design, scopes: &[ObjId]) -> Result<(), No
 pub(crate) fn path_below(
     alloc: Global,
     d: &Design,
-    scope: Option<ObjId>,
+    scope: &Option<ObjId>,
     o: ObjId,
 ) -> Result<Option<Bytes>, NoMemory>
     requires { o < length d.now.objects }
-    ensures { IfOk result (λ path. path ≡ path_below d.now.objects scope o) }
+    ensures { IfOk result (λ path. path ≡ path_below d.now.objects scope.now o) }
 {
     let Some(objects) = objects_to(alloc, d, scope, o)? else {
         return Ok(None);
