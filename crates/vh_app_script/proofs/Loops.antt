@@ -35,10 +35,6 @@ pub names_go_on : (levels : ℕ) (rules : AppFault) (names more : List (List ℕ
 names_go_on levels rules names more ts mid rest is r s =
     iter_turn grammar eating levels (λ u. is_mark marks.Comma) (λ u. after (the marks.Comma) (tok (names_in rules u))) (λ u. refl) names ts more rest is (rw (r, s) refl)
 
-pub name_less : (rules : AppFault) (names more : List (List ℕ)) (ts mid rest : List Terminal) → read grammar 0 (the marks.Comma) ts ≡ got tt mid → token_of (names_in rules names) mid ≡ got more rest → length rest < length ts
-name_less rules names more ts mid rest r s =
-    read_less grammar eating 0 (after (the marks.Comma) (tok (names_in rules names))) refl ts more rest (rw (r, s) refl)
-
 -- declarations go on by one
 pub declarations_go_on : (levels : ℕ) (rules : AppFault) (names more : List (List ℕ)) (ts mid : List Terminal) → next_is (is_word keyword.Var) ts ≡ true → read grammar levels (declaration rules names) ts ≡ got more mid →
     read grammar levels (declarations rules names) ts ≡ read grammar levels (declarations rules more) mid

@@ -106,11 +106,6 @@ sole_none m s [] h = refl
 sole_none m s (e ∷ []) h = absurd (h refl)
 sole_none m s (e ∷ f ∷ all) h = refl
 
-pub sole_one : (m : Mode) (s : Scope) (all : List Expr) (d : Expr) → length all ≡ 1 → sole_bound m s (exprs (map expr_tree all)) ≡ Some (bound m s (expr_tree (get_or all 0 d)))
-sole_one m s [] d h = absurd (cc)
-sole_one m s (e ∷ []) d h = refl
-sole_one m s (e ∷ f ∷ all) d h = absurd (cc)
-
 -- A name with an index, or with more than one part, is no constant.
 indexed : (s : Scope) (id : Id) (i : Option Expr) (more : List (NameStep Expr)) → is_some i ≡ true
     → name_value s (name id (index_by expr_tree i) (steps (map (step_by expr_tree) more))) ≡ Err (N4, id.place)

@@ -1,6 +1,6 @@
 -- Lemmas on the value of a constant in `specs/Constants.antt`: sound nodes alone are a design, and of it
 -- nothing is stored.
-use Rattle.std.proofs.Common.{◌≡◌, ◌∙◌, ℕ, Bool, true, false, ◌&&◌, ◌==◌, cond, List, [], ◌∷◌, Option, Some, None, slice_get, refl, sym, ap, arith}
+use Rattle.std.proofs.Common.{◌≡◌, ◌∙◌, ℕ, Bool, true, false, ◌&&◌, ◌==◌, cond, List, [], ◌∷◌, Option, Some, None, slice_get, refl, sym, ap}
 use Rattle.std.specs.Map.{lookup}
 use Rattle.std.specs.BTreeMap.{is_at}
 use Rattle.std.specs.Ordering.{nat_cmp, is_eq}
@@ -13,35 +13,12 @@ use Rattle.vh_design_nodes.specs.declared.expr.ExprNode.{ExprNode}
 use Rattle.vh_design_nodes.specs.Widths.{kind_width, kind_signed}
 use Rattle.vh_design_nodes.specs.Fits.{is_width, same_sign, fits_kind, fits_node}
 use Rattle.vh_design_nodes.proofs.FitsLemmas.{and_left}
-use Rattle.vh_design.specs.Validity.{AllFit, IsValid, IsCounted}
+use Rattle.vh_design.specs.Validity.{AllFit}
 use Rattle.vh_store.specs.Contents.{Contents}
 use Rattle.vh_store.specs.Opening.{IsOpening, is_call, first_result, result_at}
 use Rattle.vh_bind.specs.Steps.{Nodes}
 use Rattle.vh_bind.specs.Nodes.{AreSound}
 use Rattle.vh_bind.specs.Constants.{bare, nothing}
-
-none_fit : {T : Type 0} (test : ℕ → T → Bool) → AllFit test []
-none_fit test k x at = absurd (cc)
-
-pub bare_valid : (ns : Nodes) → AreSound [] 0 ns → IsValid (bare ns)
-bare_valid ns sound = record {
-  nodes = record { objects = none_fit _; exprs = sound.fit; drivers = none_fit _; precise = refl };
-  names = record { waits = none_fit _; shows = none_fit _; stmts = none_fit _ };
-  codes = none_fit _;
-  bodies = none_fit _;
-}
-
-pub bare_counted : (ns : Nodes) → AreSound [] 0 ns → IsCounted (bare ns)
-bare_counted ns sound = record {
-  objects = omega arith;
-  exprs = omega (arith, sound.small);
-  drivers = omega arith;
-  codes = omega arith;
-  bodies = omega arith;
-  waits = omega arith;
-  shows = omega arith;
-  stmts = omega arith;
-}
 
 -- A node that reads no object is no call, so none has answered.
 no_call : (k : ExprKind) (e : ℕ) → fits_kind [] 0 e k ≡ true → is_call k ≡ false

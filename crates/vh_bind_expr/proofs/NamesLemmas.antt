@@ -34,10 +34,6 @@ alone s id None [] h g = refl
 alone s id None (x ∷ all) h g = absurd (cc)
 alone s id (Some e) all h g = absurd (cc)
 
-pub read-alone : (s : Scope) (n : Name Expr) → is_some n.first.index ≡ false → n.more ≡ []
-    → name_read s (name_tree n) ≡ Ok (alone_read s n.first.id.name)
-read-alone s n h g = alone s n.first.id n.first.index n.more h g
-
 longer : (s : Scope) (id : Id) (i : Option Expr) (all : List (NameStep Expr)) → (is_some i ≡ false → all ≡ [] → ⊥)
     → name_read s (name id (index_by expr_tree i) (steps_seen all))
     ≡ path_outcome s (name_meant s false (name id (index_by expr_tree i) (steps_seen all)))

@@ -143,25 +143,8 @@ kept_by true false d c x xs rest is at apart kept among = kept among
 kept_by false true d c x xs rest is at apart kept among = or_left (nat_eq d x) (is_among d rest) at
 kept_by false false d c x xs rest is at apart kept among = or_right (nat_eq d x) (is_among d rest) (kept among)
 
--- And what isn't that one stays.
-pub among_kept : (d c : ℕ) (xs : List ℕ) → nat_eq d c ≡ false → is_among d xs ≡ true → is_among d (without_number c xs) ≡ true
-among_kept d c [] apart among = absurd (cc)
-among_kept d c (x ∷ xs) apart among =
-    kept_by (nat_eq x c) (nat_eq d x) d c x xs (without_number c xs) refl refl apart (among_kept d c xs apart) among
-
-only_by : (b : Bool) (d c : ℕ) → nat_eq d c ≡ b → (b || false) ≡ true → d ≡ c
-only_by true d c is among = eqb-true d c is
-only_by false d c is among = absurd (cc)
-
--- What is among one number is that.
-pub among_one : (d c : ℕ) → is_among d (c ∷ []) ≡ true → d ≡ c
-among_one d c among = only_by (nat_eq d c) d c refl among
-
 pub set_none : IsSet []
 set_none = record { rising = tt; few = omega arith }
-
-pub set_one : (c : ℕ) → IsSet (c ∷ [])
-set_one c = record { rising = (omega arith, tt); few = omega arith }
 
 -- ---- what holds of each set that others are made of
 

@@ -182,7 +182,7 @@ fn schedule(alloc: Global, unit: u8) -> Result<Operation, NoMemory> {
 // case (q) 1: .. endcase, in so many digits.
 fn case(alloc: Global, width: u32, signed: bool, to: u32) -> Result<Operation, NoMemory> {
     let arm = Arm {
-        label: ExprId::new(ONE),
+        value: ExprId::new(ONE),
         to: Goes::To(to),
     };
     let test = CaseTest {

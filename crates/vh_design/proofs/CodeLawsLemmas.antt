@@ -165,7 +165,7 @@ goes_pass os ns ds l places (op.Test condition otherwise) h =
     only (fits_goes places otherwise) (and_right (nat_lt condition (length ns)) (fits_goes places otherwise) h)
 goes_pass os ns ds l places (op.Case c) h =
     all_mapped (fits_arm (length ns) places) (fits_goes places) (λ (a : Arm). a.to)
-    (λ a passed. and_right (nat_lt a.label (length ns)) (fits_goes places a.to) passed) c.arms
+    (λ a passed. and_right (nat_lt a.value (length ns)) (fits_goes places a.to) passed) c.arms
     (case_arms ns places c h)
 goes_pass os ns ds l places (op.Loop t) h = loop_pass (length ns) places t h
 goes_pass os ns ds l places (op.Fork branches) h =
@@ -381,8 +381,8 @@ exprs_there os ns ds l places (op.Test condition otherwise) h =
     only (nat_lt condition (length ns)) (and_left (nat_lt condition (length ns)) (fits_goes places otherwise) h)
 exprs_there os ns ds l places (op.Case c) h =
     both_true (case_subject ns places c h)
-    (all_mapped (fits_arm (length ns) places) (λ e. nat_lt e (length ns)) (λ (a : Arm). a.label)
-    (λ a passed. and_left (nat_lt a.label (length ns)) (fits_goes places a.to) passed) c.arms
+    (all_mapped (fits_arm (length ns) places) (λ e. nat_lt e (length ns)) (λ (a : Arm). a.value)
+    (λ a passed. and_left (nat_lt a.value (length ns)) (fits_goes places a.to) passed) c.arms
     (case_arms ns places c h))
 exprs_there os ns ds l places (op.Loop t) h = loop_there (length ns) places t h
 exprs_there os ns ds l places (op.Fork branches) h = refl

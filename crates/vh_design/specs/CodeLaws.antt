@@ -196,7 +196,7 @@ pub record IsUnit (d : Shape) (unit : ℕ) : Type 0 where
   pub most : unit ≤ MOST_UNIT
   pub least : d.precision ≤ unit
 
--- A `case` compares in the greatest width of its subject and labels, signed where all of them are.
+-- A `case` compares in the greatest width of its subject and values, signed where all of them are.
 pub record IsCase (d : Shape) (c : CaseTest) : Type 0 where
   pub width : c.width ≡ widest d.exprs (width_of d.exprs c.subject) (labels c.arms)
   pub least : 1 ≤ c.width

@@ -50,14 +50,14 @@ fits_pause exprs l (pause.Wait delay) = fits_delay exprs l.precision delay
 fits_pause exprs l (pause.Await wait) = nat_lt wait l.waits
 fits_pause exprs l (pause.WaitFor condition wait) = nat_lt condition exprs && nat_lt wait l.waits
 
--- The labels of a `case`.
+-- The values of a `case`'s items.
 abbrev pub labels : List Arm → List ℕ
-labels arms = map (λ a. a.label) arms
+labels arms = map (λ a. a.value) arms
 
 abbrev pub fits_arm : ℕ → ℕ → Arm → Bool
-fits_arm exprs places a = nat_lt a.label exprs && fits_goes places a.to
+fits_arm exprs places a = nat_lt a.value exprs && fits_goes places a.to
 
--- A `case`: its width is the greatest of its subject and labels, and it is signed where all of them are.
+-- A `case`: its width is the greatest of its subject and values, and it is signed where all of them are.
 abbrev pub fits_case : List ExprNode → ℕ → CaseTest → Bool
 fits_case ns places c =
     nat_lt c.subject (length ns) && list_all (fits_arm (length ns) places) c.arms

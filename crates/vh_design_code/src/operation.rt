@@ -10,7 +10,7 @@ pub struct Schedule {
     pub delay: Option<Delay>,
 }
 
-/// What a label of a `case` is compared with (IEEE 1364-2005, 9.5).
+/// What a value of an item of a `case` is compared with (IEEE 1364-2005, 9.5).
 #[derive(Clone, Copy, Debug, PartialEq, Eq)]
 pub enum CaseKind {
     Plain,
@@ -18,18 +18,18 @@ pub enum CaseKind {
     X,
 }
 
-/// A label of a `case`, and where it goes on.
+/// A value of an item of a `case`, and where it goes on.
 #[derive(Clone, Copy)]
 pub struct Arm {
-    pub label: ExprId,
+    pub value: ExprId,
     pub to: Goes,
 }
 
-/// The labels of a `case` in source order, which contracts see as a list.
+/// The values of a `case`'s items in source order, which contracts see as a list.
 pub type Arms = Sequence<Arm>;
 
-/// A `case`: the subject and the labels are compared in one width, signed where all of them are.
-/// Where no label fits it goes on behind the instruction.
+/// A `case`: the subject and the values are compared in one width, signed where all of them are.
+/// Where no value fits it goes on behind the instruction.
 #[derive(Drop)]
 pub struct CaseTest {
     pub kind: CaseKind,

@@ -66,35 +66,35 @@ fn fits_pause(exprs: usize, limits: Limits, pause: Pause) -> bool
     }
 }
 
-// Whether a label of a `case` may.
+// Whether a value of an item of a `case` may.
 fn fits_arm(exprs: usize, places: usize, arm: Arm) -> bool
     ensures { result ≡ fits_arm exprs places arm }
 {
-    is_before(exprs, arm.label) && fits_goes(places, arm.to)
+    is_before(exprs, arm.value) && fits_goes(places, arm.to)
 }
 
-// Whether all labels may.
+// Whether all values may.
 fn all_arms_fit(exprs: usize, places: usize, arms: &[Arm]) -> bool
     ensures { result ≡ list_all (fits_arm exprs places) arms.now }
 {
     arms.iter().all(|arm| fits_arm(exprs, places, *arm))
 }
 
-// The greatest width of a subject and labels.
+// The greatest width of a subject and values.
 fn widest_label(exprs: &[ExprNode], subject: u32, arms: &[Arm]) -> u32
     ensures { result ≡ widest exprs.now subject (labels arms.now) }
 {
     arms.iter()
-        .map(|arm| arm.label)
+        .map(|arm| arm.value)
         .fold(subject, |best, e| best.max(width_of(exprs, e)))
 }
 
-// Whether all labels are signed.
+// Whether all values are signed.
 fn all_labels_signed(exprs: &[ExprNode], arms: &[Arm]) -> bool
     ensures { result ≡ all_signed exprs.now (labels arms.now) }
 {
     arms.iter()
-        .map(|arm| arm.label)
+        .map(|arm| arm.value)
         .all(|e| signed_of(exprs, e))
 }
 

@@ -2,7 +2,7 @@
 use Rattle.std.proofs.Common.{◌≡◌, ◌<◌, ◌≤◌, ℕ, zero, suc, List, [], ◌∷◌, length, map, drop, Bool, true, false, cond, nat_eq, refl, sym, ap, ◌∙◌, arith, Option, Some, None, Result, Ok, Err, OnOk, OnErr, IfSome, IfNone}
 use Rattle.std.proofs.lemmas.Bool.{ne_eqb, eq-eqb}
 use Rattle.vh_callbacks.specs.Marks.{Registered, marked, without_number}
-use Rattle.vh_dispatch.specs.Frames.{stack_at, stack_of, top_set, depth_of, without_in_top}
+use Rattle.vh_dispatch.specs.Frames.{stack_at, stack_of, depth_of, without_in_top}
 use Rattle.vh_dispatch.specs.Laws.{LosesNumber, KeepsFrames}
 
 both : (s t : List ℕ) (ss ts : List (List ℕ)) → s ≡ t → ss ≡ ts → (s ∷ ss) ≡ (t ∷ ts)
@@ -103,14 +103,6 @@ module _ {B : Type 0} where
       stack_below (length numbers) depth xs cleared new (omega arith) filled ∙ stack_cleared numbers depth old cleared same emptied
 
   -- ---- the top frame
-
-  pub top_is : (numbers : List ℕ) (depth : ℕ) (r : Registered B) → depth_of numbers ≡ Some depth → top_set (stack_of numbers r) ≡ marked depth r
-  top_is [] depth r is = cc
-  top_is (n ∷ numbers) depth r is = let same : length numbers ≡ depth = cc in ap (λ (d : ℕ). marked d r) same
-
-  pub top_none : (numbers : List ℕ) (r : Registered B) → depth_of numbers ≡ None → top_set (stack_of numbers r) ≡ []
-  top_none [] r is = refl
-  top_none (n ∷ numbers) r is = cc
 
   pub stack_taken : (numbers : List ℕ) (depth c : ℕ) (old new : Registered B) → depth_of numbers ≡ Some depth
       → ((d : ℕ) → marked d new ≡ cond (nat_eq d depth) (without_number c (marked d old)) (marked d old))

@@ -1,7 +1,6 @@
 -- The rules of a design as a test; and what stands behind others.
-use Rattle.std.proofs.Common.{drop, ◌≤◌, ◌≡◌, ◌+◌, ◌∙◌, ℕ, zero, suc, Bool, true, false, List, [], ◌∷◌, length, Some, refl, sym, ap, arith, ◌&&◌}
+use Rattle.std.proofs.Common.{◌≤◌, ◌≡◌, ◌+◌, ◌∙◌, ℕ, zero, suc, Bool, true, false, List, [], ◌∷◌, length, Some, refl, sym, ap, arith, ◌&&◌}
 use Rattle.std.specs.Prelude.{slice_get, if◌then◌else◌}
-use Rattle.std.specs.List.{list_any}
 use Rattle.vh_design.specs.Shape.{Shape}
 use Rattle.vh_design.specs.Validity.{AllFit, IsValid}
 use Rattle.vh_design_nodes.specs.declared.expr.ExprNode.{ExprNode}
@@ -96,25 +95,3 @@ designed_not d none = by (is_design d) refl
 pub sound_of : (os : List ObjectInfo) (precision : ℕ) (ns : List ExprNode)
     → length ns ≤ MOST_EXPRS → exprs_fit os precision ns ≡ true → AreSound os precision ns
 sound_of os precision ns small fit = record { fit = fits_all _ _ fit; small = small }
-
--- What stands at a place, and those behind it.
-drop_there : {A : Type 0} (xs : List A) (n : ℕ) (x : A) → slice_get xs n ≡ Some x → drop n xs ≡ x ∷ drop (n + 1) xs
-drop_there [] n x is = absurd (cc)
-drop_there (y ∷ ys) zero x is = let same : y ≡ x = cc in rw same refl
-drop_there (y ∷ ys) (suc n) x is =
-    let number : suc n + 1 ≡ suc (n + 1) = omega arith in
-    rw number (drop_there ys n x is)
-
-pub any-behind : {A : Type 0} (f : A → Bool) (xs : List A) (n : ℕ) (x : A) → slice_get xs n ≡ Some x → f x ≡ false
-    → list_any f (drop (n + 1) xs) ≡ list_any f (drop n xs)
-any-behind {A} f xs n x is not_it =
-    let rest = drop (n + 1) xs in
-    let here : list_any f (x ∷ rest) ≡ list_any f rest = rw not_it refl in
-    sym (ap (λ (ys : List A). list_any f ys) (drop_there xs n x is) ∙ here)
-
-pub any-there : {A : Type 0} (f : A → Bool) (xs : List A) (n : ℕ) (x : A) → slice_get xs n ≡ Some x → f x ≡ true
-    → list_any f (drop n xs) ≡ true
-any-there {A} f xs n x is it =
-    let rest = drop (n + 1) xs in
-    let here : list_any f (x ∷ rest) ≡ true = rw it refl in
-    ap (λ (ys : List A). list_any f ys) (drop_there xs n x is) ∙ here

@@ -53,16 +53,6 @@ unseen-set (false ∷ bs) zero h = refl
 unseen-set (true ∷ bs) (suc x) h = unseen-set bs x h
 unseen-set (false ∷ bs) (suc x) h = ap (λ n. n + 1) (unseen-set bs x h)
 
-unseen-within : (bs : List Bool) (x : ℕ) → get_or bs x true ≡ false → x < length bs
-unseen-within [] x h = absurd (cc)
-unseen-within (b ∷ bs) zero h = omega arith
-unseen-within (b ∷ bs) (suc x) h = let rest = unseen-within bs x h in omega arith
-
-seen-within : (bs : List Bool) (x : ℕ) → get_or bs x false ≡ true → x < length bs
-seen-within [] x h = absurd (cc)
-seen-within (b ∷ bs) zero h = omega arith
-seen-within (b ∷ bs) (suc x) h = let rest = seen-within bs x h in omega arith
-
 seen-set : (bs : List Bool) (x y : ℕ) → get_or bs y false ≡ true → get_or (set bs x true) y false ≡ true
 seen-set [] x y h = h
 seen-set (b ∷ bs) zero zero h = refl

@@ -1,5 +1,5 @@
 -- Lemmas on `specs/Ready.antt`, and on chains: the operand at a place, and what is left behind it.
-use Rattle.std.proofs.Common.{◌≡◌, ◌∙◌, ◌<◌, ◌≤◌, ◌+◌, ℕ, zero, suc, List, [], ◌∷◌, length, get_or, drop, take, ◌-◌, min, Bool, true, false, ◌&&◌, nat_lt, Option, Some, slice_get, refl, sym, ap, subst, arith}
+use Rattle.std.proofs.Common.{◌≡◌, ◌∙◌, ◌<◌, ◌≤◌, ◌+◌, ℕ, zero, suc, List, [], ◌∷◌, length, get_or, drop, take, ◌-◌, min, Bool, true, false, ◌&&◌, nat_lt, Option, Some, slice_get, sym, ap, subst, arith}
 use Rattle.std.specs.Option.{option_map}
 use Rattle.std.proofs.lemmas.Bool.{ltb-true}
 use Rattle.std.proofs.lemmas.List.{at_drop_more, length-drop, take_all}
@@ -21,7 +21,7 @@ use Rattle.vh_design_nodes.proofs.FitsLemmas.{and_left, and_right}
 use Rattle.vh_design_nodes.proofs.WidthsLemmas.{widest-each}
 use Rattle.vh_eval.specs.Operators.{of_digit, arithmetic_of, shift_of, comparison_of, logic_of}
 use Rattle.vh_eval.specs.Ready.{AreBefore, AreReady}
-use Rattle.vh_eval.specs.Value.{Valuation, alone, arithmetic_chain, shift_chain, comparison_chain, compared, compared_all, logic_chain, joined}
+use Rattle.vh_eval.specs.Value.{Valuation, alone, arithmetic_chain, shift_chain, comparison_chain, logic_chain, joined}
 
 -- The part of the link at a place.
 part_at : {Op : Type 0} (links : List (Link Op)) (k : ℕ) (d : Link Op) → k < length links
@@ -52,14 +52,6 @@ pub before_behind : {Op : Type 0} (e : ℕ) (links : List (Link Op)) → AreBefo
     → AreBefore e (operands (drop 1 links))
 before_behind e [] before = before
 before_behind e (l ∷ ls) before = λ k part at. before (suc k) part at
-
--- A comparison of two, and what goes on behind it.
-pub compared_first : (part : Valuation) (ns : List ExprNode) (first : ℕ) (links : List (Link Comparison)) (d : Link Comparison)
-    → 0 < length links
-    → compared_all part ns first links
-    ≡ comparison_chain part ns (compared part ns first (get_or links 0 d).op (get_or links 0 d).part) (drop 1 links)
-compared_first part ns first [] d some = absurd (omega arith)
-compared_first part ns first (l ∷ ls) d some = refl
 
 -- The sum of widths so far is not above the sum of all.
 pub summed_first : (ns : List ExprNode) (w : ℕ) (parts : List ℕ) → min w (MAX_WIDTH + 1) ≤ summed ns w parts

@@ -49,12 +49,6 @@ enough (x ∷ xs) (suc m) n k h i = ap (λ (t : List Digit). x ∷ t) (enough xs
 pub above_past : (ds : List Digit) (place width : ℕ) → length ds ≤ place → digits_above ds place width ≡ replicate width X
 above_past ds place width past = rw (drop_of_length-le ds past) (take-replicate width width X (omega arith))
 
--- None of them x, where the value has all.
-pub above_within : (ds : List Digit) (place width : ℕ) → place + width ≤ length ds
-    → digits_above ds place width ≡ take width (drop place ds)
-above_within ds place width within =
-    let len = length-drop place ds in take-append-le width (drop place ds) (replicate width X) (omega arith)
-
 -- Those that the value has, and x above.
 pub above_partly : (ds : List Digit) (place width there : ℕ) → there ≡ length ds - place → there ≤ width
     → digits_above ds place width ≡ take there (drop place ds) ++ replicate (width - there) X

@@ -1,7 +1,7 @@
 -- Numbers given in order from 0 on, seen as a test and a count.
-use Rattle.std.proofs.Common.{◌≡◌, ◌+◌, ◌<◌, ◌≤◌, ◌⊎◌, inl, inr, refl, ap, zero, suc, ℕ, Bool, true, false, ◌||◌, nat_eq, nat_lt, nat_le, arith}
+use Rattle.std.proofs.Common.{◌≡◌, ◌+◌, ◌<◌, ◌≤◌, ◌⊎◌, inl, inr, refl, ap, zero, suc, ℕ, Bool, true, false, ◌||◌, nat_eq, nat_lt, arith}
 use Rattle.std.proofs.Math.Path.{fun_ext}
-use Rattle.std.proofs.lemmas.Bool.{ltb-true, ltb-false, lt-ltb, le-ltb, eqb-true, eq-eqb, leb-false, or_parts}
+use Rattle.std.proofs.lemmas.Bool.{ltb-true, ltb-false, lt-ltb, le-ltb, eqb-true, eq-eqb}
 
 -- The next number was never given.
 pub next-new : (n : ℕ) → nat_lt n n ≡ false
@@ -28,8 +28,3 @@ given-by false k n is = below-more (nat_lt k n) k n is refl
 pub given-more : (n : ℕ)
     → (let f : ℕ → Bool = λ k. nat_lt k (n + 1) in f) ≡ (let g : ℕ → Bool = λ k. nat_eq k n || nat_lt k n in g)
 given-more n = fun_ext (λ k. given-by (nat_eq k n) k n refl)
-
--- Where a number may still be given, few were.
-pub few-given : (live next : ℕ) → (nat_le 65536 live || nat_le 9223372036854775808 next) ≡ false → next < 9223372036854775808
-few-given live next room =
-    leb-false 9223372036854775808 next (or_parts (nat_le 65536 live) (nat_le 9223372036854775808 next) room).1

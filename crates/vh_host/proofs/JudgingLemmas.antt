@@ -125,12 +125,6 @@ account_of words holds s old new r contents is answered answers =
     let Q : Option Reading → Type 0 = λ r. AnswersWith (order_of r) (budget_of r) (by_reading r contents) s old new in
     record { contents = contents; answered = subst P is answered; answers = subst Q is answers }
 
--- Words without a reading.
-pub accounts_usage : (words : List (List ℕ)) (holds : Holds) (w : Option (List ℕ))
-    → reading words ≡ None → Accounts words holds status.Usage w w
-accounts_usage words holds w none =
-    account_of words holds status.Usage w w None [] (sym none) tt (refuses_so _ _ (refuses status.Usage) status.Usage w refl)
-
 -- Files that were read whole.
 pub accounts_files : (words : List (List ℕ)) (holds : Holds) (s : Status) (old new : Option (List ℕ)) (r : Reading) (files : List File)
     → Some r ≡ reading words → AreRead holds r.files files → first_too_long 1 files ≡ None

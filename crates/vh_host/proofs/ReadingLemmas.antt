@@ -120,10 +120,6 @@ pub record ReadUpTo (holds : Holds) (words : List (List ℕ)) (i : ℕ) (files :
   pub answered : WereAnswered holds (take i words) (contents_of files)
   pub short : (more : List File) → first_too_long 1 (files ++ more) ≡ first_too_long (i + 1) more
 
--- No file was read.
-pub read_none : (holds : Holds) (words : List (List ℕ)) → ReadUpTo holds words 0 []
-read_none holds words = record { named = refl; answered = tt; short = λ more. refl }
-
 -- One file more.
 pub read_more : (holds : Holds) (words : List (List ℕ)) (i : ℕ) (files : List File) (file : File) → i < length words
     → file.word ≡ get_or words i file.word → IsAnswered (holds file.word) (limit_of file.word) file.bytes → is_too_long file ≡ false
@@ -235,12 +231,6 @@ without (word ∷ words) = refl
 pub with_short : (files : List File) (i : ℕ) (words contents : List (List ℕ)) → length contents ≤ i → AreWith files i words contents → files ≡ files_with words contents
 with_short files i words contents end before =
     let none : files_with (drop i words) (drop i contents) ≡ [] = ap (λ (cs : List (List ℕ)). files_with (drop i words) cs) (drop_all i contents end) ∙ without (drop i words) in
-    sym (append-nil files) ∙ ap (λ (more : List File). files ++ more) (sym none) ∙ before
-
--- No word is left.
-pub with_end : (files : List File) (i : ℕ) (words contents : List (List ℕ)) → length words ≤ i → AreWith files i words contents → files ≡ files_with words contents
-with_end files i words contents end before =
-    let none : files_with (drop i words) (drop i contents) ≡ [] = ap (λ (ws : List (List ℕ)). files_with ws (drop i contents)) (drop_all i words end) in
     sym (append-nil files) ∙ ap (λ (more : List File). files ++ more) (sym none) ∙ before
 
 -- A file is too long exactly where there is a first one.

@@ -17,7 +17,7 @@ use Rattle.vh_host.specs.declared.status.Status.{Status}
 use Rattle.vh_host.specs.declared.status.Status.TheVariants as status
 use Rattle.vh_host.specs.Turn.{Turned, TurnsTo, IsCut}
 use Rattle.vh_host.specs.Transcript.{none_ends, but_last, WroteEnded, WroteFront, WroteOf, Wrote}
-use Rattle.vh_base_outside.proofs.Appended.{appended_twice, appended_nothing}
+use Rattle.vh_base_outside.proofs.Appended.{appended_twice}
 
 -- From a state and an order of choice the machine makes these labels, none of them an end, and comes to others.
 abbrev pub Goes : Chooser → State → List Move → Chooser → State → Type 0
@@ -76,10 +76,6 @@ told_more : (mid old new : Option (List ℕ)) (moves : List Move) (m : Move)
 told_more mid old new moves m before more =
     more ∙ ap (λ (w : Option (List ℕ)). appended w (line_of_move m)) before ∙ appended_twice old (text_of moves) (line_of_move m)
     ∙ ap (λ (w : List ℕ). appended old w) (sym (text_more moves m))
-
--- At first nothing was made.
-pub so_far_none : (o : Chooser) (s : State) (w : Option (List ℕ)) → SoFar o o s s 0 w w
-so_far_none o s w = record { moves = []; goes = (refl, refl); counted = refl; told = sym (appended_nothing w) }
 
 -- A turn that goes on adds its label.
 pub so_far_more : (o p : Chooser) (s t u : State) (n : ℕ) (old mid new : Option (List ℕ))
@@ -197,8 +193,3 @@ so_far_spent o p s t n budget old new lawful f all =
     wrote_of o s budget status.BudgetSpent f.moves (text_of f.moves) old new lawful (goes_run o p s t f.moves f.goes)
     (let c = f.counted in omega arith) f.told
     (record { spent = f.counted ∙ all; no_end = goes_none o p s t f.moves f.goes; whole = refl })
-
--- The source is read before the run, so that no turn answers its fault.
-pub turned_calm : (k : ℕ) (s t : State) (st : Status) (n : ℕ) (old new : Option (List ℕ))
-    → Turned k (Some st) s t old new → st ≢ status.ReadFault n
-turned_calm k s t st n old new turn = λ is. subst (λ (z : Status). Turned k (Some z) s t old new) is turn

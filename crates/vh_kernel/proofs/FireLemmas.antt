@@ -34,11 +34,6 @@ moves-there : (s : State) (f : Told) (k : ℕ) (g : Given) → Some f ≡ frame_
     → top_move (slice_get s.control 0) s k g ≡ fire_move (slice_get (top_set s.world.frames) k) f (without_top s)
 moves-there s f k g is = ap (λ (o : Option Control). top_move o s k g) (frame-is (slice_get s.control 0) f is)
 
-pub done-there : (s : State) (f : Told) (k : ℕ) (g : Given) → Some f ≡ frame_of (slice_get s.control 0) → slice_get (top_set s.world.frames) k ≡ None
-    → top_move (slice_get s.control 0) s k g ≡ (label.Done f.number, with_frames (drop 1 s.world.frames) (without_top s))
-done-there s f k g is none =
-    moves-there s f k g is ∙ ap (λ (o : Option ℕ). fire_move o f (without_top s)) none
-
 pub fires-there : (s : State) (f : Told) (k c : ℕ) (g : Given) → Some f ≡ frame_of (slice_get s.control 0) → slice_get (top_set s.world.frames) k ≡ Some c
     → top_move (slice_get s.control 0) s k g
     ≡ (label.Fire f.number c, called_for (frame_of (slice_get s.control 0)) c (with_frames (without_in_top c s.world.frames) s))

@@ -1,5 +1,5 @@
 -- What holds of the queue, with what is noted of follow entries, behind each label of a process and each entry that is picked.
-use Rattle.std.proofs.Common.{◌≡◌, ℕ, List, [], ◌∷◌, Bool, true, false, not, cond, Option, Some, None, Result, Ok, Err, slice_get, filter, map, nat_eq, nat_lt, refl, subst}
+use Rattle.std.proofs.Common.{◌≡◌, ℕ, List, [], ◌∷◌, Bool, true, false, not, cond, Option, Some, None, Result, Ok, Err, slice_get, filter, map, nat_eq, nat_lt, refl}
 use Rattle.vh_proc_assign.specs.declared.piece.Piece.{Piece}
 use Rattle.vh_base.specs.Checks.{unless, with_some, with_ok}
 use Rattle.vh_proc_assign.specs.Pieces.{pieces_in}
@@ -73,9 +73,6 @@ some-ok Q (Some x) e rest goes = goes x
 either-ok : {A E : Type 0} (Q : A → Type 0) (b : Bool) (x y : Result A E) → AllOk Q x → AllOk Q y → AllOk Q (cond b x y)
 either-ok Q true x y here there = here
 either-ok Q false x y here there = there
-
-pub ok-at : {X E : Type 0} (P : X → Type 0) (r : Result X E) (x : X) → r ≡ Ok x → AllOk P r → P x
-ok-at P r x is here = subst (AllOk P) is here
 
 -- Does work follow a force or an assign?
 abbrev pub is_follow : Work → Bool

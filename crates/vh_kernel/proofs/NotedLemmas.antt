@@ -62,11 +62,6 @@ other-put y x n [] other = rw (at-other y x other) refl
 other-put y x n (e ∷ es) other =
     other-by (nat_lt x e.0) (nat_eq x e.0) y x n e es (insert_entry nat_cmp es x n) refl other (other-put y x n es other)
 
--- So of what is noted.
-noted-last : (force : Bool) (o serial : ℕ) (n : Serials) → last_of force o (noted force o serial n) ≡ Some serial
-noted-last true o serial n = found-put o serial n.forces
-noted-last false o serial n = found-put o serial n.assigns
-
 noted-other : (f force : Bool) (x o serial : ℕ) (n : Serials) → work.Follow x f ≢ work.Follow o force
     → last_of f x (noted force o serial n) ≡ last_of f x n
 noted-other true true x o serial n other = other-put x o serial n.forces (λ same. other (ap (λ (y : ℕ). work.Follow y true) same))

@@ -4,7 +4,6 @@ use Rattle.std.proofs.Common.{◌≡◌, ◌<◌, ◌-◌, nat_le, ℕ, zero, su
 use Rattle.vh_base.specs.declared.limits.TheConstants.{MOST_FRAMES, MOST_NUMBERS}
 use Rattle.vh_base.specs.declared.faults.Fault.{Fault}
 use Rattle.vh_base.specs.declared.faults.Fault.TheVariants as fault
-use Rattle.vh_design.specs.Shape.{Shape}
 use Rattle.vh_proc_simulation.specs.Labels.{Came, Performed, performed as label_performed, worked}
 use Rattle.vh_base.specs.declared.orders.Answer.{Answer}
 use Rattle.vh_base.specs.declared.orders.Order.{Order}
@@ -35,9 +34,8 @@ use Rattle.vh_dispatch.specs.Frames.{top_set, without_in_top}
 use Rattle.vh_kernel.specs.Occurrences.{Occurrence, occurrence_of}
 use Rattle.vh_orders.proofs.OrdersLemmas.{performed-kept}
 use Rattle.vh_orders.specs.Orders.{Given, performed, is_pass, is_return}
-use Rattle.vh_orders.specs.World.{World}
 use Rattle.vh_kernel.specs.Outcome.{Made, Outcome, Move, move_of}
-use Rattle.vh_kernel.specs.Settle.{settled, Opens}
+use Rattle.vh_kernel.specs.Settle.{settled}
 use Rattle.vh_kernel.specs.State.{State, with_top, without_top, without_item, with_frames, with_variables}
 use Rattle.vh_kernel.specs.Statements.{performed_outcome, worked_outcome, on_control, work_outcome}
 use Rattle.vh_kernel.specs.Step.{telling_outcome, called, fire_move, pass_move, order_move, next_move_of, activation_move, time_move, region_move, pick_move, started, agenda_move, idle_move, item_move, top_move, crowded_move, is_crowded, is_end, step_of, is_over, item_choices, agenda_choices, idle_choices, top_choices, choices_of}
@@ -117,10 +115,6 @@ acts-kept a s g m (orders vars o further is) =
 abbrev pub AllMade : (Made → Type 0) → Outcome → Type 0
 AllMade P (Ok m) = P m
 AllMade P (Err f) = Unit {0}
-
-pub either-made : (P : Made → Type 0) (b : Bool) (x y : Outcome) → AllMade P x → AllMade P y → AllMade P (cond b x y)
-either-made P true x y here there = here
-either-made P false x y here there = there
 
 -- A statement keeps the phase, and so does what an occurrence or an entry comes to.
 abbrev HasPhase : Phase → Made → Type 0
@@ -281,12 +275,6 @@ step-goes s t k g l below is =
     let m : Move = crowded_move (is_crowded s) s k g in
     let P : Move → Type 0 = λ x. is_end x.0 ≡ false → 0 < choices_of x.1 in
     subst P is (λ open_yet. settled-goes (is_end m.0) m.1 (crowded-goes (is_crowded s) s k g (not-over s k below) open_yet))
-
--- At the opening it has one too.
-pub opening-goes : (d : Shape) (scripts : List ScriptData) (s : State) → Opens d scripts s → 0 < choices_of s
-opening-goes d scripts s opens =
-    let P : State → Type 0 = λ t. 0 < choices_of t in
-    subst P (sym opens.settles) (some-choice (settled opens.before) (ap (λ (w : World). is_over w.phase) opens.is.world))
 
 -- The same of a label and the state that settles after it.
 pub label-goes : (s t u : State) (k : ℕ) (g : Given) (l : Label) → k < choices_of s → crowded_move (is_crowded s) s k g ≡ (l, t)

@@ -225,9 +225,6 @@ tells-kept s u r n what reason object tells number why whom told = elim tells [
   })
 ]
 
-same-kept : (s u : State) → pendings_of u ≡ pendings_of s → pendings_of u ≡ [] ++ pendings_of s
-same-kept s u is = is
-
 row-kept : (s u : State) (l : Label) → Row s l u → Kept s l u
 row-kept s u (label.Startup k) row = record {
   made = [];

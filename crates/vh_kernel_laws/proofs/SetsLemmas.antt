@@ -56,16 +56,6 @@ or-more : (a b c : Bool) → (b ≡ true → c ≡ true) → (a || b) ≡ true �
 or-more true b c more is = refl
 or-more false b c more is = more is
 
--- What is among those that pass is among all.
-among-by : (b : Bool) (c x : ℕ) (xs rest : List ℕ) → (is_among c rest ≡ true → is_among c xs ≡ true)
-    → is_among c (cond b (x ∷ rest) rest) ≡ true → is_among c (x ∷ xs) ≡ true
-among-by true c x xs rest more among = or-more (nat_eq c x) (is_among c rest) (is_among c xs) more among
-among-by false c x xs rest more among = or_right (nat_eq c x) (is_among c xs) (more among)
-
-pub among-filter : (c : ℕ) (p : ℕ → Bool) (xs : List ℕ) → is_among c (filter p xs) ≡ true → is_among c xs ≡ true
-among-filter c p [] among = absurd (cc)
-among-filter c p (x ∷ xs) among = among-by (p x) c x xs (filter p xs) (among-filter c p xs) among
-
 -- And what is among all and passes is among those.
 passes-by : (b : Bool) (same : Bool) (c x : ℕ) (p : ℕ → Bool) (xs rest : List ℕ) → p x ≡ b → nat_eq c x ≡ same → p c ≡ true
     → (is_among c xs ≡ true → is_among c rest ≡ true) → (same || is_among c xs) ≡ true → is_among c (cond b (x ∷ rest) rest) ≡ true

@@ -1,5 +1,5 @@
 -- White space and comments, from any byte on.
-use Rattle.std.proofs.Common.{◌≡◌, ℕ, zero, suc, ◌+◌, List, [], ◌∷◌, Option, Some, None, length, drop, refl, ap, sym, ◌∙◌, arith}
+use Rattle.std.proofs.Common.{◌≡◌, ℕ, zero, suc, ◌+◌, List, [], ◌∷◌, Option, Some, length, drop, refl, ap, sym, ◌∙◌, arith}
 use Rattle.vh_lex.specs.Directives.{blank_at, gap_then, gap_after, gap_len}
 
 -- Passing over bytes is going on behind them
@@ -16,7 +16,3 @@ gap-more byte bytes rest skip all len same e h =
     let f : gap_len (byte ∷ bytes) ≡ 1 + gap_after skip bytes = ap (λ (o : Option ℕ). gap_then o (λ n. gap_after n bytes)) (ap blank_at (sym same) ∙ e) in
     let p = gap-passed skip bytes in
     omega arith
-
-pub gap-end : (byte : ℕ) (bytes rest : List ℕ) → rest ≡ byte ∷ bytes → blank_at rest ≡ None → gap_len rest ≡ 0
-gap-end byte bytes rest same e =
-    ap gap_len same ∙ ap (λ (o : Option ℕ). gap_then o (λ n. gap_after n bytes)) (ap blank_at (sym same) ∙ e)

@@ -15,9 +15,6 @@ knows-none name = refl
 bytes-same : (x y : List ℕ) → bytes_eq x y ≡ true → x ≡ y
 bytes-same x y e = (bytes_eq-Decides x y).0 e
 
-bytes-self : (x : List ℕ) → bytes_eq x x ≡ true
-bytes-self x = (bytes_eq-Decides x x).1 refl
-
 not-apart : (other name row : List ℕ) → bytes_eq name row ≡ true → bytes_eq other row ≡ true → bytes_eq other name ≡ true
 not-apart other name row e f = (bytes_eq-Decides other name).1 (bytes-same other row f ∙ sym (bytes-same name row e))
 

@@ -1,9 +1,8 @@
 -- Decoding a string from any byte on.
 use Rattle.std.proofs.Common.{◌≡◌, ℕ, zero, suc, ◌+◌, ◌≤◌, List, [], ◌∷◌, ◌++◌, Option, Some, None, false, length, drop, nat_eq, refl, ap, sym, ◌∙◌, append_assoc, arith}
 use Rattle.std.specs.Option.{option_map}
-use Rattle.vh_lex.specs.declared.text.Escape.{Escape}
 use Rattle.vh_lex.specs.Bytes.{one_more}
-use Rattle.vh_lex.specs.Texts.{Decoded, preceded, escaped_then, decoded, decoded_after, escape_at}
+use Rattle.vh_lex.specs.Texts.{Decoded, preceded, decoded, decoded_after}
 
 -- Decoded bytes before those that follow, spelled by so many bytes
 abbrev pub onto : ℕ → List ℕ → Decoded → Decoded
@@ -35,23 +34,7 @@ onto-preceded n front byte d = same-decoded _ _ _ _ (sym (append_assoc front (by
     more None = refl
     more (Some k) = ap Some (omega arith)
 
-onto-onto : (n m : ℕ) (front : List ℕ) (d : Decoded) → onto n front (onto m [] d) ≡ onto (n + m) front d
-onto-onto n m front d = same-decoded _ _ _ _ refl (more d.wrong)
-  where
-    more : (o : Option ℕ) → option_map (λ k. n + k) (option_map (λ k. m + k) o) ≡ option_map (λ k. n + m + k) o
-    more None = refl
-    more (Some k) = ap Some (omega arith)
-
 -- A byte that is no backslash
 pub plain-byte : (n m : ℕ) (front : List ℕ) (byte : ℕ) (bytes : List ℕ) (all : Decoded) → nat_eq byte 92 ≡ false → m ≡ n + 1
     → all ≡ onto n front (decoded (byte ∷ bytes)) → all ≡ onto m (front ++ byte ∷ []) (decoded bytes)
 plain-byte n m front byte bytes all e same h = rw same (rw e at h ∙ onto-preceded n front byte (decoded bytes))
-
--- An escape
-pub escape-byte : (n m : ℕ) (front : List ℕ) (bytes : List ℕ) (escape : Escape) (all : Decoded) → escape_at bytes ≡ Some escape → escape.len ≤ length bytes → m ≡ n + 1 + escape.len
-    → all ≡ onto n front (decoded (92 ∷ bytes)) → all ≡ onto m (front ++ escape.byte ∷ []) (decoded (drop escape.len bytes))
-escape-byte n m front bytes escape all e long same h =
-    rw same (h ∙ ap (λ (o : Option Escape). onto n front (escaped_then o (λ len. decoded_after len bytes))) e
-    ∙ onto-preceded n front escape.byte (decoded_after escape.len bytes)
-    ∙ ap (onto (n + 1) (front ++ escape.byte ∷ [])) (passed escape.len bytes long)
-    ∙ onto-onto (n + 1) escape.len (front ++ escape.byte ∷ []) (decoded (drop escape.len bytes)))

@@ -1,62 +1,20 @@
 -- Reading the texts of macros that are open.
-use Rattle.std.proofs.Common.{◌≡◌, ℕ, suc, ◌-◌, ◌<◌, ◌≤◌, List, [], ◌∷◌, ◌++◌, Option, Some, Bool, true, false, Ok, Err, length, map, reverse, refl, ap, sym, ◌∙◌, arith}
-use Rattle.std.specs.Prelude.{is_some}
+use Rattle.std.proofs.Common.{◌≡◌, ℕ, suc, ◌-◌, ◌<◌, ◌≤◌, List, [], ◌∷◌, ◌++◌, Ok, Err, length, map, reverse, refl, ap, sym, ◌∙◌, arith}
 use Rattle.std.specs.Borrow.{Bor}
 use Rattle.std.proofs.lemmas.List.{map-append, reverse-append, length-reverse, length-map}
-use Rattle.vh_base.specs.declared.faults.DesignFault.{DesignFault}
 use Rattle.vh_base.specs.declared.faults.DesignFault.TheVariants.{L3}
 use Rattle.vh_lex.specs.declared.fault.Halt.{Halt}
 use Rattle.vh_lex.specs.declared.fault.Halt.TheVariants as halt
 use Rattle.vh_lex.specs.declared.piece.Part.{Part}
 use Rattle.vh_lex.specs.declared.piece.Part.TheVariants as part
-use Rattle.vh_lex.specs.Directives.{directive_of}
-use Rattle.vh_lex.specs.Made.{Made, macro_of}
-use Rattle.vh_lex.specs.Spelling.{Around, Making, and_then, with_use, used_within, part_made, parts_made, expanded, most_levels}
-use Rattle.vh_lex.specs.Uses.{frames_seen, used_in, finish, Pauses, TextMissing}
+use Rattle.vh_lex.specs.Made.{Made}
+use Rattle.vh_lex.specs.Spelling.{Around, Making, and_then, with_use, parts_made, expanded, most_levels}
+use Rattle.vh_lex.specs.Uses.{frames_seen, used_in, finish, Pauses}
 use Rattle.vh_lex.specs.Outcomes.{Makes}
-
-pub and_then-assoc : (o : Making) (f g : Made → Making) → and_then (and_then o f) g ≡ and_then o (λ m. and_then (f m) g)
-and_then-assoc (Ok m) f g = refl
-and_then-assoc (Err fault) f g = refl
-
-pub and_then-ok : (o : Making) → and_then o (λ m. Ok m) ≡ o
-and_then-ok (Ok m) = refl
-and_then-ok (Err fault) = refl
 
 -- A text at the end is the innermost
 pub frames-push : (fs : List (Bor (List Part))) (f : Bor (List Part)) → frames_seen (fs ++ f ∷ []) ≡ f.now ∷ frames_seen fs
 frames-push fs f = ap reverse (map-append (λ frame. frame.now) fs (f ∷ [])) ∙ reverse-append (map (λ frame. frame.now) fs) (f.now ∷ [])
-
--- A part that gives something is read
-pub part-goes : (around : Around) (p : Part) (ps : List Part) (below : List (List Part)) (m n : Made) → part_made (used_in around (length (ps ∷ below))) around p m ≡ Ok n
-    → finish around ((p ∷ ps) ∷ below) m ≡ finish around (ps ∷ below) n
-part-goes around p ps below m n e = ap (λ (o : Making). and_then (and_then o (parts_made (used_in around (length (ps ∷ below))) around ps)) (finish around below)) e
-
--- A part that is refused
-pub part-stops : (around : Around) (p : Part) (ps : List Part) (below : List (List Part)) (m : Made) (fault : DesignFault) → part_made (used_in around (length (ps ∷ below))) around p m ≡ Err fault
-    → finish around ((p ∷ ps) ∷ below) m ≡ Err fault
-part-stops around p ps below m fault e = ap (λ (o : Making). and_then (and_then o (parts_made (used_in around (length (ps ∷ below))) around ps)) (finish around below)) e
-
--- The use of a macro
-pub use-pauses : (around : Around) (name : List ℕ) (text ps : List Part) (below : List (List Part)) (m : Made) → is_some (directive_of name) ≡ false → macro_of name around.macros ≡ Some text
-    → finish around ((part.Use name ∷ ps) ∷ below) m ≡ and_then (used_in around (length (ps ∷ below)) text m) (finish around (ps ∷ below))
-use-pauses around name text ps below m e h =
-    ap (λ (o : Making). and_then (and_then o (parts_made (used_in around (length (ps ∷ below))) around ps)) (finish around below)) (use-is (used_in around (length (ps ∷ below))) around name text m e h)
-    ∙ and_then-assoc (used_in around (length (ps ∷ below)) text m) (parts_made (used_in around (length (ps ∷ below))) around ps) (finish around below)
-  where
-    use-is : (inner : List Part → Made → Making) (around : Around) (name : List ℕ) (text : List Part) (m : Made) → is_some (directive_of name) ≡ false → macro_of name around.macros ≡ Some text
-        → used_within (is_some (directive_of name)) inner around name m ≡ inner text m
-    use-is inner around name text m e h = rw (e, h) refl
-
-pub use-stops : (around : Around) (name : List ℕ) (ps : List Part) (below : List (List Part)) (m : Made) → TextMissing (is_some (directive_of name)) (macro_of name around.macros)
-    → finish around ((part.Use name ∷ ps) ∷ below) m ≡ Err L3
-use-stops around name ps below m h =
-    part-stops around (part.Use name) ps below m L3 (missing (is_some (directive_of name)) (macro_of name around.macros) (used_in around (length (ps ∷ below))) around name m refl h)
-  where
-    missing : (b : Bool) (text : Option (List Part)) (inner : List Part → Made → Making) (around : Around) (name : List ℕ) (m : Made) → macro_of name around.macros ≡ text → TextMissing b text
-        → used_within b inner around name m ≡ Err L3
-    missing true text inner around name m e h = refl
-    missing false text inner around name m e h = rw (e ∙ h) refl
 
 -- A macro is used at a level that is left
 pub used-deep : (around : Around) (depth : ℕ) (text : List Part) (m : Made) → 64 ≤ depth → used_in around depth text m ≡ Err L3

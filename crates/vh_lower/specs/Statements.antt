@@ -349,11 +349,11 @@ abbrev pub if_kind : ElseTree → StmtKind
 if_kind no_else = a.If
 if_kind (else_stmt s) = a.IfElse
 
--- A `case` so far: the calls that its test makes, all labels, its statements, and what is done where no label
+-- A `case` so far: the calls that its test makes, all values, its statements, and what is done where no value
 -- fits, of which the first counts. (9.5)
 pub record Cases : Type 0 where
   pub calls : List Operation
-  pub labels : List ℕ
+  pub matched : List ℕ
   pub items : List ItemTree
   pub default : List FlowTree
 
@@ -369,7 +369,7 @@ abbrev pub or_nothing : List FlowTree → FlowTree
 or_nothing [] = nothing
 or_nothing (f ∷ more) = f
 
--- The labels of one statement of it, from the left, behind calls.
+-- The values of one statement of it, from the left, behind calls.
 abbrev pub values_of : Surroundings → List ℕ → List Operation → List ExprTree → Making (List ℕ × List Operation)
 values_of w ids calls [] = pure (ids, calls)
 values_of w ids calls (e ∷ es) = value_of w calls e >>= (λ v. values_of w (ids ++ v.0 ∷ []) v.1 es)
@@ -377,8 +377,8 @@ values_of w ids calls (e ∷ es) = value_of w calls e >>= (λ v. values_of w (id
 abbrev pub with_item : Cases → List ℕ → List Operation → FlowTree → Cases
 with_item c ids calls body = record {
   calls = calls;
-  labels = c.labels ++ ids;
-  items = c.items ++ record { labels = ids; body = body } ∷ [];
+  matched = c.matched ++ ids;
+  items = c.items ++ record { matched = ids; body = body } ∷ [];
   default = c.default;
 }
 
@@ -386,7 +386,7 @@ abbrev pub with_default : Cases → FlowTree → Cases
 with_default c body = record c { default = c.default ++ body ∷ [] }
 
 abbrev pub no_cases : List Operation → Cases
-no_cases calls = record { calls = calls; labels = []; items = []; default = [] }
+no_cases calls = record { calls = calls; matched = []; items = []; default = [] }
 
 abbrev pub case_with : CaseHead → Mark → List ItemTree → FlowTree → FlowTree
 case_with h m items other = sized (case_of h m (case_items items) other)
@@ -396,7 +396,7 @@ case_tree n h c =
     in_row (from_first n c.calls ++ case_with h (marked n (is_empty c.calls)) c.items (or_nothing c.default) ∷ [])
 
 abbrev pub case_flow : CaseWord → Head → Cases → Making FlowTree
-case_flow word h c = λ ad. Ok (case_tree h.number (case_head word h.test c.labels ad.exprs) c, ad)
+case_flow word h c = λ ad. Ok (case_tree h.number (case_head word h.test c.matched ad.exprs) c, ad)
 
 -- `while` and `repeat`, and what their gates need. (9.6)
 abbrev pub loop_kind : LoopWord → StmtKind
@@ -563,8 +563,8 @@ abbrev mutual
   -- The statements of a `case`. (9.5)
   pub items_flow : Surroundings → Cases → Citems → Making Cases
   items_flow w c no_citem = pure c
-  items_flow w c (one_citem place labels body more) =
-      item_with w c labels (stmt_flow w body) >>= (λ d. items_flow w d more)
+  items_flow w c (one_citem place matched body more) =
+      item_with w c matched (stmt_flow w body) >>= (λ d. items_flow w d more)
 
 -- The code of a statement, by what it is of.
 abbrev pub lowered : CodeKind → Surroundings → StmtTree → Making Code

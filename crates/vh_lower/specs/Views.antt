@@ -45,7 +45,7 @@ calling_seen c = record {
 abbrev pub cases_seen : all.Cases → Cases
 cases_seen c = record {
   calls = c.calls.items;
-  labels = c.labels.items;
+  matched = c.matched.items;
   items = map item_tree c.items;
   default = flows_seen c.default;
 }

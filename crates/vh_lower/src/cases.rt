@@ -17,12 +17,12 @@ use vh_design_code::{CaseKind, Operation};
 use vh_design_nodes::{ExprIds, ExprNode, signed_of, width_of};
 use vh_lower_flow::{CaseHead, CaseItem, Flow, FlowForm, Mark};
 
-// A `case` so far: the calls that its test makes, all its labels, its statements, and what is done
-// where no label fits.
+// A `case` so far: the calls that its test makes, all its matched, its statements, and what is done
+// where no value fits.
 #[derive(Drop)]
 pub(crate) struct Cases {
     pub calls: Vec<Operation>,
-    pub labels: Vec<ExprId>,
+    pub matched: Vec<ExprId>,
     pub items: Items<CaseItem<Flow>>,
     /// The first of them counts.
     pub default: Items<Flow>,
@@ -39,31 +39,31 @@ fn case_kind(word: CaseWord) -> CaseKind
     }
 }
 
-// The greatest width of a subject and labels.
-fn widest(nodes: &[ExprNode], subject: u32, labels: &[ExprId]) -> u32
-    ensures { result ≡ widest nodes.now subject labels.now }
+// The greatest width of a subject and matched.
+fn widest(nodes: &[ExprNode], subject: u32, matched: &[ExprId]) -> u32
+    ensures { result ≡ widest nodes.now subject matched.now }
 {
-    labels
+    matched
         .iter()
         .fold(subject, |best, e| best.max(width_of(nodes, *e)))
 }
 
-// Whether all labels are signed.
-fn all_signed(nodes: &[ExprNode], labels: &[ExprId]) -> bool
-    ensures { result ≡ all_signed nodes.now labels.now }
+// Whether all matched are signed.
+fn all_signed(nodes: &[ExprNode], matched: &[ExprId]) -> bool
+    ensures { result ≡ all_signed nodes.now matched.now }
 {
-    labels.iter().all(|e| signed_of(nodes, *e))
+    matched.iter().all(|e| signed_of(nodes, *e))
 }
 
 // What a `case` compares, and how.
-fn case_head(word: CaseWord, subject: ExprId, labels: &[ExprId], nodes: &[ExprNode]) -> CaseHead
-    ensures { result ≡ case_head word subject labels.now nodes.now }
+fn case_head(word: CaseWord, subject: ExprId, matched: &[ExprId], nodes: &[ExprNode]) -> CaseHead
+    ensures { result ≡ case_head word subject matched.now nodes.now }
 {
     CaseHead {
         kind: case_kind(word),
         subject,
-        width: widest(nodes, width_of(nodes, subject), labels),
-        signed: signed_of(nodes, subject) && all_signed(nodes, labels),
+        width: widest(nodes, width_of(nodes, subject), matched),
+        signed: signed_of(nodes, subject) && all_signed(nodes, matched),
     }
 }
 
@@ -73,7 +73,7 @@ pub(crate) fn no_cases(alloc: Global, calls: Operations) -> Cases
 {
     Cases {
         calls: calls.into_vec(),
-        labels: Vec::new(alloc),
+        matched: Vec::new(alloc),
         items: Items::new(alloc),
         default: Items::new(alloc),
     }
@@ -143,14 +143,14 @@ pub(crate) fn case_flow(
 ) -> Result<Flow, NoMemory>
     ensures { IfOk result
         (λ f. flow_tree f ≡
-        case_tree number (case_head word subject (cases_seen cases).labels nodes.now)
+        case_tree number (case_head word subject (cases_seen cases).matched nodes.now)
         (cases_seen cases)) }
 {
-    let compared = case_head(word, subject, &cases.labels, nodes);
+    let compared = case_head(word, subject, &cases.matched, nodes);
     case_tree(alloc, number, compared, cases)
 }
 
-// The labels of one statement, with the calls that they make behind those before.
+// The matched of one statement, with the calls that they make behind those before.
 pub(crate) fn values_of(
     maker: &mut Maker,
     calls: &mut Vec<Operation>,
@@ -186,18 +186,18 @@ fn add_numbers(numbers: &mut Vec<ExprId>, more: &[ExprId]) -> Result<(), NoMemor
     Ok(())
 }
 
-// One statement more, whose labels' calls are there.
-pub(crate) fn with_item(cases: &mut Cases, labels: ExprIds, body: Flow) -> Result<(), NoMemory>
+// One statement more, whose matched' calls are there.
+pub(crate) fn with_item(cases: &mut Cases, matched: ExprIds, body: Flow) -> Result<(), NoMemory>
     ensures { OnOk result
         (cases_seen cases.new ≡
-        with_item (cases_seen cases.old) labels (cases_seen cases.old).calls (flow_tree body)) }
+        with_item (cases_seen cases.old) matched (cases_seen cases.old).calls (flow_tree body)) }
 {
-    add_numbers(&mut cases.labels, labels.as_slice())?;
-    cases.items.push(CaseItem { labels, body })?;
+    add_numbers(&mut cases.matched, matched.as_slice())?;
+    cases.items.push(CaseItem { matched, body })?;
     Ok(())
 }
 
-// What is done where no label fits.
+// What is done where no value fits.
 pub(crate) fn with_default(cases: &mut Cases, body: Flow) -> Result<(), NoMemory>
     ensures { OnOk result
         (cases_seen cases.new ≡ with_default (cases_seen cases.old) (flow_tree body)) }

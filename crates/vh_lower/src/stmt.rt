@@ -274,26 +274,26 @@ fn lower_items(maker: &mut Maker, cases: &mut Cases, citems: &[Citem<Stmt>]) -> 
         maker.old result maker.new }
 {
     for citem in citems {
-        lower_item(maker, cases, &citem.labels, &citem.body)?;
+        lower_item(maker, cases, &citem.matched, &citem.body)?;
     }
     Ok(())
 }
 
 // One of them.
 #[cycle(lower)]
-fn lower_item(maker: &mut Maker, cases: &mut Cases, labels: &Labels, body: &Stmt) -> Lowered<()>
+fn lower_item(maker: &mut Maker, cases: &mut Cases, matched: &Labels, body: &Stmt) -> Lowered<()>
     requires stands { Stands maker.old }
     ensures { Adds
         (λ s a. Leaves
-        (item_with s (cases_seen cases.old) (labels_tree labels.now)
+        (item_with s (cases_seen cases.old) (labels_tree matched.now)
         (stmt_flow s (stmt_tree body.now)) a) (cases_seen cases.new))
         maker.old result maker.new }
 {
-    match labels {
+    match matched {
         Labels::Values(values) => {
-            let labels = values_of(maker, &mut cases.calls, values.as_slice())?;
+            let matched = values_of(maker, &mut cases.calls, values.as_slice())?;
             let body = lower_stmt(maker, body)?;
-            with_item(cases, labels, body)?;
+            with_item(cases, matched, body)?;
             Ok(())
         }
         Labels::Default => {

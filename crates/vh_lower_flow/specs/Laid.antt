@@ -61,7 +61,7 @@ gate_of gate.Turn otherwise = op.Loop turn.Turn
 
 -- The labels of a `case`, each with the statement that it leads to, where the first of these has that place. (9.5)
 abbrev pub arm_to : Goes → ℕ → Arm
-arm_to to label = record { label = label; to = to }
+arm_to to value = record { value = value; to = to }
 
 abbrev pub arms_from : ℕ → Goes → CaseItems → List Arm
 arms_from place after no_item = []

@@ -74,7 +74,7 @@ fn arms_from(
         add_arms(
             &mut arms,
             start_at(place, size, after),
-            item.labels.as_slice(),
+            item.matched.as_slice(),
         )?;
         place = plus(place, size)?;
     }
@@ -95,11 +95,11 @@ fn case_test(head: CaseHead, arms: Arms) -> CaseTest
 }
 
 // Labels that lead to one statement.
-fn add_arms(arms: &mut Vec<Arm>, to: Goes, labels: &[ExprId]) -> Result<(), NoMemory>
-    ensures { OnOk result (arms.new.items ≡ arms.old.items ++ map (rules.arm_to to) labels.now) }
+fn add_arms(arms: &mut Vec<Arm>, to: Goes, matched: &[ExprId]) -> Result<(), NoMemory>
+    ensures { OnOk result (arms.new.items ≡ arms.old.items ++ map (rules.arm_to to) matched.now) }
 {
-    for label in labels {
-        arms.push(Arm { label: *label, to })?;
+    for value in matched {
+        arms.push(Arm { value: *value, to })?;
     }
     Ok(())
 }

@@ -1,11 +1,9 @@
 -- What is answered for the tokens of an expression.
-use Rattle.std.proofs.Common.{◌≡◌, ◌≤◌, ◌+◌, ◌-◌, ℕ, suc, Bool, List, ◌++◌, length, map, drop, refl, sym, ap, ◌∙◌, subst, Ok, Err, arith, length-append}
+use Rattle.std.proofs.Common.{◌≡◌, ◌≤◌, ◌+◌, ◌-◌, ℕ, suc, Bool, List, ◌++◌, length, map, drop, refl, sym, ap, ◌∙◌, subst, Ok, arith, length-append}
 use Rattle.std.proofs.lemmas.List.{length-map, length-drop, drop_at, drop-drop, drop-map}
 use Rattle.vh_base.specs.declared.place.Place.{Place}
-use Rattle.vh_parse_grammar.specs.declared.stop.Stop.{Stop}
 use Rattle.vh_parse_grammar.specs.declared.stop.Stop.TheVariants as stops
 use Rattle.vh_parse_grammar.specs.Reading.{got}
-use Rattle.vh_parse_grammar.specs.Says.{Stops}
 use Rattle.vh_parse_grammar.specs.Sentences.{ReadsAt}
 use Rattle.vh_parse_grammar.specs.Laws.{LawsOfProductions}
 use Rattle.vh_parse_grammar.proofs.Outcomes.{reader-tree}
@@ -17,7 +15,7 @@ use Rattle.vh_parse_syntax.specs.Tokens.{Token, token_seen}
 use Rattle.vh_parse_syntax.specs.Parts.{expr}
 use Rattle.vh_parse_syntax.specs.Grammar.{grammar}
 use Rattle.vh_parse_syntax.specs.Table.{syntax_table, eating, advancing}
-use Rattle.vh_parse_expr.specs.Answers.{fault_at, placed, expression_answer, Answered, IsParsed}
+use Rattle.vh_parse_expr.specs.Answers.{placed, expression_answer, Answered, IsParsed}
 use Rattle.vh_parse_expr.proofs.ReadingLemmas.{Ends, ends-reader}
 
 -- What is left are the last tokens, which their number tells
@@ -55,14 +53,3 @@ pub parsed : (levels : ℕ) (calls : Bool) (all : List lexed.Token) (from : ℕ)
     Answered (expression_answer levels calls seen) (Ok e) → IsRead levels calls all from after e (map token_seen (drop from all))
 parsed levels calls all from after seen e laws h same answer =
     subst (λ ts. IsRead levels calls all from after e ts) same (parsed_from levels calls all from after seen answer.0 e laws h same answer.1 answer.2)
-
--- A fault with its place
-pub refused_so : (levels : ℕ) (calls : Bool) (all : List lexed.Token) (from : ℕ) (after : Place) (seen : List Token) (why : Stop) → seen ≡ map token_seen (drop from all) → Stops (expression_answer levels calls seen) why →
-    IsParsed all from after (expression_answer levels calls (map token_seen (drop from all))) (Err (fault_at (drop from all) why after))
-refused_so levels calls all from after seen why same answer = go why (subst (λ ts. Stops (expression_answer levels calls ts) why) same answer)
-  where
-    go : (why : Stop) → Stops (expression_answer levels calls (map token_seen (drop from all))) why → IsParsed all from after (expression_answer levels calls (map token_seen (drop from all))) (Err (fault_at (drop from all) why after))
-    go (stops.Lost left) e = rw e refl
-    go (stops.Deep left) e = rw e refl
-    go (stops.LeftOut left) e = rw e refl
-    go stops.Memory e = tt

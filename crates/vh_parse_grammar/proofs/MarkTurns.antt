@@ -89,11 +89,6 @@ module _ {T P : Type 0} {V : P → Type 0} (word : T → Bool) (grammar : (p : P
       go (got more rest) = ap (λ (z : List A). got (z, more.1) rest) (sym (append_assoc front (a ∷ []) more.0))
       go (stop fault left) = refl
 
-  -- an iteration ends where no token of its state's class is next
-  pub iter_marks_end : {S : Type 0} (n : ℕ) (class : S → T → Bool) (part : S → Part T V S) (s : S) (ts : List T) (m : ℕ) → next_is (class s) ts ≡ false → marks word grammar n (iter class part s) ts m ≡ got (s, m) ts
-  iter_marks_end n class part s [] m c = refl
-  iter_marks_end n class part s (t ∷ ts) m c = rw c refl
-
   -- a turn of an iteration
   pub iter_marks_turn : {S : Type 0} (n : ℕ) (class : S → T → Bool) (part : S → Part T V S) → ((u : S) → (eats (part u) ≡ true) × Advances (part u)) → (s : S) (ts : List T) (m : ℕ) (u : S) (k : ℕ) (mid : List T) → next_is (class s) ts ≡ true → marks word grammar n (part s) ts m ≡ got (u, k) mid →
       marks word grammar n (iter class part s) ts m ≡ marks word grammar n (iter class part u) mid k

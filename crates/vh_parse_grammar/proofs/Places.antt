@@ -72,9 +72,6 @@ cut-got a (t ∷ us) zs = refl
 length-more : {T : Type 0} (ts zs : List T) → suc (length (ts ++ zs)) ≡ suc (length ts) + length zs
 length-more ts zs = omega (arith, length-append ts zs)
 
-late-taken : {T A : Type 0} (o : Option A) (zs : List T) → Late zs (taken o zs) → Late zs (taken o zs)
-late-taken o zs h = h
-
 late-token : {T A : Type 0} (meaning : T → Option A) (zs : List T) → Late zs (token_of meaning zs)
 late-token meaning [] = omega arith
 late-token {T} {A} meaning (t ∷ zs) = go (meaning t)

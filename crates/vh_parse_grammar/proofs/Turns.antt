@@ -1,8 +1,8 @@
 -- A repetition turn by turn, for the loops of a parser: what one turn, a fault in it and the end make of
 -- the reading.
-use Rattle.std.proofs.Common.{◌≡◌, ℕ, zero, suc, ◌<◌, ◌≤◌, Bool, true, false, cond, List, [], ◌∷◌, ◌++◌, length, refl, sym, ap, ◌∙◌, arith, append_assoc, append-nil}
+use Rattle.std.proofs.Common.{◌≡◌, ℕ, zero, suc, ◌<◌, ◌≤◌, Bool, true, false, cond, List, [], ◌∷◌, ◌++◌, length, refl, sym, ap, ◌∙◌, arith, append_assoc}
 use Rattle.vh_parse_grammar.specs.Part.{Part, rep, iter}
-use Rattle.vh_parse_grammar.specs.Reading.{Fault, Out, got, stop, then_, next_is, many, turns, reader, read, joined}
+use Rattle.vh_parse_grammar.specs.Reading.{Out, got, stop, then_, next_is, many, turns, reader, read, joined}
 use Rattle.vh_parse_grammar.specs.Conditions.{eats}
 use Rattle.vh_parse_grammar.proofs.Size.{Sized, size-run, size-reader}
 
@@ -47,22 +47,12 @@ module _ {T P : Type 0} {V : P → Type 0} (grammar : (p : P) → Part T V (V p)
   pub read_less : {A : Type 0} (n : ℕ) (p : Part T V A) → eats p ≡ true → (ts : List T) (a : A) (mid : List T) → read grammar n p ts ≡ got a mid → length mid < length ts
   read_less n p e ts a mid r = mid-size ts mid a (read grammar n p ts) r (short-read n p e ts)
 
-  -- a repetition ends where no token of its class is next
-  pub rep_end : {A : Type 0} (n : ℕ) (class : T → Bool) (p : Part T V A) (ts : List T) → next_is class ts ≡ false → read grammar n (rep class p) ts ≡ got [] ts
-  rep_end n class p [] c = refl
-  rep_end n class p (t ∷ ts) c = rw c refl
-
   -- a turn of a repetition
   pub rep_turn : {A : Type 0} (n : ℕ) (class : T → Bool) (p : Part T V A) → eats p ≡ true → (ts : List T) (a : A) (mid : List T) → next_is class ts ≡ true → read grammar n p ts ≡ got a mid → read grammar n (rep class p) ts ≡ then_ (read grammar n (rep class p) mid) (λ more rest. got (a ∷ more) rest)
   rep_turn n class p e [] a mid c r = cc
   rep_turn {A} n class p e (t ∷ ts) a mid c r =
       let l : suc (length mid) ≤ suc (length ts) = mid-size (t ∷ ts) mid a (read grammar n p (t ∷ ts)) r (short-read n p e (t ∷ ts)) in
       rw (c, r, many-same (read grammar n p) class (short-read n p e) (length ts) (length mid) mid (omega arith) (omega arith)) refl
-
-  -- the invariant of a loop over a repetition: at its start, after a turn and at its end
-  pub joined_none : {A : Type 0} (o : Out T (List A)) → joined [] o ≡ o
-  joined_none (got list rest) = refl
-  joined_none (stop fault left) = refl
 
   pub joined_turn : {A : Type 0} (n : ℕ) (class : T → Bool) (p : Part T V A) → eats p ≡ true → (front : List A) (ts : List T) (a : A) (mid : List T) → next_is class ts ≡ true → read grammar n p ts ≡ got a mid → joined front (read grammar n (rep class p) ts) ≡ joined (front ++ a ∷ []) (read grammar n (rep class p) mid)
   joined_turn {A} n class p e front ts a mid c r = ap (λ (o : Out T (List A)). joined front o) (rep_turn n class p e ts a mid c r) ∙ go (read grammar n (rep class p) mid)
@@ -71,27 +61,9 @@ module _ {T P : Type 0} {V : P → Type 0} (grammar : (p : P) → Part T V (V p)
       go (got more rest) = ap (λ (z : List A). got z rest) (sym (append_assoc front (a ∷ []) more))
       go (stop fault left) = refl
 
-  pub joined_end : {A : Type 0} (n : ℕ) (class : T → Bool) (p : Part T V A) (front : List A) (ts : List T) → next_is class ts ≡ false → joined front (read grammar n (rep class p) ts) ≡ got front ts
-  joined_end {A} n class p front ts c = rw (rep_end n class p ts c) (ap (λ (z : List A). got z ts) (append-nil front))
-
-  -- a fault in a turn of a repetition
-  pub rep_fault : {A : Type 0} (n : ℕ) (class : T → Bool) (p : Part T V A) (ts : List T) (fault : Fault) (left : ℕ) → next_is class ts ≡ true → read grammar n p ts ≡ stop fault left → read grammar n (rep class p) ts ≡ stop fault left
-  rep_fault n class p [] fault left c r = cc
-  rep_fault n class p (t ∷ ts) fault left c r = rw (c, r) refl
-
-  -- an iteration ends where no token of its state's class is next
-  pub iter_end : {S : Type 0} (n : ℕ) (class : S → T → Bool) (part : S → Part T V S) (s : S) (ts : List T) → next_is (class s) ts ≡ false → read grammar n (iter class part s) ts ≡ got s ts
-  iter_end n class part s [] c = refl
-  iter_end n class part s (t ∷ ts) c = rw c refl
-
   -- a turn of an iteration
   pub iter_turn : {S : Type 0} (n : ℕ) (class : S → T → Bool) (part : S → Part T V S) → ((u : S) → eats (part u) ≡ true) → (s : S) (ts : List T) (u : S) (mid : List T) → next_is (class s) ts ≡ true → read grammar n (part s) ts ≡ got u mid → read grammar n (iter class part s) ts ≡ read grammar n (iter class part u) mid
   iter_turn n class part e s [] u mid c r = cc
   iter_turn n class part e s (t ∷ ts) u mid c r =
       let l : suc (length mid) ≤ suc (length ts) = mid-size (t ∷ ts) mid u (read grammar n (part s) (t ∷ ts)) r (short-read n (part s) (e s) (t ∷ ts)) in
       rw (c, r) (turns-same (λ v. read grammar n (part v)) class (λ v. short-read n (part v) (e v)) (length ts) (length mid) u mid (omega arith) (omega arith))
-
-  -- a fault in a turn of an iteration
-  pub iter_fault : {S : Type 0} (n : ℕ) (class : S → T → Bool) (part : S → Part T V S) (s : S) (ts : List T) (fault : Fault) (left : ℕ) → next_is (class s) ts ≡ true → read grammar n (part s) ts ≡ stop fault left → read grammar n (iter class part s) ts ≡ stop fault left
-  iter_fault n class part s [] fault left c r = cc
-  iter_fault n class part s (t ∷ ts) fault left c r = rw (c, r) refl

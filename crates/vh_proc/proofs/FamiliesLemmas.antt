@@ -395,14 +395,6 @@ noted-own old new next p called t calls exact kept = by called calls.noted
     by None noted = tt
     by (Some r) noted = noted t.thread.root (exact t.thread.root p kept.own)
 
--- Nobody is in no family.
-pub none-kept : (fs : Families) → fs.sets.items ≡ [] → fs.roots.entries ≡ [] → AreKept fs 0 []
-none-kept fs sets roots = record {
-  each = tt;
-  exact = λ k p is. let differ : is_of fs.sets.items k p ≡ false = ap (λ (xs : List (BTreeSet ℕ)). is_of xs k p) sets in absurd (cc);
-  fresh = λ p above. ap (λ (xs : List (ℕ × ℕ)). lookup (is_at (nat_cmp p)) xs) roots;
-}
-
 -- What is kept through a change of one process that leaves what has begun it and where it comes from.
 pub kept-turned : (fs : Families) (next : ℕ) (test : ℕ → Bool) (es us : List (ℕ × Process)) (t u : Process) → kin u ≡ kin t
     → (NotesCalls fs.callers.entries t.thread → NotesCalls fs.callers.entries u.thread) → us ≡ set_value test es u
@@ -422,13 +414,6 @@ kept-through fs gs b c vs ps qs p f families flag view is same keeps kept now =
     subst (λ (x : Families). AreKept x qs.next qs.all) (sym families)
     (subst (λ (xs : Processes). AreKept fs xs.next xs.all) (sym is)
     (changed-by fs (process_at p ps) p f ps refl same keeps (subst (λ (xs : Processes). AreKept fs xs.next xs.all) view (kept (sym flag ∙ now)))))
-
-pub kept-without : (fs : Families) (next : ℕ) (test : ℕ → Bool) (es us : List (ℕ × Process)) → us ≡ remove_entry test es → AreKept fs next es → AreKept fs next us
-kept-without fs next test es us is kept = record {
-  each = subst (EachKept fs next) (sym is) (each-removed fs next test es kept.each);
-  exact = kept.exact;
-  fresh = kept.fresh;
-}
 
 -- Without a process that isn't there nothing is gone.
 same-by : (b : Bool) (e : ℕ × Process) (es us : List (ℕ × Process)) → b ≡ false → us ≡ es → cond b es (e ∷ us) ≡ e ∷ es

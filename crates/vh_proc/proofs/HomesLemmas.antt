@@ -160,16 +160,6 @@ next-noted hs gs p bs k x is before grow last i b low at =
     one : {y z : Block} → ◌≡◌ {A = Option Block} (Some y) (Some z) → y ≡ z
     one h = cc
 
-pub next-code : (d : Shape) (hs gs : List (ℕ × Home)) (k : ℕ) (x : Code)
-    → ((n : ℕ) (c : Code) → n < k → slice_get d.codes n ≡ Some c → SaysAll hs (owner.Process n) c.blocks) → Grow hs gs → slice_get d.codes k ≡ Some x → SaysAll gs (owner.Process k) x.blocks
-    → (n : ℕ) (c : Code) → n < k + 1 → slice_get d.codes n ≡ Some c → SaysAll gs (owner.Process n) c.blocks
-next-code d hs gs k x before grow is last n c low at =
-    last-or k n (λ m. slice_get d.codes m ≡ Some c → SaysAll gs (owner.Process m) c.blocks) low (λ less h i b block. grow (owner.Process n) b.object (before n c less h i b block))
-    (λ h. subst (λ (y : Code). SaysAll gs (owner.Process k) y.blocks) (one (sym is ∙ h)) last) at
-  where
-    one : {y z : Code} → ◌≡◌ {A = Option Code} (Some y) (Some z) → y ≡ z
-    one h = cc
-
 pub next-own : (d : Shape) (hs gs : List (ℕ × Home)) (k : ℕ) → ((r : ℕ) → r < k → has_body d.objects r ≡ true → Says hs (owner.Routine r) r) → Grow hs gs
     → (has_body d.objects k ≡ true → Says gs (owner.Routine k) k) → (r : ℕ) → r < k + 1 → has_body d.objects r ≡ true → Says gs (owner.Routine r) r
 next-own d hs gs k before grow last r low has =

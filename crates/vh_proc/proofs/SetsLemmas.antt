@@ -35,12 +35,6 @@ get-last : {X : Type 0} (xs : List X) (y : X) → slice_get (xs ++ y ∷ []) (le
 get-last [] y = refl
 get-last (x ∷ xs) y = get-last xs y
 
-get-before : {X : Type 0} (xs : List X) (n : ℕ) (y : X) → (n ≡ length xs → ⊥) → slice_get (xs ++ y ∷ []) n ≡ slice_get xs n
-get-before [] zero y h = absurd (h refl)
-get-before [] (suc n) y h = refl
-get-before (x ∷ xs) zero y h = refl
-get-before (x ∷ xs) (suc n) y h = get-before xs n y (λ e. h (ap suc e))
-
 -- An element at a place, by what `get_or` gives, and none behind the end.
 pub at-place : {X : Type 0} (xs : List X) (k : ℕ) (x : X) → k < length xs → slice_get xs k ≡ Some (get_or xs k x)
 at-place [] k x low = absurd (omega (arith, low))
@@ -122,18 +116,3 @@ leaves-none fs k p none n q = by (nat_eq n k) refl
         let out : is_of fs n q ≡ false = ap (has q) (subst (λ m. slice_get fs m ≡ None) (sym (eqb-true n k is)) none) in
         out ∙ ap (λ b. b && not (nat_eq n k && nat_eq p q)) (sym out)
     by false is = and-true (is_of fs n q) ∙ ap (λ b. is_of fs n q && not (b && nat_eq p q)) (sym is)
-
--- A set of one number more.
-pub joins-pushed : (fs : List (BTreeSet ℕ)) (p : ℕ) (g : BTreeSet ℕ) → length fs ≡ p
-    → ((q : ℕ) → contains nat_cmp g q ≡ cond (is_at (nat_cmp p) q) true false) → MembersJoin fs (fs ++ g ∷ []) p p
-joins-pushed fs p g long one n q = by (nat_eq n p) refl
-  where
-    by : (b : Bool) → nat_eq n p ≡ b → is_of (fs ++ g ∷ []) n q ≡ (is_of fs n q || (nat_eq n p && nat_eq p q))
-    by true is =
-        let same : n ≡ length fs = eqb-true n p is ∙ sym long in
-        let new : is_of (fs ++ g ∷ []) n q ≡ contains nat_cmp g q = ap (has q) (subst (λ m. slice_get (fs ++ g ∷ []) m ≡ Some g) (sym same) (get-last fs g)) in
-        let old : is_of fs n q ≡ false = ap (has q) (subst (λ m. slice_get fs m ≡ None) (sym same) (none-last fs)) in
-        new ∙ one q ∙ ap (λ b. cond b true false) (at-eq p q) ∙ or-cond false (nat_eq p q)
-        ∙ ap (λ b. b || nat_eq p q) (sym old) ∙ ap (λ b. is_of fs n q || (b && nat_eq p q)) (sym is)
-    by false is =
-        ap (has q) (get-before fs n g (λ e. apart n p is (e ∙ long))) ∙ or-false (is_of fs n q) ∙ ap (λ b. is_of fs n q || (b && nat_eq p q)) (sym is)

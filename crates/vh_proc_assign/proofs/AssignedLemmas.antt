@@ -1,8 +1,8 @@
 -- Digits that are put into others, and values that are the same.
 use Rattle.std.proofs.Common.{◌≡◌, ◌≢◌, ◌∙◌, ◌<◌, ◌≤◌, ◌+◌, ◌-◌, ◌++◌, ◌&&◌, ◌==◌, ℕ, zero, suc, Bool, true, false, cond, List, [], ◌∷◌, length, take, drop, min, Option, Some, None, refl, sym, ap, subst, arith}
-use Rattle.std.proofs.Math.Seq.{take-length, take-append_seam}
+use Rattle.std.proofs.Math.Seq.{take-length}
 use Rattle.std.proofs.lemmas.Bool.{eqb-true, eq-eqb}
-use Rattle.std.proofs.lemmas.List.{append-nil, take_all}
+use Rattle.std.proofs.lemmas.List.{append-nil}
 use Rattle.vh_design_nodes.proofs.FitsLemmas.{and_left, and_right}
 use Rattle.vh_base.specs.declared.orders.Object.{Object}
 use Rattle.vh_logic.specs.declared.digits.Digit.{Digit}
@@ -73,13 +73,6 @@ put-from (suc low) vs (d ∷ old) some =
 
     one-more : (n : ℕ) → suc low + n ≡ suc (low + n)
     one-more n = omega arith
-
--- Where the place is above the highest digit nothing is put in, and else what is there of it.
-pub none-put : (old v : Vector) (low : ℕ) → width_of old ≤ low → old ≡ with_digits old low v
-none-put old v low above =
-    ap (λ (ds : List Digit). of_parts ds old.signed)
-    (sym (ap (λ (ds : List Digit). take (width_of old) (ds ++ (v.digits ++ drop (low + width_of v) old.digits))) (take_all low old.digits above)
-    ∙ take-append_seam old.digits (v.digits ++ drop (low + width_of v) old.digits)))
 
 pub some-put : (old v part new : Vector) (low there : ℕ) → low < width_of old → there ≡ min (width_of v) (width_of old - low)
     → part ≡ part_of v 0 there → width_of part ≡ there → new ≡ replaced old low part → new ≡ with_digits old low v

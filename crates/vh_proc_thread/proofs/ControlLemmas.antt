@@ -2,7 +2,7 @@
 use Rattle.std.proofs.Common.{◌≡◌, ◌∙◌, ◌<◌, ◌≤◌, ◌-◌, ◌+◌, ◌++◌, ℕ, List, [], ◌∷◌, length, reverse, filter, take, drop, slice_set, slice_get, slice_index_or, Bool, true, false, not, nat_lt, cond, Option, Some, None, option_to_list, MatchOption, unwrap_or, refl, sym, ap, subst, arith}
 use Rattle.std.proofs.Math.Seq.{take-add, drop-cons, get_or-append_seam, take-append_seam}
 use Rattle.std.proofs.lemmas.Bool.Decides.{nat_tests}
-use Rattle.std.proofs.lemmas.List.{reverse-append, take-append-drop, take_all, length-reverse, length-take-le, length-append, append_assoc}
+use Rattle.std.proofs.lemmas.List.{reverse-append, take-append-drop, length-reverse, length-take-le, length-append, append_assoc}
 use Rattle.std.specs.List.{AllByRecursion}
 use Rattle.std.specs.Option.{option_map, option_and_then}
 use Rattle.vh_design_code.specs.declared.code.Block.{Block}
@@ -166,10 +166,6 @@ popped m n xs ys (Some x) is cases counted = ap (λ (zs : List Call). drop 1 (re
 popped m n xs [] None is cases counted = ap (λ (zs : List Call). drop 1 (reverse zs)) is
 popped m n xs (y ∷ ys) None is cases counted = absurd (let none = cases.1 in omega (arith, none, counted))
 
-pub bodies-less : (d : Shape) (cs : List Call) → AllByRecursion (HasBody d) cs → AllByRecursion (HasBody d) (drop 1 cs)
-bodies-less d [] all = tt
-bodies-less d (c ∷ cs) all = all.1
-
 -- What runs goes on running.
 bodies-gone : (d : Shape) (root : ℕ) (g : Goes) (cs : List Call) → AllByRecursion (HasBody d) cs → AllByRecursion (HasBody d) (gone d root g cs)
 unfolding gone
@@ -231,19 +227,6 @@ outermost-found test xs k d within none passes =
     ∙ ap (outermost test) (reverse-append (take (k + 1) xs) (drop (k + 1) xs))
     ∙ ap (λ (ys : List Call). outermost test (reverse (drop (k + 1) xs) ++ ys)) (taken-more xs k d within)
     ∙ outermost-there test (reverse (drop (k + 1) xs)) c (reverse (take k xs)) here)
-
-pub outermost-next : (test : Call → Bool) (xs : List Call) (k : ℕ) (d : Call) → k < length xs
-    → outermost test (reverse (take k xs)) ≡ [] → test (slice_index_or xs k d) ≡ false
-    → outermost test (reverse (take (k + 1) xs)) ≡ []
-outermost-next test xs k d within none fails =
-    let c : Call = slice_index_or xs k d in
-    ap (outermost test) (taken-more xs k d within)
-    ∙ ap (λ (zs : List Call). or_these zs (cond (test c) (c ∷ reverse (take k xs)) [])) none
-    ∙ ap (λ (b : Bool). cond b (c ∷ reverse (take k xs)) []) fails
-
-pub outermost-none : (test : Call → Bool) (xs : List Call) (k : ℕ) → length xs ≤ k → outermost test (reverse (take k xs)) ≡ []
-    → reverse (take 0 xs) ≡ outermost test (reverse xs)
-outermost-none test xs k past none = sym (ap (λ (ys : List Call). outermost test (reverse ys)) (sym (take_all k xs past)) ∙ none)
 
 -- What is left of the calls runs.
 pub bodies-back : (d : Shape) (t : Control) (xs : List Call) → Runs d t → reverse xs ≡ t.calls → AllByRecursion (HasBody d) xs
@@ -379,9 +362,3 @@ pub block-cut : (d : Shape) (target root outer n : ℕ) (goes : Goes) (xs ys : L
 block-cut d target root outer n goes xs ys rs ss c t code bs b is k other there blocks around kept =
     block-left d target root outer n goes xs ys rs ss c t bs b is k.taken k.many k.found k.inner other
     (blocks ∙ sym (ap (λ (o : Option Code). unwrap_or (option_map (λ (e : Code). e.blocks) o) []) there)) around kept
-
-pub none-cut : (d : Shape) (target root outer n : ℕ) (goes : Goes) (xs ys : List Call) (rs : List Repeat) (c : Call) (t : Control)
-    → control root outer (reverse xs) (reverse rs) goes ≡ t → Cut d target root n xs ys c → is_call_of target c ≡ false
-    → None ≡ block_around d root target c → control root outer (reverse ys) (reverse rs) goes ≡ disabled d target t
-none-cut d target root outer n goes xs ys rs c t is k other around =
-    none-left d target root outer n goes xs ys rs c t is k.taken k.found k.inner other around

@@ -1,4 +1,4 @@
--- The widths of a `case`, its subject and its labels
+-- The widths of a `case`, its subject and its values
 mod CaseLemmas
 -- How many digits drivers have side by side
 pub mod DrivesLemmas

@@ -114,12 +114,12 @@ compared compares.Plain a b = case_equality a b
 compared compares.Z a b = casez_equality a b
 compared compares.X a b = casex_equality a b
 
-abbrev pub fits_label : Shape → Contents → CaseTest → Arm → Bool
-fits_label d s c a =
-    is_one (compared c.kind (value_of d s c.subject c.width c.signed) (value_of d s a.label c.width c.signed))
+abbrev pub fits_value : Shape → Contents → CaseTest → Arm → Bool
+fits_value d s c a =
+    is_one (compared c.kind (value_of d s c.subject c.width c.signed) (value_of d s a.value c.width c.signed))
 
 abbrev pub arm_of : Shape → Contents → CaseTest → Goes → Goes
-arm_of d s c goes = unwrap_or (option_map (λ a. a.to) (find (fits_label d s c) c.arms)) goes
+arm_of d s c goes = unwrap_or (option_map (λ a. a.to) (find (fits_value d s c) c.arms)) goes
 
 -- A turn of a loop: a `repeat` takes as many as its count says, none where that is negative or unknown. (9.6)
 abbrev pub turns_in : ℤ → ℕ

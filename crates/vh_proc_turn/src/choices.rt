@@ -6,7 +6,7 @@ ghost use Rattle.vh_design_code.specs.Operations.{fits_case, fits_loop};
 ghost use Rattle.vh_eval.specs.Value.{value_of};
 ghost use Rattle.vh_proc_thread.specs.Control.{Runs};
 ghost use Rattle.vh_proc_turn.specs.Own.{Fits};
-ghost use Rattle.vh_proc_turn.specs.Turns.{is_true, compared, fits_label, arm_of, turns_of, turning};
+ghost use Rattle.vh_proc_turn.specs.Turns.{is_true, compared, fits_value, arm_of, turns_of, turning};
 
 use crate::process::Process;
 use vh_base::{ExprId, NoMemory};
@@ -37,17 +37,17 @@ fn compared(kind: CaseKind, a: &Vec4, b: &Vec4) -> Digit
 }
 
 // Does a label of a `case` fit its subject's value?
-fn fits_label(d: &Design, s: &Store, case: &CaseTest, subject: &Vec4, arm: Arm) -> bool
-    requires label { arm.label < length (d.now).exprs }
-    requires wide { width_of (d.now).exprs arm.label ≤ case.now.width }
+fn fits_value(d: &Design, s: &Store, case: &CaseTest, subject: &Vec4, arm: Arm) -> bool
+    requires label { arm.value < length (d.now).exprs }
+    requires wide { width_of (d.now).exprs arm.value ≤ case.now.width }
     requires most { case.now.width ≤ MAX_WIDTH }
     requires subject { subject.now
         ≡ value_of d.now s.now case.now.subject case.now.width case.now.signed }
     requires width { digits_in subject.now ≡ case.now.width }
-    ensures { result ≡ fits_label d.now s.now case.now arm }
+    ensures { result ≡ fits_value d.now s.now case.now arm }
 {
-    let label = eval(d, s, arm.label, case.width, case.signed);
-    matches!(compared(case.kind, subject, &label), Digit::One)
+    let value = eval(d, s, arm.value, case.width, case.signed);
+    matches!(compared(case.kind, subject, &value), Digit::One)
 }
 
 // Where a `case` goes on.
@@ -57,7 +57,7 @@ pub(crate) fn arm_of(d: &Design, s: &Store, case: &CaseTest, goes: Goes) -> Goes
 {
     let subject = eval(d, s, case.subject, case.width, case.signed);
     for arm in case.arms.as_slice() {
-        if fits_label(d, s, case, &subject, *arm) {
+        if fits_value(d, s, case, &subject, *arm) {
             return arm.to;
         }
     }

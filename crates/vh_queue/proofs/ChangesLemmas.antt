@@ -227,9 +227,6 @@ pub values-are : (es : List Entry) → values_of (by_serial es) ≡ es
 values-are [] = refl
 values-are (e ∷ es) = ap (λ (t : List Entry). e ∷ t) (values-are es)
 
-greater-is : (a b : ℕ) → b < a → (is_key (nat_cmp a) b ≡ false) × (nat_lt a b ≡ false)
-greater-is a b above = (grind (arith, nat_tests), le-ltb a b (omega (arith, above)))
-
 pub insert-last : (low next : ℕ) (e : Entry) (es : List Entry) → Rises low next es → e.serial ≡ next
     → insert_entry nat_cmp (by_serial es) next e ≡ by_serial (es ++ e ∷ [])
 insert-last low next e [] rises at = ap (λ (n : ℕ). (n, e) ∷ []) (sym at)

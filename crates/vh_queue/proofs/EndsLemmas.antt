@@ -9,7 +9,7 @@ use Rattle.std.specs.List.{All}
 use Rattle.std.specs.Ordering.{nat_cmp, is_le, is_gt, ordering_then, partial_ordering_then, partial_le, is_some_and}
 use Rattle.std.specs.declared.cmp.Ordering.{Ordering}
 use Rattle.std.specs.declared.cmp.Ordering.TheVariants.{Less, Equal, Greater}
-use Rattle.std.specs.declared.ops.Bound.TheVariants.{Included, Excluded, Unbounded}
+use Rattle.std.specs.declared.ops.Bound.TheVariants.{Included, Excluded}
 use Rattle.vh_queue.specs.declared.place.Place.{Place}
 use Rattle.vh_queue.specs.contracts.place.PlaceOrd.TheImpl.{cmp-value}
 use Rattle.vh_queue.specs.contracts.place.PlacePartialOrd.TheImpl.{partial_cmp-value}
@@ -88,10 +88,6 @@ pub none-of : (time r from below : ℕ) (places : BTreeSet Place) → places.key
 none-of time r from below places none =
     ap (λ (ks : List Place). map (λ (p : Place). p.serial) (filter (λ p. range_contains place_cmp (Included (place time r from)) (Excluded (place time r below)) p) ks)) none
 
--- The same of serials below one.
-dated-test : (below s : ℕ) → range_contains nat_cmp Unbounded (Excluded below) s ≡ not (is_le (nat_cmp below s))
-dated-test below s = refl
-
 pub dated-none : (below least : ℕ) (serials : BTreeSet ℕ)
     → below ≤ least → All (IsLeBy nat_cmp least) serials.keys → dated_in below serials ≡ []
 dated-none below least serials past all =
@@ -101,9 +97,6 @@ pub dated-first : (below least : ℕ) (serials : BTreeSet ℕ)
     → slice_get serials.keys 0 ≡ Some least → least < below → slice_get (dated_in below serials) 0 ≡ Some least
 dated-first below least serials first is =
     filter-first _ serials.keys least first (ap not (le-not-gt _ ∙ ap not (let gt : is_gt (nat_cmp below least) ≡ true = grind (arith, nat_tests) in gt)))
-
-pub dated-of : (below : ℕ) (serials : BTreeSet ℕ) → serials.keys ≡ [] → dated_in below serials ≡ []
-dated-of below serials none = ap (filter (λ s. range_contains nat_cmp Unbounded (Excluded below) s)) none
 
 -- How two places are compared.
 le-then : (o p q : Ordering) → is_some_and is_le (partial_ordering_then (Some o) (partial_ordering_then (Some p) (Some q))) ≡ not (is_gt (ordering_then o (ordering_then p q)))

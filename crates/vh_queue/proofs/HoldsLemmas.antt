@@ -30,12 +30,6 @@ Each now next P = (e : Entry) → e.serial < next → IsTimely now e → P e
 low-of : (low next : ℕ) (e : Entry) (es : List Entry) → Rises low next (e ∷ es) → e.serial < next
 low-of low next e es rises = let h = rises-empty (e.serial + 1) next es rises.1 in omega (arith, h)
 
-pub map-each : (f g : Entry → Entry) (now low next : ℕ) (es : List Entry) → Rises low next es → AreTimely now es
-    → Each now next (λ e. f e ≡ g e) → map f es ≡ map g es
-map-each f g now low next [] rises timely same = refl
-map-each f g now low next (e ∷ es) rises timely same =
-    rw (same e (low-of low next e es rises) timely.0, map-each f g now (e.serial + 1) next es rises.1 timely.1 same) refl
-
 pub filter-each : (p q : Entry → Bool) (f : Entry → Entry) (now low next : ℕ) (es : List Entry) → Rises low next es → AreTimely now es
     → Each now next (λ e. p (f e) ≡ q e) → filter p (map f es) ≡ map f (filter q es)
 filter-each p q f now low next [] rises timely same = refl
@@ -53,11 +47,6 @@ timely-filter p now (e ∷ es) timely = by_test (p e) (timely-filter p now es ti
     by_test : (b : Bool) → AreTimely now (filter p es) → AreTimely now (cond b (e ∷ filter p es) (filter p es))
     by_test true rest = (timely.0, rest)
     by_test false rest = rest
-
--- Serials are seen as they are.
-pub seen-serials : (now : ℕ) (m : Marks) (es : List Entry) → serials (all_seen now m es) ≡ serials es
-seen-serials now m [] = refl
-seen-serials now m (e ∷ es) = ap (λ (t : List ℕ). e.serial ∷ t) (seen-serials now m es)
 
 pub seen-least : (now : ℕ) (m : Marks) (es : List Entry) → least_serial (all_seen now m es) ≡ least_serial es
 seen-least now m [] = refl

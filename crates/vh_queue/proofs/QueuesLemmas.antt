@@ -17,7 +17,7 @@ use Rattle.vh_queue.specs.declared.marks.Marks.{Marks}
 use Rattle.vh_queue.specs.declared.place.Place.{Place}
 use Rattle.vh_queue.specs.declared.region.Region.TheVariants as region
 use Rattle.vh_queue.specs.Entries.{is_update, is_due, is_active, IsFrom}
-use Rattle.vh_queue.specs.Events.{Events, is_ready, is_eligible, eligible, any_due, work_of, is_full, earlier_of, least_time, arrived, Rises}
+use Rattle.vh_queue.specs.Events.{Events, is_ready, eligible, any_due, work_of, is_full, earlier_of, least_time, arrived, Rises}
 use Rattle.vh_queue.specs.Lanes.{count_four, count_start}
 use Rattle.vh_queue.specs.Places.{is_of, Indexes, Entered, Left, StaysSorted, IsSame, dated_in, ArePlaces, AreUntimed, IsLeastTime}
 use Rattle.vh_queue.specs.Serials.{least_serial, greatest_serial, later_of, last_of, is_above, is_active_of, picked_by}
@@ -149,17 +149,6 @@ holds-taken next now due ready s fewer less m pairs rest x y e h there is left s
         by_test true rest = omega (arith, rest)
         by_test false rest = omega (arith, rest)
 
--- Where there is none, nothing changes.
-pub none-without : (s : ℕ) (es : List Entry) → find (λ e. e.serial == s) es ≡ None → filter (λ e. not (e.serial == s)) es ≡ es
-none-without s [] is = refl
-none-without s (e ∷ es) is = by_test (e.serial == s) is (none-without s es)
-  where
-    by_test : (b : Bool) → cond b (Some e) (find (λ e. e.serial == s) es) ≡ None
-        → (find (λ e. e.serial == s) es ≡ None → filter (λ e. not (e.serial == s)) es ≡ es)
-        → cond (not b) (e ∷ filter (λ e. not (e.serial == s)) es) (filter (λ e. not (e.serial == s)) es) ≡ e ∷ es
-    by_test true found rest = absurd (cc)
-    by_test false found rest = ap (λ (t : List Entry). e ∷ t) (rest found)
-
 -- A region that is made active, and time that goes on.
 module _ (next now due ready : ℕ) (m : Marks) (pairs : List (ℕ × Entry)) (x : Index) (h : Holds next now m due ready pairs x) where
   abbrev stand : List Entry
@@ -265,9 +254,6 @@ starts-eligible q some =
 pub ready-eligible : (q : Events) → length (filter (is_due region.Start q.time) q.entries) ≡ 0 → eligible q ≡ filter (is_ready q.entries) q.entries
 ready-eligible q none =
     pick-by q false (some-of (is_due region.Start q.time) q.entries ∙ ap (λ (n : ℕ). nat_lt 0 n) none)
-
-pub eligible-rises : (q : Events) → Rises 1 q.next q.entries → Rises 1 q.next (eligible q)
-eligible-rises q rises = rises-filter (is_eligible q) 1 q.next q.entries rises
 
 -- The last by its place.
 pub nth-last : (xs : List ℕ) (k : ℕ) → suc k ≡ length xs → slice_get xs k ≡ last_of xs
@@ -405,20 +391,6 @@ least-is next now due ready m pairs x plain updates given h some none also neith
       is,
       dated-any next m (values_of pairs) x.untimed h.rises h.indexed.untimed_sorted h.indexed.untimed,
     ) (sym (times-seen now m (values_of pairs)))
-
--- What may be picked, where a start entry is due and where none is.
-pub may-start : (q : Events) (due ready : ℕ) (e : Entry) → Counts q due ready → 0 < due → is_due region.Start q.time e ≡ is_eligible q e
-may-start q due ready e counts some =
-    let s = counts.starts in
-    sym (ap (λ (b : Bool). cond b (is_due region.Start q.time e) (is_ready q.entries e))
-    (some-of (is_due region.Start q.time) q.entries ∙ lt-ltb 0 (length (filter (is_due region.Start q.time) q.entries)) (omega (arith, s, some))))
-
-pub may-ready : (q : Events) (due ready : ℕ) (e : Entry) → Counts q due ready → due ≤ 0 → is_ready q.entries e ≡ is_eligible q e
-may-ready q due ready e counts none =
-    let s = counts.starts in
-    let zero_due : length (filter (is_due region.Start q.time) q.entries) ≡ 0 = omega (arith, s, none) in
-    sym (ap (λ (b : Bool). cond b (is_due region.Start q.time e) (is_ready q.entries e))
-    (some-of (is_due region.Start q.time) q.entries ∙ ap (λ (n : ℕ). nat_lt 0 n) zero_due))
 
 -- The queue that is empty.
 pub holds-none : (next now : ℕ) (m : Marks) (pairs : List (ℕ × Entry)) (x : Index) → pairs ≡ [] → Indexes [] x → AreMarks next m → 1 ≤ next

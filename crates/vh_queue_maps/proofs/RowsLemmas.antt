@@ -22,10 +22,6 @@ module _ {K : Type 0} where
   all-front P [] ys all = tt
   all-front P (x ∷ xs) ys all = (all.0, all-front P xs ys all.1)
 
-  all-back : (P : K → Type 0) (xs ys : List K) → AllByRecursion P (xs ++ ys) → AllByRecursion P ys
-  all-back P [] ys all = all
-  all-back P (x ∷ xs) ys all = all-back P xs ys all.1
-
   all-map : (P Q : K → Type 0) (xs : List K) → ((x : K) → P x → Q x) → AllByRecursion P xs → AllByRecursion Q xs
   all-map P Q [] f all = tt
   all-map P Q (x ∷ xs) f all = (f x all.0, all-map P Q xs f all.1)

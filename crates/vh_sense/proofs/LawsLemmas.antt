@@ -33,15 +33,6 @@ abbrev past : {K : Type 0} → (K → K → Ordering) → Option K → K → Boo
 past R None k = true
 past R (Some a) k = is_lt (R a k)
 
--- What is found passes the test, and holds what all hold.
-found_passes : {X : Type 0} (test : X → Bool) (xs : List X) (x : X) → find test xs ≡ Some x → test x ≡ true
-found_passes test [] x h = cc
-found_passes {X} test (y ∷ ys) x h = by_test (test y) refl (found_passes test ys x) h
-  where
-    by_test : (b : Bool) → test y ≡ b → (find test ys ≡ Some x → test x ≡ true) → cond b (Some y) (find test ys) ≡ Some x → test x ≡ true
-    by_test true is rest h = let same : y ≡ x = cc in ap test (sym same) ∙ is
-    by_test false is rest h = rest h
-
 found_holds : {X : Type 0} (P : X → Type 0) (test : X → Bool) (xs : List X) (x : X) → AllByRecursion P xs → find test xs ≡ Some x → P x
 found_holds P test [] x all h = cc
 found_holds {X} P test (y ∷ ys) x all h = by_test (test y) (found_holds P test ys x all.1) h

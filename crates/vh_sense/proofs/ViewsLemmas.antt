@@ -3,7 +3,6 @@ use Rattle.std.proofs.Common.{◌≡◌, ◌<◌, ◌+◌, ◌∙◌, ℕ, zero,
 use Rattle.std.proofs.lemmas.Bool.{eq-eqb, eqb-true}
 use Rattle.std.proofs.lemmas.Bool.Decides.{eqb_tells}
 use Rattle.std.proofs.lemmas.List.{take_more}
-use Rattle.std.proofs.lemmas.List.Folds.{list_any-append}
 use Rattle.std.proofs.lemmas.Option.{slice_get_within, get_or_from_slice_get, slice_get-get_or}
 use Rattle.std.specs.BTreeMap.{is_at}
 use Rattle.std.specs.BTreeSet.{BTreeSet, insert_key}
@@ -41,31 +40,6 @@ named (s ∷ ts) (suc i) t at = or_right (object_of s == object_of t) (named ts 
     or_right : (a : Bool) {b : Bool} → b ≡ true → (a || b) ≡ true
     or_right true h = refl
     or_right false h = h
-
-pub names_more : (ts : List Term) (i : ℕ) (t : Term) (o : ℕ) → i < length ts → t ≡ slice_index_or ts i t
-    → names (take (i + 1) ts) o ≡ (names (take i ts) o || (object_of t == o))
-names_more ts i t o within is =
-    rw (take_more ts i t within, ← is, list_any-append (λ (s : Term). object_of s == o) (take i ts) (t ∷ []))
-    (ends (names (take i ts) o) (object_of t == o))
-  where
-    ends : (a b : Bool) → (a || (b || false)) ≡ (a || b)
-    ends true b = refl
-    ends false true = refl
-    ends false false = refl
-
--- What is put in, or taken out, in turn.
-pub set_again : (there m n : Bool) (p q : ℕ) (w : Bool) → set_to there n p q (set_to there m p q w) ≡ set_to there (m || n) p q w
-set_again there m n p q w = by_cases m n (p == q)
-  where
-    by_cases : (m n b : Bool) → (if n && b then there else (if m && b then there else w)) ≡ (if (m || n) && b then there else w)
-    by_cases true true true = refl
-    by_cases true true false = refl
-    by_cases true false true = refl
-    by_cases true false false = refl
-    by_cases false true true = refl
-    by_cases false true false = refl
-    by_cases false false true = refl
-    by_cases false false false = refl
 
 -- What was put into some of the sets is taken out again.
 pub set_back : (m n : Bool) (p q : ℕ) (w : Bool) → (m ≡ true → n ≡ true) → set_to false n p q (set_to true m p q w) ≡ set_to false n p q w

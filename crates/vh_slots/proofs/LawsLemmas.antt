@@ -20,9 +20,6 @@ by_bool : (P : Type 0) (b : Bool) → (b ≡ true → P) → (b ≡ false → P)
 by_bool P true p q = p refl
 by_bool P false p q = q refl
 
-none_is : {X : Type 0} (x : X) → None ≡ Some x → ⊥
-none_is x h = cc
-
 some_is : {X : Type 0} (x y : X) → Some x ≡ Some y → x ≡ y
 some_is x y h = cc
 

@@ -17,7 +17,7 @@ use Rattle.vh_design_nodes.specs.Fits.{same_sign}
 use Rattle.vh_store.specs.declared.record.Record.{Record as Kept}
 use Rattle.vh_store.specs.Contents.{Record, with_record, same_value}
 use Rattle.vh_design_nodes.specs.declared.driver.DriverInfo.{DriverInfo}
-use Rattle.vh_store.specs.Opening.{count_in, count_at, Wired, wired}
+use Rattle.vh_store.specs.Opening.{count_at, Wired, wired}
 use Rattle.vh_store.specs.Views.{record_of}
 
 -- The record of a number becomes another.
@@ -26,15 +26,6 @@ pub put_record : (rs : List Kept) (o : ℕ) (r new : Kept) (change : Record → 
     → map record_of (slice_set rs o new) ≡ with_record (slice_get (map record_of rs) o) o change (map record_of rs)
 put_record rs o r new change found is =
     rw (slice_get-map record_of rs o, found) (map-set record_of rs o new ∙ ap (λ (t : Record). slice_set (map record_of rs) o t) is)
-
-pub no_record : (rs : List Kept) (o : ℕ) (change : Record → Record) → length rs ≤ o
-    → map record_of rs ≡ with_record (slice_get (map record_of rs) o) o change (map record_of rs)
-no_record rs o change past = rw (slice_get-map record_of rs o, slice_get_past rs o past) refl
-
--- How many drivers the net at a number has.
-pub some_count : (rs : List Kept) (o : ℕ) (r : Kept) → slice_get rs o ≡ Some r
-    → count_in (record_of r).base ≡ count_at (slice_get (map record_of rs) o)
-some_count rs o r found = rw (slice_get-map record_of rs o, found) refl
 
 pub no_count : (rs : List Kept) (o : ℕ) → length rs ≤ o → 0 ≡ count_at (slice_get (map record_of rs) o)
 no_count rs o past = rw (slice_get-map record_of rs o, slice_get_past rs o past) refl

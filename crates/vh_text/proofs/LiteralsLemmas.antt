@@ -28,9 +28,6 @@ use Rattle.vh_text.proofs.ViewsLemmas.{digits_of-binary, short_or, is_held-take}
 abbrev pub number_after : ℕ → List ℕ → Option ℕ
 number_after n cs = cond (all_ascii_digits cs) (Some (digits_value_after 10 n cs)) None
 
-pub number_after-stop : (n c : ℕ) (cs : List ℕ) → is_ascii_digit c ≡ false → number_after n (c ∷ cs) ≡ None
-number_after-stop n c cs e = rw e refl
-
 pub number_after-more : (n c : ℕ) (cs : List ℕ) → is_ascii_digit c ≡ true → number_after n (c ∷ cs) ≡ number_after (n * 10 + digit_value c) cs
 number_after-more n c cs e = rw e refl
 
@@ -46,14 +43,6 @@ pub digit_value-is : (c : ℕ) → is_ascii_digit c ≡ true → digit_value c �
 digit_value-is c h =
     let range = digit_range c h in
     rw (le-ltb c 48 range.0, lt-ltb c 58 (omega arith)) refl
-
--- `?` is no decimal digit, as z is none
-pub question-digit : (b : ℕ) → is_ascii_digit (question_as_z b) ≡ is_ascii_digit b
-question-digit b =
-    elim (eqb_tells b 63) [
-      | inl e ↦ let at : b ≡ 63 = e.1 in rw at refl
-      | inr n ↦ rw n.0 refl
-    ]
 
 pub question-same : (b : ℕ) → is_ascii_digit b ≡ true → question_as_z b ≡ b
 question-same b h =
@@ -138,9 +127,6 @@ lone_letter-x c e = rw e refl
 
 pub lone_letter-z : (c : ℕ) → is_x_letter c ≡ false → is_z_letter c ≡ true → lone_letter (c ∷ []) ≡ Some Z
 lone_letter-z c e f = rw (e, f) refl
-
-pub lone_letter-none : (c : ℕ) → is_x_letter c ≡ false → is_z_letter c ≡ false → lone_letter (c ∷ []) ≡ None
-lone_letter-none c e f = rw (e, f) refl
 
 -- A literal with digits in front and something behind them
 pub by_front-sized : (front rest : List ℕ) → (length front ≡ 0 → ⊥) → (length rest ≡ 0 → ⊥)

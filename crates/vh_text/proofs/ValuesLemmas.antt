@@ -1,7 +1,7 @@
 -- What the code of value texts owes its definitions.
 use Rattle.std.proofs.Common.{◌≡◌, ℕ, suc, ◌+◌, ◌-◌, ◌*◌, ◌/◌, ◌%◌, ◌^◌, ◌<◌, ◌≤◌, List, [], ◌∷◌, length, take, replicate, refl, ap, arith, ◌∙◌, sym, Bool, true, false, cond, eqb, Option, Some, None, inl, inr}
 use Rattle.std.specs.Prelude.{◌&&◌, ◌||◌, not, ℤ, pos, neg_ℤ, ◌+ℤ◌, unsigned_abs}
-use Rattle.std.specs.Char.{digit_value, is_ascii_digit}
+use Rattle.std.specs.Char.{is_ascii_digit}
 use Rattle.std.specs.List.{list_all, list_any}
 use Rattle.std.specs.Option.{option_map}
 use Rattle.std.specs.Str.{all_ascii_digits}
@@ -51,9 +51,6 @@ mark_digits k b least most h =
             | inr m ↦ let no : is_literal_mark b ≡ false = rw (n.0, m.0) refl in cc
           ]
     ]
-
-joined_digits-none_left : (b : Option (List Digit)) → joined_digits None b ≡ None
-joined_digits-none_left b = refl
 
 joined_digits-none_right : (a : Option (List Digit)) → joined_digits a None ≡ None
 joined_digits-none_right None = refl
@@ -155,25 +152,9 @@ digits_of-negative w n word h none =
 abbrev pub hex_after : ℕ → List ℕ → Option ℕ
 hex_after n cs = cond (list_all is_lower_hex cs) (Some (digits_value_after 16 n cs)) None
 
-pub hex_after-stop : (n c : ℕ) (cs : List ℕ) → is_lower_hex c ≡ false → hex_after n (c ∷ cs) ≡ None
-hex_after-stop n c cs e = rw e refl
-
-pub hex_after-more : (n c : ℕ) (cs : List ℕ) → is_lower_hex c ≡ true → hex_after n (c ∷ cs) ≡ hex_after (n * 16 + digit_value c) cs
-hex_after-more n c cs e = rw e refl
-
 choice : (t : Bool) (d n : ℕ) → Some n ≡ cond t (Some d) None → (t ≡ true) × (n ≡ d)
 choice true d n h = (refl, cc)
 choice false d n h = cc
-
-pub from_hex : (c n : ℕ) → Some n ≡ cond (is_lower_hex c) (Some (digit_value c)) None → (is_lower_hex c ≡ true) × (n ≡ digit_value c)
-from_hex c n h = choice (is_lower_hex c) (digit_value c) n h
-
-no_choice : (t : Bool) (d : ℕ) → None ≡ cond t (Some d) None → t ≡ false
-no_choice true d h = cc
-no_choice false d h = refl
-
-pub from_no_hex : (c : ℕ) → None ≡ cond (is_lower_hex c) (Some (digit_value c)) None → is_lower_hex c ≡ false
-from_no_hex c h = no_choice (is_lower_hex c) (digit_value c) h
 
 -- Fewer hexadecimal digits than a plane has leave room for one more
 pub room : (n i : ℕ) → n < 16 ^ i → i < group_count 4 MAX_WIDTH → 16 * n + 16 ≤ 2 ^ MAX_WIDTH

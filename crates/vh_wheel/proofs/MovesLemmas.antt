@@ -127,12 +127,6 @@ moved-moves t from b x ns all h at low low_b is =
     let of_b : b / 256 ≡ moves_of t n.time = ap (λ k. k / 256) is ∙ level in
     omega (arith, less, total, old, new, of_b)
 
--- All are moved
-pub all-moved : (t from : ℕ) (ns : List Node) → AreMoving t from ns → ((x : ℕ) → x < length ns → bucket_at ns x ≢ from) → ArePlaced t ns
-all-moved t from ns all none x h held =
-    let m = all x h held in
-    record { later = m.later; fits = m.fits; bucket = m.moved (none x h) }
-
 -- A turn of the loop that moves them
 pub moved-step : (t from b x : ℕ) (n : Node) (ns ks : List Node) → AreMoving t from ns → x < length ns → bucket_at ns x ≡ from → from < 2048
     → b < 2048 → n ≡ node_at ns x → b ≡ bucket_from 7 t n.time → ks ≡ set ns x (with_bucket b n)

@@ -52,17 +52,6 @@ held-node ns x e h =
     payload_or None = 0
     payload_or (Some e) = e.payload
 
-pub is-held-node : (ns : List Node) (x : ℕ) → is_held (entry_at x (entries_of ns)) ≡ true → (x < length ns) × (bucket_at ns x ≢ 2048)
-is-held-node ns x h =
-    elim (cases_eq (bucket_at ns x) 2048) [
-      | inl b ↦ absurd (let none = ap is_held (entry-is ns x ∙ entry-free (node_at ns x) b) in let no : true ≡ false = sym h ∙ none in cc)
-      | inr b ↦
-          elim (cases_lt x (length ns)) [
-            | inl l ↦ (l, b)
-            | inr l ↦ absurd (b (ap (λ (n : Node). n.bucket) (node-beyond ns x l)))
-          ]
-    ]
-
 pub node-held : (ns : List Node) (x : ℕ) → (bucket_at ns x ≡ 2048 → ⊥)
     → entry_at x (entries_of ns) ≡ Some (record { time = (node_at ns x).time; payload = (node_at ns x).payload })
 node-held ns x b = entry-is ns x ∙ entry-held (node_at ns x) b

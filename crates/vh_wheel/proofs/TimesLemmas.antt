@@ -158,10 +158,6 @@ pub bucket-end : (k n t : ℕ) → 0 < k → n / 256 ≡ t / 256 → bucket_from
 bucket-end zero n t h e = absurd (omega arith)
 bucket-end (suc k) n t h e = same-bucket k n t e
 
--- The first byte of the walk, and the last
-pub bucket-first : (n t : ℕ) → (256 * 0) + bucket_from 7 n t ≡ bucket_from 7 n t
-bucket-first n t = omega arith
-
 pub bucket-zero : (n t : ℕ) → bucket_from 0 n t ≡ t
 unfolding bucket_from
 bucket-zero n t = refl
@@ -173,9 +169,6 @@ level-zero n t = refl
 pub bytes-step : (k t : ℕ) → 0 < k → HasBytes k t → HasBytes (k - 1) (t / 256)
 bytes-step zero t h b = absurd (omega arith)
 bytes-step (suc k) t h b = let one : suc k - 1 ≡ k = omega arith in rw one b
-
-pub bytes-last : (t : ℕ) → HasBytes 0 t → t < 256
-bytes-last t h = h
 
 -- A later present time leaves no time more moves
 pub level-never-rises : (k n t u : ℕ) → n ≤ t → t ≤ u → level_from k t u ≤ level_from k n u

@@ -47,15 +47,6 @@ walk-on x xs a h =
     subst (λ (ys : List ℕ). from_node x ys ≡ x ∷ left_of (behind x ys) ys) (sym parts.2)
     (after-parts x parts.0 parts.1 (subst IsApart parts.2 a) parts.3)
 
--- What is left of a list is in it
-pub has-from : (x y : ℕ) (xs : List ℕ) → has y (from_node x xs) ≡ true → has y xs ≡ true
-has-from x y [] h = h
-has-from x y (z ∷ zs) h =
-    elim (cases_Bool (eqb x z)) [
-      | inl e ↦ sym (ap (λ (b : Bool). has y (cond b (z ∷ zs) (from_node x zs))) e) ∙ h
-      | inr e ↦ has-tail y z zs (has-from x y zs (sym (ap (λ (b : Bool). has y (cond b (z ∷ zs) (from_node x zs))) e) ∙ h))
-    ]
-
 -- The node behind another, in the lists of the buckets
 pub next-of : (s : Lists) (ns : List Node) (a x : ℕ) → Lies s ns → a < 2049 → has x (list_of a s) ≡ true → next_of x s ≡ behind x (list_of a s)
 next-of s ns a x l h k =
