@@ -6,7 +6,7 @@ use Rattle.std.proofs.lemmas.Bool.Decides.{nat_tests}
 use Rattle.std.proofs.lemmas.List.Sums.{prefix_len-le-length}
 use Rattle.vh_base.specs.Classes.{is_between, is_space, is_name_start, is_digit}
 use Rattle.vh_app_script.specs.Token.{Terminal, wrong, Token}
-use Rattle.vh_app_script.specs.Spelling.{Piece, blank, token, no_token, piece_at, piece_then, token_with, further, tokens_after, tokens_of, is_name_byte, is_comment_byte, is_escaped, one_longer, text_len, text_of, mark_at, other_at, number_of, begins_with}
+use Rattle.vh_app_script.specs.Spelling.{Piece, blank, token, no_token, piece_at, piece_then, token_with, further, tokens_after, tokens_of, is_name_byte, is_comment_byte, is_escaped, one_longer, text_len, text_of, symbol_at, other_at, number_of, begins_with}
 
 -- So many bytes more, if there is an end
 abbrev pub further_by : ℕ → Option ℕ → Option ℕ
@@ -69,9 +69,9 @@ within-two : (byte : ℕ) (bytes : List ℕ) (p q : Piece) → IsWithin q (suc (
 within-two byte [] p q h i = h
 within-two byte (b ∷ bytes) p q h i = within-if (nat_eq b byte) p q _ (λ _. i (omega arith)) (λ _. h)
 
-within-mark : (byte : ℕ) (bytes : List ℕ) → IsWithin (mark_at byte bytes) (suc (length bytes))
-unfolding mark_at
-within-mark byte bytes =
+within-symbol : (byte : ℕ) (bytes : List ℕ) → IsWithin (symbol_at byte bytes) (suc (length bytes))
+unfolding symbol_at
+within-symbol byte bytes =
     within-if (nat_eq byte 44) _ _ _ (λ _. (omega arith, omega arith)) (λ _.
     within-if (nat_eq byte 59) _ _ _ (λ _. (omega arith, omega arith)) (λ _.
     within-if (nat_eq byte 61) _ _ _ (λ _. within-two 61 bytes _ _ (omega arith, omega arith) (λ l. (omega arith, omega (arith, l)))) (λ _.
@@ -85,7 +85,7 @@ within-mark byte bytes =
 within-other : (byte : ℕ) (bytes : List ℕ) → IsWithin (other_at byte bytes) (suc (length bytes))
 unfolding other_at
 within-other byte bytes =
-    within-if (nat_eq byte 34) _ _ _ (λ _. within-text (text_len false bytes) bytes _ (text-below false bytes) refl) (λ _. within-mark byte bytes)
+    within-if (nat_eq byte 34) _ _ _ (λ _. within-text (text_len false bytes) bytes _ (text-below false bytes) refl) (λ _. within-symbol byte bytes)
 
 piece-within : (bytes : List ℕ) → IsWithin (piece_at bytes) (length bytes)
 piece-within [] = tt

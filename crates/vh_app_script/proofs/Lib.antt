@@ -2,7 +2,7 @@
 mod Cutting
 -- The number that digits spell
 mod Numbers
--- Where nothing is left out, reading with a mark is reading
+-- Where nothing is left out, reading with a symbol is reading
 mod Plain
 -- A turn of each loop of the parser
 mod Loops

@@ -6,9 +6,9 @@ use Rattle.vh_parse_grammar.specs.Part.{tok, after}
 use Rattle.vh_parse_grammar.specs.Reading.{got, next_is, token_of, read, joined}
 use Rattle.vh_parse_grammar.proofs.Turns.{iter_turn, joined_turn, read_less}
 use Rattle.vh_app_script.specs.declared.token.Keyword.TheVariants as keyword
-use Rattle.vh_app_script.specs.declared.token.Mark.TheVariants as marks
+use Rattle.vh_app_script.specs.declared.token.Symbol.TheVariants as symbols
 use Rattle.vh_app_script.specs.declared.token.Token as held
-use Rattle.vh_app_script.specs.Token.{Terminal, is_mark}
+use Rattle.vh_app_script.specs.Token.{Terminal, is_symbol}
 use Rattle.vh_app_script.specs.Tree.{Command, Order, Test}
 use Rattle.vh_app_script.specs.Env.{Env}
 use Rattle.vh_app_script.specs.Words.{names_in}
@@ -30,10 +30,10 @@ pub command_less : (levels : ℕ) (env : Env) (run more : Run) (ts mid : List Te
 command_less levels env run more ts mid r = read_less grammar eating levels (one_more env run) (one_more_plain env run).0 ts more mid r
 
 -- Names go on by one
-pub names_go_on : (levels : ℕ) (rules : AppFault) (names more : List (List ℕ)) (ts mid rest : List Terminal) → next_is (is_mark marks.Comma) ts ≡ true → read grammar 0 (the marks.Comma) ts ≡ got tt mid → token_of (names_in rules names) mid ≡ got more rest →
+pub names_go_on : (levels : ℕ) (rules : AppFault) (names more : List (List ℕ)) (ts mid rest : List Terminal) → next_is (is_symbol symbols.Comma) ts ≡ true → read grammar 0 (the symbols.Comma) ts ≡ got tt mid → token_of (names_in rules names) mid ≡ got more rest →
     read grammar levels (further_names rules names) ts ≡ read grammar levels (further_names rules more) rest
 names_go_on levels rules names more ts mid rest is r s =
-    iter_turn grammar eating levels (λ u. is_mark marks.Comma) (λ u. after (the marks.Comma) (tok (names_in rules u))) (λ u. refl) names ts more rest is (rw (r, s) refl)
+    iter_turn grammar eating levels (λ u. is_symbol symbols.Comma) (λ u. after (the symbols.Comma) (tok (names_in rules u))) (λ u. refl) names ts more rest is (rw (r, s) refl)
 
 -- declarations go on by one
 pub declarations_go_on : (levels : ℕ) (rules : AppFault) (names more : List (List ℕ)) (ts mid : List Terminal) → next_is (is_word keyword.Var) ts ≡ true → read grammar levels (declaration rules names) ts ≡ got more mid →

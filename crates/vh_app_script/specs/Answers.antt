@@ -6,7 +6,7 @@ use Rattle.vh_base.specs.declared.place.Place.{Place}
 use Rattle.vh_parse_grammar.specs.Reading.{lost, deep, left_out, Out, got, stop}
 use Rattle.vh_parse_grammar.specs.Table.{source}
 use Rattle.vh_app_script.specs.declared.app.TheConstants.{MOST_LEVELS}
-use Rattle.vh_app_script.specs.Token.{Terminal, word, number, text, mark, wrong, Token}
+use Rattle.vh_app_script.specs.Token.{Terminal, word, number, text, symbol, wrong, Token}
 use Rattle.vh_app_script.specs.Spelling.{tokens_of, kinds_of}
 use Rattle.vh_app_script.specs.Places.{place_at}
 use Rattle.vh_app_script.specs.Tree.{App}
@@ -30,7 +30,7 @@ is_wrong (Some t) = is_wrong_kind t.kind
     is_wrong_kind (word aimed bytes) = false
     is_wrong_kind (number n) = false
     is_wrong_kind (text bytes) = false
-    is_wrong_kind (mark m) = false
+    is_wrong_kind (symbol m) = false
     is_wrong_kind wrong = true
 
 -- A token is refused with so many left (own).

@@ -11,10 +11,10 @@ use Rattle.vh_parse_grammar.specs.Firsts.{first_at}
 use Rattle.vh_parse_grammar.specs.Choices.{Heeds}
 use Rattle.vh_app_script.specs.declared.token.Keyword.{Keyword}
 use Rattle.vh_app_script.specs.declared.token.Keyword.TheVariants as keyword
-use Rattle.vh_app_script.specs.declared.token.Mark.TheVariants as marks
+use Rattle.vh_app_script.specs.declared.token.Symbol.TheVariants as symbols
 use Rattle.vh_app_script.specs.declared.words.Opening.{Opening}
 use Rattle.vh_app_script.specs.declared.words.Opening.TheVariants as opens
-use Rattle.vh_app_script.specs.Token.{Terminal, word, number, text, mark, wrong, keyword_text, is_mark}
+use Rattle.vh_app_script.specs.Token.{Terminal, word, number, text, symbol, wrong, keyword_text, is_symbol}
 use Rattle.vh_app_script.specs.Tree.{Test}
 use Rattle.vh_app_script.specs.Env.{Env, startup_env, procedure_env}
 use Rattle.vh_app_script.specs.Words.{opening_in, order_in}
@@ -53,7 +53,7 @@ words_apart : (one other : Keyword) (t : Terminal) → bytes_eq (keyword_text on
 words_apart one other (word aimed bytes) h = apart bytes (keyword_text one) (keyword_text other) h
 words_apart one other (number n) h = refl
 words_apart one other (text bytes) h = refl
-words_apart one other (mark m) h = refl
+words_apart one other (symbol m) h = refl
 words_apart one other wrong h = refl
 
 -- Each production takes a token.
@@ -250,9 +250,9 @@ unfolding sign
 sign_heeds (word aimed bytes) = (refl, refl, tt, tt)
 sign_heeds (number n) = (refl, refl, tt, tt)
 sign_heeds (text bytes) = (refl, refl, tt, tt)
-sign_heeds (mark marks.Equals) = (refl, refl, tt, tt)
-sign_heeds (mark marks.Differs) = (refl, refl, tt, tt)
-sign_heeds (mark m) = (refl, refl, tt, tt)
+sign_heeds (symbol symbols.Equals) = (refl, refl, tt, tt)
+sign_heeds (symbol symbols.Differs) = (refl, refl, tt, tt)
+sign_heeds (symbol m) = (refl, refl, tt, tt)
 sign_heeds wrong = (refl, refl, tt, tt)
 
 test_heeds : (env : Env) (t : Terminal) → Heeds begins (test_row env) t
@@ -261,7 +261,7 @@ test_heeds env t = (refl, tt, (refl, sign_heeds t, tt))
 
 nested_heeds : (env : Env) (room : ℕ) (t : Terminal) → Heeds begins (nested_block env room) t
 unfolding nested_block any_block
-nested_heeds env room t = (by_only (is_mark marks.OpenBrace t), refl, tt, tt)
+nested_heeds env room t = (by_only (is_symbol symbols.OpenBrace t), refl, tt, tt)
 
 otherwise_heeds : (env : Env) (room : ℕ) (t : Terminal) → Heeds begins (otherwise env room) t
 unfolding otherwise
@@ -281,7 +281,7 @@ command_end_heeds : (env : Env) (room : ℕ) (o : Opening) (t : Terminal) → He
 unfolding target_end set_end return_end if_end while_end order test_row
 command_end_heeds env room (opens.Target n) t = (refl, (refl, tt, order_heeds env t), tt)
 command_end_heeds env room opens.Set t =
-    (refl, (refl, tt, (refl, tt, (refl, tt, (by_only (is_mark marks.Plus t), refl, (refl, tt, tt), tt)))), tt)
+    (refl, (refl, tt, (refl, tt, (refl, tt, (by_only (is_symbol symbols.Plus t), refl, (refl, tt, tt), tt)))), tt)
 command_end_heeds env room opens.Return t = (and_false _, tt, tt)
 command_end_heeds env room opens.If t =
     (refl, (refl, tt, (refl, test_heeds env t, tt)), λ own. branches_heed env own _ t)
@@ -293,11 +293,11 @@ one_more_heeds : (env : Env) (run : Run) (t : Terminal) → (g.begins_command en
 unfolding one_more command
 one_more_heeds env run t = (by_some _, (refl, tt, λ o. command_end_heeds env run.room o t))
 
-commands_close : (env : Env) (room : ℕ) (t : Terminal) → ((is_some (cond (is_mark marks.CloseBrace t) (Some (tt {0})) None)) && (is_some (opening_in env room t) || false)) ≡ false
+commands_close : (env : Env) (room : ℕ) (t : Terminal) → ((is_some (cond (is_symbol symbols.CloseBrace t) (Some (tt {0})) None)) && (is_some (opening_in env room t) || false)) ≡ false
 commands_close env room (word aimed bytes) = refl
 commands_close env room (number n) = refl
 commands_close env room (text bytes) = refl
-commands_close env room (mark m) = and_false _
+commands_close env room (symbol m) = and_false _
 commands_close env room wrong = refl
 
 block_heeds : (env : Env) (room : ℕ) (t : Terminal) → Heeds begins (any_block env room) t
@@ -307,11 +307,11 @@ block_heeds env room t = (refl, tt, (commands_close env room t, (λ run. one_mor
 pub heeding : (p : Name) (t : Terminal) → Heeds begins (grammar p) t
 heeding (block env room) t = block_heeds env room t
 
-orders_close : (rules : AppFault) (t : Terminal) → ((is_some (cond (is_mark marks.CloseBrace t) (Some (tt {0})) None)) && ((is_some (order_in rules t) || false) || false)) ≡ false
+orders_close : (rules : AppFault) (t : Terminal) → ((is_some (cond (is_symbol symbols.CloseBrace t) (Some (tt {0})) None)) && ((is_some (order_in rules t) || false) || false)) ≡ false
 orders_close rules (word aimed bytes) = refl
 orders_close rules (number n) = refl
 orders_close rules (text bytes) = refl
-orders_close rules (mark m) = and_false _
+orders_close rules (symbol m) = and_false _
 orders_close rules wrong = refl
 
 startup_heeds : (rules : AppFault) (t : Terminal) → Heeds begins (startup rules) t
@@ -326,7 +326,7 @@ procedures_heed env procs t = (by_only _, (refl, tt, (refl, tt, nested_heeds env
 declarations_heed : (rules : AppFault) (names : List (List ℕ)) (t : Terminal) → (g.is_word keyword.Var t ≡ (is_some (cond (g.is_word keyword.Var t) (Some (tt {0})) None) || false)) × Heeds begins (declaration rules names) t
 unfolding declaration
 declarations_heed rules names t =
-    (by_only _, (refl, tt, (refl, (refl, tt, λ u v. (by_only (is_mark marks.Comma t), (refl, tt, tt))), tt)))
+    (by_only _, (refl, tt, (refl, (refl, tt, λ u v. (by_only (is_symbol symbols.Comma t), (refl, tt, tt))), tt)))
 
 only_is : Bool → Bool
 only_is b = is_some (cond b (Some (tt {0})) None)

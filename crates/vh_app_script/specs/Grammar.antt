@@ -20,13 +20,13 @@ use Rattle.vh_parse_grammar.specs.Part.{Part, done, tok, seq, bind, act, alt, re
 use Rattle.vh_app_script.specs.declared.env.TheConstants.{MOST_COMMANDS}
 use Rattle.vh_app_script.specs.declared.token.Keyword.{Keyword}
 use Rattle.vh_app_script.specs.declared.token.Keyword.TheVariants as keyword
-use Rattle.vh_app_script.specs.declared.token.Mark.{Mark}
-use Rattle.vh_app_script.specs.declared.token.Mark.TheVariants as mark
+use Rattle.vh_app_script.specs.declared.token.Symbol.{Symbol}
+use Rattle.vh_app_script.specs.declared.token.Symbol.TheVariants as symbol
 use Rattle.vh_app_script.specs.declared.words.BodyWord.{BodyWord}
 use Rattle.vh_app_script.specs.declared.words.BodyWord.TheVariants as bodies
 use Rattle.vh_app_script.specs.declared.words.Opening.{Opening}
 use Rattle.vh_app_script.specs.declared.words.Opening.TheVariants as opens
-use Rattle.vh_app_script.specs.Token.{Terminal, keyword_text, is_mark, is_spelled}
+use Rattle.vh_app_script.specs.Token.{Terminal, keyword_text, is_symbol, is_spelled}
 use Rattle.vh_app_script.specs.Tree as tree
 use Rattle.vh_app_script.specs.Tree.{Atom, Body, Order, Test, Command, Procedure, App, commands}
 use Rattle.vh_app_script.specs.Env.{Env, startup_env, procedure_env, with_name}
@@ -50,9 +50,9 @@ tree_of (block env room) = Run
 abbrev pub G : Type 0 → Type 1
 G A = Part Terminal tree_of A
 
--- A mark, and a word of the rows (own).
-abbrev pub the : Mark → G (Unit {0})
-the m = only (is_mark m)
+-- A symbol, and a word of the rows (own).
+abbrev pub the : Symbol → G (Unit {0})
+the m = only (is_symbol m)
 
 abbrev pub is_word : Keyword → Terminal → Bool
 is_word k = is_spelled (keyword_text k)
@@ -66,14 +66,14 @@ nothing = tok (λ t. None)
 
 -- The part and a ";" (own).
 abbrev pub ended : {A : Type 0} → G A → G A
-ended part = before part (the mark.Semicolon)
+ended part = before part (the symbol.Semicolon)
 
 -- The part in braces, and in parentheses (own).
 abbrev pub in_braces : {A : Type 0} → G A → G A
-in_braces part = after (the mark.OpenBrace) (before part (the mark.CloseBrace))
+in_braces part = after (the symbol.OpenBrace) (before part (the symbol.CloseBrace))
 
 abbrev pub in_parens : {A : Type 0} → G A → G A
-in_parens part = after (the mark.OpenParen) (before part (the mark.CloseParen))
+in_parens part = after (the symbol.OpenParen) (before part (the symbol.CloseParen))
 
 -- atom, and NAME (own).
 abbrev pub atom : Env → G Atom
@@ -179,7 +179,7 @@ abbrev pub test_of : Atom × (Bool × Atom) → Test
 test_of p = record { left = p.0; same = p.1.0; right = p.1.1 }
 
 unfoldable pub sign : G Bool
-sign = alt (is_mark mark.Equals) (act (λ u. true) (the mark.Equals)) (act (λ u. false) (the mark.Differs))
+sign = alt (is_symbol symbol.Equals) (act (λ u. true) (the symbol.Equals)) (act (λ u. false) (the symbol.Differs))
 
 unfoldable pub test_row : Env → G Test
 test_row env = act test_of (seq (atom env) (seq sign (atom env)))
@@ -190,15 +190,15 @@ set_of p = tree.set p.0 p.1.0 p.1.1
 
 unfoldable pub set_end : Env → G Command
 set_end env =
-    ended (act set_of (seq (tok (variable_in env.variables)) (after (the mark.Becomes)
-    (seq (atom env) (opt (is_mark mark.Plus) (after (the mark.Plus) (atom env)))))))
+    ended (act set_of (seq (tok (variable_in env.variables)) (after (the symbol.Becomes)
+    (seq (atom env) (opt (is_symbol symbol.Plus) (after (the symbol.Plus) (atom env)))))))
 
 -- block, a level deeper: no level is wanting where none begins (own)
 abbrev pub inner_block : Env → ℕ → G Run
 inner_block env room = nested (block env room)
 
 unfoldable pub nested_block : Env → ℕ → G Run
-nested_block env room = alt (is_mark mark.OpenBrace) (inner_block env room) nothing
+nested_block env room = alt (is_symbol symbol.OpenBrace) (inner_block env room) nothing
 
 -- A command, and how many more there may be (own).
 abbrev pub counted : ℕ → Command → Command × ℕ
@@ -231,7 +231,7 @@ while_end env room = two loop_of (in_parens (test_row env)) (nested_block env (r
 
 -- NAME "=" order ";", behind its name, and order ";", behind its word (own)
 unfoldable pub target_end : Env → ℕ → G Command
-target_end env n = ended (act (tree.ask (Some n)) (after (the mark.Becomes) (order env)))
+target_end env n = ended (act (tree.ask (Some n)) (after (the symbol.Becomes) (order env)))
 
 unfoldable pub ask_end : Env → Routine → G Command
 ask_end env routine = ended (act (tree.ask None) (arguments env routine))
@@ -283,7 +283,7 @@ heading rules earlier = after (the_word keyword.App) (ended (tok (new_name_in ru
 
 -- NAME { "," NAME }, each another one than those before (own)
 abbrev pub further_names : AppFault → List (List ℕ) → G (List (List ℕ))
-further_names rules names = iter (λ u. is_mark mark.Comma) (λ u. after (the mark.Comma) (tok (names_in rules u))) names
+further_names rules names = iter (λ u. is_symbol symbol.Comma) (λ u. after (the symbol.Comma) (tok (names_in rules u))) names
 
 -- "var" NAME { "," NAME } ";" (own)
 unfoldable pub declaration : AppFault → List (List ℕ) → G (List (List ℕ))

@@ -3,9 +3,9 @@ use Rattle.std.specs.Prelude.{◌==◌, ℕ, zero, suc, ◌+◌, ◌-◌, ◌*�
 use Rattle.std.specs.List.{prefix_len}
 use Rattle.std.specs.Option.{option_map}
 use Rattle.vh_base.specs.Classes.{is_between, is_space, is_name_start, is_digit}
-use Rattle.vh_app_script.specs.declared.token.Mark.{Mark}
-use Rattle.vh_app_script.specs.declared.token.Mark.TheVariants as marks
-use Rattle.vh_app_script.specs.Token.{Terminal, word, number, text, mark, wrong, Token}
+use Rattle.vh_app_script.specs.declared.token.Symbol.{Symbol}
+use Rattle.vh_app_script.specs.declared.token.Symbol.TheVariants as symbols
+use Rattle.vh_app_script.specs.Token.{Terminal, word, number, text, symbol, wrong, Token}
 
 -- A letter, an underscore or a digit, with which a name goes on (own).
 abbrev pub is_name_byte : ℕ → Bool
@@ -94,30 +94,30 @@ abbrev pub text_of : Option ℕ → List ℕ → Piece
 text_of (Some len) bytes = token (text (unescaped false (take len bytes))) (len + 2)
 text_of None bytes = no_token
 
--- A mark of one byte (own).
-abbrev pub one_byte : Mark → Piece
-one_byte m = token (mark m) 1
+-- A symbol of one byte (own).
+abbrev pub one_byte : Symbol → Piece
+one_byte m = token (symbol m) 1
 
--- A mark of two bytes, if the second stands there, and else this (own).
-abbrev pub two_bytes : ℕ → Mark → List ℕ → Piece → Piece
-two_bytes byte m bytes other = if begins_with byte bytes then token (mark m) 2 else other
+-- A symbol of two bytes, if the second stands there, and else this (own).
+abbrev pub two_bytes : ℕ → Symbol → List ℕ → Piece → Piece
+two_bytes byte m bytes other = if begins_with byte bytes then token (symbol m) 2 else other
 
--- The mark that begins with the byte, in front of the bytes (own).
-unfoldable pub mark_at : ℕ → List ℕ → Piece
-mark_at byte bytes =
-    if byte == 44 then one_byte marks.Comma
-    else (if byte == 59 then one_byte marks.Semicolon
-    else (if byte == 61 then two_bytes 61 marks.Equals bytes (one_byte marks.Becomes)
-    else (if byte == 33 then two_bytes 61 marks.Differs bytes no_token
-    else (if byte == 43 then one_byte marks.Plus
-    else (if byte == 40 then one_byte marks.OpenParen
-    else (if byte == 41 then one_byte marks.CloseParen
-    else (if byte == 123 then one_byte marks.OpenBrace
-    else (if byte == 125 then one_byte marks.CloseBrace else no_token))))))))
+-- The symbol that begins with the byte, in front of the bytes (own).
+unfoldable pub symbol_at : ℕ → List ℕ → Piece
+symbol_at byte bytes =
+    if byte == 44 then one_byte symbols.Comma
+    else (if byte == 59 then one_byte symbols.Semicolon
+    else (if byte == 61 then two_bytes 61 symbols.Equals bytes (one_byte symbols.Becomes)
+    else (if byte == 33 then two_bytes 61 symbols.Differs bytes no_token
+    else (if byte == 43 then one_byte symbols.Plus
+    else (if byte == 40 then one_byte symbols.OpenParen
+    else (if byte == 41 then one_byte symbols.CloseParen
+    else (if byte == 123 then one_byte symbols.OpenBrace
+    else (if byte == 125 then one_byte symbols.CloseBrace else no_token))))))))
 
--- The text or the mark that begins with the byte, in front of the bytes (own).
+-- The text or the symbol that begins with the byte, in front of the bytes (own).
 unfoldable pub other_at : ℕ → List ℕ → Piece
-other_at byte bytes = if byte == 34 then text_of (text_len false bytes) bytes else mark_at byte bytes
+other_at byte bytes = if byte == 34 then text_of (text_len false bytes) bytes else symbol_at byte bytes
 
 -- What bytes begin with (own).
 abbrev pub piece_at : List ℕ → Piece

@@ -30,7 +30,7 @@ use Rattle.vh_app_script.specs.declared.tree.Command as held_command
 use Rattle.vh_app_script.specs.declared.tree.Command.TheOpen as open_
 use Rattle.vh_app_script.specs.declared.tree.Procedure as held_procedure
 use Rattle.vh_app_script.specs.declared.tree.App as held_app
-use Rattle.vh_app_script.specs.Token.{Terminal, word, number, text, mark, wrong, Token}
+use Rattle.vh_app_script.specs.Token.{Terminal, word, number, text, symbol, wrong, Token}
 use Rattle.vh_app_script.specs.Spelling.{Piece, blank, token, no_token, unescaped}
 use Rattle.vh_app_script.specs.Tree as tree
 use Rattle.vh_app_script.specs.Tree.{Atom, Body, Order, Test, Command, Procedure, App}
@@ -42,7 +42,7 @@ abbrev pub kind_seen : held_kind.Kind → Terminal
 kind_seen (kinds.Word aimed bytes) = word aimed bytes.now
 kind_seen (kinds.Number n) = number n
 kind_seen (kinds.Text bytes) = text (unescaped false bytes.now)
-kind_seen (kinds.Mark m) = mark m
+kind_seen (kinds.Symbol m) = symbol m
 kind_seen kinds.Wrong = wrong
 
 abbrev pub token_seen : held_token.Token → Token

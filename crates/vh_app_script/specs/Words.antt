@@ -26,7 +26,7 @@ use Rattle.vh_app_script.specs.declared.words.Opening.{Opening}
 use Rattle.vh_app_script.specs.declared.words.Opening.TheVariants as opens
 use Rattle.vh_app_script.specs.declared.words.BodyWord.{BodyWord}
 use Rattle.vh_app_script.specs.declared.words.BodyWord.TheVariants as bodies
-use Rattle.vh_app_script.specs.Token.{Terminal, word, number, text, mark, wrong}
+use Rattle.vh_app_script.specs.Token.{Terminal, word, number, text, symbol, wrong}
 use Rattle.vh_app_script.specs.Tree as tree
 use Rattle.vh_app_script.specs.Tree.{Atom}
 use Rattle.vh_app_script.specs.Built.{built_routines, built_reasons, natives_are_built}
@@ -74,7 +74,7 @@ abbrev pub of_word : {A : Type 0} → (List ℕ → Option A) → Terminal → O
 of_word meaning (word aimed bytes) = meaning bytes
 of_word meaning (number n) = None
 of_word meaning (text bytes) = None
-of_word meaning (mark m) = None
+of_word meaning (symbol m) = None
 of_word meaning wrong = None
 
 -- One of these by its word: another word is unknown (own).
@@ -169,7 +169,7 @@ abbrev pub atom_in : Env → Terminal → Option Atom
 atom_in env (word aimed bytes) = atom_word env.block env.variables bytes
 atom_in env (number n) = Some (tree.number n)
 atom_in env (text bytes) = text_atom env.rules bytes
-atom_in env (mark m) = None
+atom_in env (symbol m) = None
 atom_in env wrong = None
 
 -- A routine that is built: another word is unknown (own).
@@ -214,5 +214,5 @@ abbrev pub opening_in : Env → ℕ → Terminal → Option Opening
 opening_in env room (word aimed bytes) = if is_one_too_many env.rules room then None else opening_of env aimed bytes
 opening_in env room (number n) = None
 opening_in env room (text bytes) = None
-opening_in env room (mark m) = None
+opening_in env room (symbol m) = None
 opening_in env room wrong = None

@@ -18,10 +18,10 @@ use crate::arguments::order;
 use crate::block::{Run, nested_block};
 use crate::env::{Block, Env, MOST_COMMANDS, counts};
 use crate::take::{
-    At, Read, is_long_name, mark_is_next, new_name, order_is_next, take_mark, take_word,
+    At, Read, is_long_name, symbol_is_next, new_name, order_is_next, take_symbol, take_word,
     word_is_next,
 };
-use crate::token::{Keyword, Kind, Mark, Token};
+use crate::token::{Keyword, Kind, Symbol, Token};
 use crate::tree::{App, Order, Procedure};
 use indexmap::IndexSet;
 use sqlite_items::Items;
@@ -119,7 +119,7 @@ fn heading<'t, 'a>(
 {
     let more = take_word(at, Keyword::App)?;
     let (name, end) = own_name(rules, earlier, more)?;
-    let rest = take_mark(end, Mark::Semicolon)?;
+    let rest = take_symbol(end, Symbol::Semicolon)?;
     Ok((name, rest))
 }
 
@@ -148,8 +148,8 @@ fn further_names<'t, 'a>(
         Gives (names_seen names.new.keys) (read grammar levels part (terminals at.now)) result }
 {
     let (_, mut rest) = at.split_at(0);
-    'names: while mark_is_next(rest, Mark::Comma) {
-        let more = take_mark(rest, Mark::Comma)?;
+    'names: while symbol_is_next(rest, Symbol::Comma) {
+        let more = take_symbol(rest, Symbol::Comma)?;
         rest = another(rules, names, more)?;
     }
     Ok(rest)
@@ -169,7 +169,7 @@ fn declaration<'t, 'a>(
     let more = take_word(at, Keyword::Var)?;
     let more = another(rules, names, more)?;
     let end = further_names(levels, rules, names, more)?;
-    take_mark(end, Mark::Semicolon)
+    take_symbol(end, Symbol::Semicolon)
 }
 
 // `{ "var" NAME { "," NAME } ";" }`
@@ -196,7 +196,7 @@ fn startup_order<'t, 'a>(levels: usize, env: &Env<'a>, at: At<'t, 'a>) -> Read<'
     ensures { Reads order_seen levels (rows.startup_order (env_seen env.now).rules) at.now result }
 {
     let (order, end) = order(levels, env, at)?;
-    let rest = take_mark(end, Mark::Semicolon)?;
+    let rest = take_symbol(end, Symbol::Semicolon)?;
     Ok((order, rest))
 }
 
@@ -235,14 +235,14 @@ fn startup<'t, 'a>(
         return Ok((Items::new(alloc), at));
     }
     let more = take_word(at, Keyword::Startup)?;
-    let inside = take_mark(more, Mark::OpenBrace)?;
+    let inside = take_symbol(more, Symbol::OpenBrace)?;
     let env = Env {
         rules,
         block: Block::Startup,
         names: IndexSet::new(alloc),
     };
     let (orders, end) = startup_orders(alloc, levels, &env, inside)?;
-    let rest = take_mark(end, Mark::CloseBrace)?;
+    let rest = take_symbol(end, Symbol::CloseBrace)?;
     Ok((orders, rest))
 }
 

@@ -12,10 +12,10 @@ ghost use Rattle.vh_app_script.specs.Views.{Reads, env_seen, atom_seen, atoms_se
 
 use crate::env::Env;
 use crate::take::{
-    At, Read, atom, body_word, control, format, mark_is_next, mode, name, order_opening, property,
-    reason, relation, systf_kind, take_mark, take_word, word_is_next,
+    At, Read, atom, body_word, control, format, symbol_is_next, mode, name, order_opening, property,
+    reason, relation, systf_kind, take_symbol, take_word, word_is_next,
 };
-use crate::token::{Keyword, Mark};
+use crate::token::{Keyword, Symbol};
 use crate::tree::{Atom, Body, Order, Test};
 use crate::words::{BodyWord, Opening};
 use vh_app_lines::Routine;
@@ -301,11 +301,11 @@ pub fn order<'t, 'a>(levels: usize, env: &Env<'a>, at: At<'t, 'a>) -> Read<'t, '
 fn sign<'t, 'a>(levels: usize, at: At<'t, 'a>) -> Read<'t, 'a, bool>
     ensures { Reads (λ b. b) levels rows.sign at.now result }
 {
-    if mark_is_next(at, Mark::Equals) {
-        let rest = take_mark(at, Mark::Equals)?;
+    if symbol_is_next(at, Symbol::Equals) {
+        let rest = take_symbol(at, Symbol::Equals)?;
         return Ok((true, rest));
     }
-    let rest = take_mark(at, Mark::Differs)?;
+    let rest = take_symbol(at, Symbol::Differs)?;
     Ok((false, rest))
 }
 

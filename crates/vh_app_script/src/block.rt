@@ -6,20 +6,20 @@ ghost use Rattle.std.specs.Prelude.{◌≡◌, Option, Some, None, option_map, M
 ghost use Rattle.vh_parse_grammar.specs.declared.stop.Stop.TheVariants.{Memory};
 ghost use Rattle.vh_parse_grammar.specs.Part.{opt, after};
 ghost use Rattle.vh_parse_grammar.specs.Reading.{read};
-ghost use Rattle.vh_app_script.specs.declared.token.Mark.TheVariants as mark;
+ghost use Rattle.vh_app_script.specs.declared.token.Symbol.TheVariants as symbol;
 ghost use Rattle.vh_app_script.specs.Grammar as rows;
 ghost use Rattle.vh_app_script.specs.Grammar.{the, grammar};
-ghost use Rattle.vh_app_script.specs.Token.{is_mark};
+ghost use Rattle.vh_app_script.specs.Token.{is_symbol};
 ghost use Rattle.vh_app_script.specs.Tree as tree;
 ghost use Rattle.vh_app_script.specs.Views.{Reads, Gives, terminals, env_seen, atom_seen, order_seen, test_seen, command_tree, commands_seen, run_seen, counted_seen};
 
 use crate::arguments::{arguments, order, test};
 use crate::env::Env;
 use crate::take::{
-    At, Read, atom, mark_is_next, opening, opening_is_next, take_mark, take_word, variable,
+    At, Read, atom, symbol_is_next, opening, opening_is_next, take_symbol, take_word, variable,
     word_is_next,
 };
-use crate::token::{Keyword, Mark};
+use crate::token::{Keyword, Symbol};
 use crate::tree::{Atom, Command, Order, Test};
 use crate::words::Opening;
 use sqlite_items::{Boxed, Items};
@@ -144,9 +144,9 @@ fn target_end<'t, 'a>(
 ) -> Read<'t, 'a, Boxed<Command<'a>>>
     ensures { Reads command_tree levels (rows.target_end (env_seen env.now) number) at.now result }
 {
-    let more = take_mark(at, Mark::Becomes)?;
+    let more = take_symbol(at, Symbol::Becomes)?;
     let (order, end) = order(levels, env, more)?;
-    let rest = take_mark(end, Mark::Semicolon)?;
+    let rest = take_symbol(end, Symbol::Semicolon)?;
     Ok((asked(alloc, Some(number), order)?, rest))
 }
 
@@ -162,7 +162,7 @@ fn ask_end<'t, 'a>(
     ensures { Reads command_tree levels (rows.ask_end (env_seen env.now) routine) at.now result }
 {
     let (order, end) = arguments(levels, env, routine, at)?;
-    let rest = take_mark(end, Mark::Semicolon)?;
+    let rest = take_symbol(end, Symbol::Semicolon)?;
     Ok((asked(alloc, None, order)?, rest))
 }
 
@@ -175,19 +175,19 @@ fn return_end<'t, 'a>(
 ) -> Read<'t, 'a, Boxed<Command<'a>>>
     ensures { Reads command_tree levels rows.return_end at.now result }
 {
-    let rest = take_mark(at, Mark::Semicolon)?;
+    let rest = take_symbol(at, Symbol::Semicolon)?;
     Ok((Boxed::new(alloc, Command::Return)?, rest))
 }
 
 // `[ "+" atom ]`
 fn added<'t, 'a>(levels: usize, env: &Env<'a>, at: At<'t, 'a>) -> Read<'t, 'a, Option<Atom<'a>>>
-    ensures { let part = after (the mark.Plus) (rows.atom (env_seen env.now)) in
-        Reads (option_map atom_seen) levels (opt (is_mark mark.Plus) part) at.now result }
+    ensures { let part = after (the symbol.Plus) (rows.atom (env_seen env.now)) in
+        Reads (option_map atom_seen) levels (opt (is_symbol symbol.Plus) part) at.now result }
 {
-    if !mark_is_next(at, Mark::Plus) {
+    if !symbol_is_next(at, Symbol::Plus) {
         return Ok((None, at));
     }
-    let more = take_mark(at, Mark::Plus)?;
+    let more = take_symbol(at, Symbol::Plus)?;
     let (atom, rest) = atom(env, more)?;
     Ok((Some(atom), rest))
 }
@@ -203,10 +203,10 @@ fn set_end<'t, 'a>(
     ensures { Reads command_tree levels (rows.set_end (env_seen env.now)) at.now result }
 {
     let (number, more) = variable(&env.names, at)?;
-    let more = take_mark(more, Mark::Becomes)?;
+    let more = take_symbol(more, Symbol::Becomes)?;
     let (first, more) = atom(env, more)?;
     let (second, end) = added(levels, env, more)?;
-    let rest = take_mark(end, Mark::Semicolon)?;
+    let rest = take_symbol(end, Symbol::Semicolon)?;
     Ok((set(alloc, number, first, second)?, rest))
 }
 
@@ -215,9 +215,9 @@ fn tested<'t, 'a>(levels: usize, env: &Env<'a>, at: At<'t, 'a>) -> Read<'t, 'a, 
     ensures { let part = rows.in_parens (rows.test_row (env_seen env.now)) in
         Reads test_seen levels part at.now result }
 {
-    let inside = take_mark(at, Mark::OpenParen)?;
+    let inside = take_symbol(at, Symbol::OpenParen)?;
     let (test, end) = test(levels, env, inside)?;
-    let rest = take_mark(end, Mark::CloseParen)?;
+    let rest = take_symbol(end, Symbol::CloseParen)?;
     Ok((test, rest))
 }
 
@@ -254,7 +254,7 @@ pub fn nested_block<'t, 'a>(
 ) -> Read<'t, 'a, Run<'a>>
     ensures { Reads run_seen levels (rows.nested_block (env_seen env.now) room) at.now result }
 {
-    if mark_is_next(at, Mark::OpenBrace) {
+    if symbol_is_next(at, Symbol::OpenBrace) {
         inner_block(alloc, levels, env, room, at)
     } else {
         Err(Stop::Lost(at.len()))
@@ -273,9 +273,9 @@ fn any_block<'t, 'a>(
 ) -> Read<'t, 'a, Run<'a>>
     ensures { Reads run_seen levels (rows.any_block (env_seen env.now) room) at.now result }
 {
-    let inside = take_mark(at, Mark::OpenBrace)?;
+    let inside = take_symbol(at, Symbol::OpenBrace)?;
     let (run, end) = more_commands(alloc, levels, env, room, inside)?;
-    let rest = take_mark(end, Mark::CloseBrace)?;
+    let rest = take_symbol(end, Symbol::CloseBrace)?;
     Ok((run, rest))
 }
 

@@ -7,7 +7,7 @@ ghost use Rattle.vh_app_script.specs.Spelling;
 ghost use Rattle.vh_app_script.specs.Views.{token_seen, piece_seen};
 
 use crate::bytes::{is_comment_byte, is_escaped, is_name_byte, is_text_byte};
-use crate::token::{Kind, Mark, Token};
+use crate::token::{Kind, Symbol, Token};
 use std::alloc::Global;
 use vh_base::{NoMemory, is_digit, is_name_start, is_space};
 
@@ -67,7 +67,7 @@ fn piece_at(bytes: &[u8]) -> Piece<'_>
     }
 }
 
-// A text or a mark that begins with the byte, in front of the bytes.
+// A text or a symbol that begins with the byte, in front of the bytes.
 #[tactic(auto, unfolding(crate::specs::Spelling::other_at))]
 fn other_at(byte: u8, bytes: &[u8]) -> Piece<'_>
     ensures { piece_seen result ≡ Spelling.other_at byte bytes.now }
@@ -75,7 +75,7 @@ fn other_at(byte: u8, bytes: &[u8]) -> Piece<'_>
     if byte == b'"' {
         text_at(bytes)
     } else {
-        mark_at(byte, bytes)
+        symbol_at(byte, bytes)
     }
 }
 
@@ -109,22 +109,22 @@ fn text_at(bytes: &[u8]) -> Piece<'_>
     }
 }
 
-// A mark that begins with the byte, in front of the bytes.
-#[tactic(auto, unfolding(crate::specs::Spelling::mark_at))]
-fn mark_at(byte: u8, bytes: &[u8]) -> Piece<'static>
-    ensures { piece_seen result ≡ Spelling.mark_at byte bytes.now }
+// A symbol that begins with the byte, in front of the bytes.
+#[tactic(auto, unfolding(crate::specs::Spelling::symbol_at))]
+fn symbol_at(byte: u8, bytes: &[u8]) -> Piece<'static>
+    ensures { piece_seen result ≡ Spelling.symbol_at byte bytes.now }
 {
     match byte {
-        b',' => Piece::Token(Kind::Mark(Mark::Comma), 1),
-        b';' => Piece::Token(Kind::Mark(Mark::Semicolon), 1),
-        b'=' if begins_with_equals(bytes) => Piece::Token(Kind::Mark(Mark::Equals), 2),
-        b'=' => Piece::Token(Kind::Mark(Mark::Becomes), 1),
-        b'!' if begins_with_equals(bytes) => Piece::Token(Kind::Mark(Mark::Differs), 2),
-        b'+' => Piece::Token(Kind::Mark(Mark::Plus), 1),
-        b'(' => Piece::Token(Kind::Mark(Mark::OpenParen), 1),
-        b')' => Piece::Token(Kind::Mark(Mark::CloseParen), 1),
-        b'{' => Piece::Token(Kind::Mark(Mark::OpenBrace), 1),
-        b'}' => Piece::Token(Kind::Mark(Mark::CloseBrace), 1),
+        b',' => Piece::Token(Kind::Symbol(Symbol::Comma), 1),
+        b';' => Piece::Token(Kind::Symbol(Symbol::Semicolon), 1),
+        b'=' if begins_with_equals(bytes) => Piece::Token(Kind::Symbol(Symbol::Equals), 2),
+        b'=' => Piece::Token(Kind::Symbol(Symbol::Becomes), 1),
+        b'!' if begins_with_equals(bytes) => Piece::Token(Kind::Symbol(Symbol::Differs), 2),
+        b'+' => Piece::Token(Kind::Symbol(Symbol::Plus), 1),
+        b'(' => Piece::Token(Kind::Symbol(Symbol::OpenParen), 1),
+        b')' => Piece::Token(Kind::Symbol(Symbol::CloseParen), 1),
+        b'{' => Piece::Token(Kind::Symbol(Symbol::OpenBrace), 1),
+        b'}' => Piece::Token(Kind::Symbol(Symbol::CloseBrace), 1),
         _ => Piece::NoToken,
     }
 }

@@ -24,6 +24,6 @@ pub use fault::ScriptFault;
 pub use laws::script_laws;
 pub use lexer::tokens;
 pub use read::read_script;
-pub use token::{Keyword, Kind, Mark, Token};
+pub use token::{Keyword, Kind, Symbol, Token};
 pub use tree::{App, Atom, Body, Command, Order, Procedure, Test};
 pub use words::{BodyWord, Opening};

@@ -6,7 +6,7 @@ ghost use Rattle.vh_parse_grammar.specs.Reading as reading;
 ghost use Rattle.vh_app_script.specs.Env as spec;
 ghost use Rattle.vh_app_script.specs.Grammar.{is_word, begins_order};
 ghost use Rattle.vh_app_script.specs.Spelling.{unescaped};
-ghost use Rattle.vh_app_script.specs.Token.{is_mark, is_spelled};
+ghost use Rattle.vh_app_script.specs.Token.{is_symbol, is_spelled};
 ghost use Rattle.vh_app_script.specs.Words as words;
 ghost use Rattle.vh_app_script.specs.Views.{TakesToken, TakesMeaning, token_is_next, Says, terminals, env_seen, atom_seen, kind_seen, name_seen};
 
@@ -15,7 +15,7 @@ use crate::env::{Block, Env, MOST_NAME, MOST_TEXT, counts};
 use crate::named::{
     FORMATS, MODES, PROPERTIES, RELATIONS, Worded, control_of, kind_of, named, routine_of,
 };
-use crate::token::{Keyword, Kind, Mark, Token};
+use crate::token::{Keyword, Kind, Symbol, Token};
 use crate::tree::Atom;
 use crate::words::{BodyWord, Opening};
 use indexmap::IndexSet;
@@ -28,12 +28,12 @@ pub type At<'t, 'a> = &'t [Token<'a>];
 /// What a parser reads, and where it goes on.
 pub type Read<'t, 'a, T> = Result<(T, &'t [Token<'a>]), Stop>;
 
-// Whether the token is the mark.
-fn is_the_mark(kind: Kind<'_>, mark: Mark) -> bool
-    ensures { result ≡ is_mark mark (kind_seen kind.entry) }
+// Whether the token is the symbol.
+fn is_the_symbol(kind: Kind<'_>, symbol: Symbol) -> bool
+    ensures { result ≡ is_symbol symbol (kind_seen kind.entry) }
 {
     match kind {
-        Kind::Mark(own) => mark.number() == own.number(),
+        Kind::Symbol(own) => symbol.number() == own.number(),
         _ => false,
     }
 }
@@ -48,22 +48,22 @@ fn is_the_word(kind: Kind<'_>, keyword: Keyword) -> bool
     }
 }
 
-/// Whether the mark is next.
-pub fn mark_is_next(at: At<'_, '_>, mark: Mark) -> bool
-    ensures { result ≡ token_is_next (is_mark mark) at.now }
+/// Whether the symbol is next.
+pub fn symbol_is_next(at: At<'_, '_>, symbol: Symbol) -> bool
+    ensures { result ≡ token_is_next (is_symbol symbol) at.now }
 {
     match at {
         [] => false,
-        [first, ..] => is_the_mark(first.kind, mark),
+        [first, ..] => is_the_symbol(first.kind, symbol),
     }
 }
 
-/// Takes the mark.
-pub fn take_mark<'t, 'a>(at: At<'t, 'a>, mark: Mark) -> Result<At<'t, 'a>, Stop>
-    ensures { TakesToken (is_mark mark) at.now result }
+/// Takes the symbol.
+pub fn take_symbol<'t, 'a>(at: At<'t, 'a>, symbol: Symbol) -> Result<At<'t, 'a>, Stop>
+    ensures { TakesToken (is_symbol symbol) at.now result }
 {
     match at {
-        [first, rest @ ..] if is_the_mark(first.kind, mark) => Ok(rest),
+        [first, rest @ ..] if is_the_symbol(first.kind, symbol) => Ok(rest),
         _ => Err(Stop::Lost(at.len())),
     }
 }
@@ -363,7 +363,7 @@ fn atom_of<'a>(env: &Env<'_>, kind: Kind<'a>) -> Option<Atom<'a>>
         Kind::Number(number) => Some(Atom::Number(number)),
         Kind::Text(text) if is_long_text(env.rules, text) => None,
         Kind::Text(text) => Some(Atom::Text(text)),
-        Kind::Mark(_) => None,
+        Kind::Symbol(_) => None,
         Kind::Wrong => None,
     }
 }

@@ -5,7 +5,7 @@ ghost use Rattle.vh_app_script.specs.Token as spec;
 
 /// A token that is always spelled the same, other than a word.
 #[derive(Clone, Copy, Debug, PartialEq, Eq)]
-pub enum Mark {
+pub enum Symbol {
     /// `,`
     Comma,
     /// `;`
@@ -50,7 +50,7 @@ pub enum Kind<'a> {
     Number(u64),
     /// What stands between the quotes of a text, with its escapes.
     Text(&'a [u8]),
-    Mark(Mark),
+    Symbol(Symbol),
     /// No token begins here, or a number that is too large.
     Wrong,
 }
@@ -62,10 +62,10 @@ pub struct Token<'a> {
     pub left: usize,
 }
 
-impl Mark {
-    /// Its number, by which marks are told apart.
+impl Symbol {
+    /// Its number, by which symbols are told apart.
     pub fn number(self) -> u8
-        ensures { result ≡ spec.mark_number self }
+        ensures { result ≡ spec.symbol_number self }
     {
         self as u8
     }

@@ -65,9 +65,9 @@ pub data SimpleTree : Type 0 where
   system_call : Id → List (Option ExprTree) → SimpleTree
 
 -- For which values a statement of a case stands (IEEE 1364-2005, 9.5).
-pub data LabelsTree : Type 0 where
-  values : List ExprTree → LabelsTree
-  default : LabelsTree
+pub data MatchedTree : Type 0 where
+  values : List ExprTree → MatchedTree
+  default : MatchedTree
 
 mutual
   -- A statement, where its first token stands (IEEE 1364-2005, A.6.4).
@@ -95,7 +95,7 @@ mutual
   -- The statements of a case in a row, each where its first token stands (IEEE 1364-2005, 9.5).
   pub data Citems : Type 0 where
     no_citem : Citems
-    one_citem : Place → LabelsTree → StmtTree → Citems → Citems
+    one_citem : Place → MatchedTree → StmtTree → Citems → Citems
 
   -- Statements in a row (own).
   pub data Stmts : Type 0 where
@@ -105,13 +105,13 @@ mutual
 -- One statement of a case (IEEE 1364-2005, 9.5).
 pub record CitemTree : Type 0 where
   pub place : Place
-  pub labels : LabelsTree
+  pub matched : MatchedTree
   pub body : StmtTree
 
 -- Statements of a case, of a list (own).
 abbrev pub citems : List CitemTree → Citems
 citems [] = no_citem
-citems (c ∷ more) = one_citem c.place c.labels c.body (citems more)
+citems (c ∷ more) = one_citem c.place c.matched c.body (citems more)
 
 -- Statements of a list (own).
 abbrev pub stmts : List StmtTree → Stmts

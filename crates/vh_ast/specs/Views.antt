@@ -42,8 +42,8 @@ use Rattle.vh_ast.specs.declared.target.Lv.{Lv}
 use Rattle.vh_ast.specs.declared.target.Set.{Set}
 use Rattle.vh_ast.specs.declared.stmt.Simple.{Simple}
 use Rattle.vh_ast.specs.declared.stmt.Simple.TheVariants as simple
-use Rattle.vh_ast.specs.declared.stmt.Labels.{Labels}
-use Rattle.vh_ast.specs.declared.stmt.Labels.TheVariants as labels
+use Rattle.vh_ast.specs.declared.stmt.Matched.{Matched}
+use Rattle.vh_ast.specs.declared.stmt.Matched.TheVariants as matched
 use Rattle.vh_ast.specs.declared.stmt.Citem.{Citem}
 use Rattle.vh_ast.specs.declared.stmt.StmtForm.{StmtForm}
 use Rattle.vh_ast.specs.declared.stmt.StmtForm.TheVariants as s
@@ -71,7 +71,7 @@ use Rattle.vh_ast.specs.declared.module.Source.{Source}
 use Rattle.vh_ast.specs.Expressions.{ExprTree, expr, ExprFormTree, number, text, named, call, system, paren, concat, repeat, unary, chain, choice, exprs, links, NameTree, name, steps, IndexTree, no_index, index, SelTree, no_sel, index_sel, both_sel, part_sel, PartTree, at, range, up, down}
 use Rattle.vh_ast.specs.Declarations.{RangeTree, TypeTree, AssignedTree, NetTree, InitTree, VarPartTree, plain, memory, valued, VarTree, DeclTree, reg, integer, time, ParTree, PdeclTree, PortTree, declared_port, port_name, PortsTree, plain_ports, declared_ports, TargTree, LocalTree, local_targ, local_decl, ResultTree, integer_result, time_result, data_result}
 use Rattle.vh_ast.specs.Statements as S
-use Rattle.vh_ast.specs.Statements.{DelayValueTree, delay_number, delay_id, delay_expr, DelayTree, EvTree, EventTree, any_event, named_event, listed_events, LvPartTree, LvTree, SetTree, SimpleTree, LabelsTree, StmtTree, StmtFormTree, CitemTree}
+use Rattle.vh_ast.specs.Statements.{DelayValueTree, delay_number, delay_id, delay_expr, DelayTree, EvTree, EventTree, any_event, named_event, listed_events, LvPartTree, LvTree, SetTree, SimpleTree, MatchedTree, StmtTree, StmtFormTree, CitemTree}
 use Rattle.vh_ast.specs.Items as I
 
 -- Names and selects over the code's expressions, by how these are seen (own).
@@ -238,13 +238,13 @@ simple_tree (simple.Release word target) = S.release word (lv_tree target)
 simple_tree (simple.Call n arguments) = S.task_call (name_tree n) (map expr_tree arguments)
 simple_tree (simple.System id arguments) = S.system_call id (map (option_map expr_tree) arguments)
 
-abbrev pub labels_tree : Labels → LabelsTree
-labels_tree (labels.Values es) = S.values (map expr_tree es)
-labels_tree labels.Default = S.default
+abbrev pub matched_tree : Matched → MatchedTree
+matched_tree (matched.Values es) = S.values (map expr_tree es)
+matched_tree matched.Default = S.default
 
 -- One layer of a statement of the code (own).
 abbrev citem_layer : Citem StmtTree → CitemTree
-citem_layer c = record { place = c.place; labels = labels_tree c.labels; body = c.body }
+citem_layer c = record { place = c.place; matched = matched_tree c.matched; body = c.body }
 
 abbrev else_layer : Option StmtTree → S.ElseTree
 else_layer None = S.no_else
@@ -272,7 +272,7 @@ else_tree None = S.no_else
 else_tree (Some s) = S.else_stmt (stmt_tree s)
 
 abbrev pub citem_tree : Citem Stmt → CitemTree
-citem_tree c = record { place = c.place; labels = labels_tree c.labels; body = stmt_tree c.body }
+citem_tree c = record { place = c.place; matched = matched_tree c.matched; body = stmt_tree c.body }
 
 -- Tasks and functions of the code (own).
 abbrev pub targ_tree : Targ → TargTree

@@ -42,7 +42,7 @@ pub use operator::{Binary, Unary};
 pub use port::{Direction, Par, Pdecl, Port, PortType, Ports};
 pub use routine::{Function, Local, ResultType, Targ, Task, TaskDirection};
 pub use stmt::{
-    AssignWord, BlockWord, CaseWord, Citem, ForceWord, Labels, LoopWord, ReleaseWord, Simple, Stmt,
+    AssignWord, BlockWord, CaseWord, Citem, ForceWord, Matched, LoopWord, ReleaseWord, Simple, Stmt,
     StmtForm,
 };
 pub use target::{Lv, LvPart, Set};

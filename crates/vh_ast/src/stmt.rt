@@ -81,7 +81,7 @@ pub enum Simple {
 
 /// `expr { "," expr } | "default"`
 #[derive(Drop)]
-pub enum Labels {
+pub enum Matched {
     Values(Items<Expr>),
     Default,
 }
@@ -90,7 +90,7 @@ pub enum Labels {
 #[derive(Drop)]
 pub struct Citem<S> {
     pub place: Place,
-    pub labels: Labels,
+    pub matched: Matched,
     pub body: S,
 }
 
@@ -152,7 +152,7 @@ impl Stmt {
     ghost use Rattle.vh_ast.specs.Statements.{stmt, case_stmt, citems};
     ghost use Rattle.vh_ast.specs.Views.{expr_tree, stmt_tree, citem_tree};
 
-    /// `case`, `casez` or `casex`: a statement for each label.
+    /// `case`, `casez` or `casex`: a statement for each value.
     pub fn case(place: Place, word: CaseWord, value: Boxed<Expr>, all: Items<Citem<Stmt>>) -> Stmt
         ensures { let form = case_stmt word (expr_tree value) (citems (map citem_tree all)) in
             stmt_tree result ≡ stmt place form }

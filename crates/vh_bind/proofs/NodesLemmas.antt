@@ -98,7 +98,7 @@ kind_width-kept os pr ns x e (kind.Join first rest) h up =
     ∙ summed-kept ns x e (width_of ns first) rest (and_right (nat_lt first e) (all_before e rest) h) up
 kind_width-kept os pr ns x e (kind.Repeat count p) h up =
     ap (λ (w : ℕ). min (count * w) (MAX_WIDTH + 1)) (width-kept ns x p (inside_by p e (length ns) h up))
-kind_width-kept os pr ns x e (kind.Marked p signed) h up = width-kept ns x p (inside_by p e (length ns) h up)
+kind_width-kept os pr ns x e (kind.WithSign p signed) h up = width-kept ns x p (inside_by p e (length ns) h up)
 kind_width-kept os pr ns x e (kind.Time unit) h up = refl
 kind_width-kept os pr ns x e (kind.Call function result arguments) h up = refl
 kind_width-kept os pr ns x e (kind.SysCall o) h up = refl
@@ -127,7 +127,7 @@ kind_signed-kept os pr ns x e (kind.Choice condition left right) h up =
     ∙ ap (λ (g : Bool). signed_of ns left && g) (signed-kept ns x right other)
 kind_signed-kept os pr ns x e (kind.Join first rest) h up = refl
 kind_signed-kept os pr ns x e (kind.Repeat count p) h up = refl
-kind_signed-kept os pr ns x e (kind.Marked p signed) h up = refl
+kind_signed-kept os pr ns x e (kind.WithSign p signed) h up = refl
 kind_signed-kept os pr ns x e (kind.Time unit) h up = refl
 kind_signed-kept os pr ns x e (kind.Call function result arguments) h up = refl
 kind_signed-kept os pr ns x e (kind.SysCall o) h up = refl

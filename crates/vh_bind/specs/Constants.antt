@@ -101,24 +101,24 @@ abbrev pub operators : Links → List Operator
 operators no_link = []
 operators (one_link op e ls) = operator_of op ∷ operators ls
 
--- `$signed` and `$unsigned`: they mark their one argument. (5.5)
+-- `$signed` and `$unsigned`: they give their one argument a sign. (5.5)
 abbrev pub signed_name : List ℕ
 signed_name = codes "$signed"
 
 abbrev pub unsigned_name : List ℕ
 unsigned_name = codes "$unsigned"
 
-abbrev pub mark_of : List ℕ → Option Bool
-mark_of id =
+abbrev pub given_sign : List ℕ → Option Bool
+given_sign id =
     if bytes_eq id signed_name then Some true
     else (if bytes_eq id unsigned_name then Some false else None)
 
-abbrev pub marked_pushed : Mode → Scope → Place → Bool → Option ℕ → Step (Option ℕ)
-marked_pushed m s place signed a = needing a (λ e. pushed m s place (kind.Marked e signed))
+abbrev pub with_sign_pushed : Mode → Scope → Place → Bool → Option ℕ → Step (Option ℕ)
+with_sign_pushed m s place signed a = needing a (λ e. pushed m s place (kind.WithSign e signed))
 
-abbrev pub mark_row : Mode → Scope → Place → Bool → Option (Step (Option ℕ)) → Step (Option ℕ)
-mark_row m s place signed None = refused N10 place
-mark_row m s place signed (Some bound) = bound >>= marked_pushed m s place signed
+abbrev pub with_sign_row : Mode → Scope → Place → Bool → Option (Step (Option ℕ)) → Step (Option ℕ)
+with_sign_row m s place signed None = refused N10 place
+with_sign_row m s place signed (Some bound) = bound >>= with_sign_pushed m s place signed
 
 -- `$time` has no argument. (17.7.1)
 abbrev pub time_name : List ℕ
@@ -136,7 +136,7 @@ other_system mode.Value s id es =
 
 abbrev pub system_row : Mode → Scope → Id → Exprs → Option Bool → Option (Step (Option ℕ)) → Step (Option ℕ)
 system_row m s id es None argument = other_system m s id es
-system_row m s id es (Some signed) argument = mark_row m s id.place signed argument
+system_row m s id es (Some signed) argument = with_sign_row m s id.place signed argument
 
 -- A value that has a name, or the parameter that has none yet; a path is no constant. (4.10)
 abbrev pub bounded : Place → Named → Outcome (Option Bounded)
@@ -173,8 +173,8 @@ unary_pushed m s place op a = needing a (λ part. pushed m s place (kind.Unary (
 
 -- A part behind what stands before it.
 abbrev pub prefixed : Mode → Scope → Place → Prefix → Option ℕ → Step (Option ℕ)
-prefixed m s place (prefix.Mark signed) = marked_pushed m s place signed
-prefixed m s place (prefix.Sign op) = unary_pushed m s place op
+prefixed m s place (prefix.WithSign signed) = with_sign_pushed m s place signed
+prefixed m s place (prefix.UnaryOperator op) = unary_pushed m s place op
 
 -- A chain of operators, (5.1.2)
 abbrev pub chain_pushed : Mode → Scope → Place → List Operator → Option ℕ → Option (List ℕ) → Step (Option ℕ)
@@ -300,7 +300,7 @@ abbrev mutual
       (lifted (function_called s place (count_of es) (name_meant s true n)) >>= (λ f.
       needing f (λ g. call_row s place g (list_any is_taken (directions_of s g.id))
       (given_bound s (directions_of s g.id) 0 (Some []) es) (taken_bound s (directions_of s g.id) 0 (Some []) es))))
-  form_bound m s place (system id es) = system_row m s id es (mark_of id.name) (sole_bound m s es)
+  form_bound m s place (system id es) = system_row m s id es (given_sign id.name) (sole_bound m s es)
   form_bound m s place (paren e) = bound m s e
   form_bound m s place (concat es) = entries_bound m s (Some []) es >>= concat_pushed m s place
   form_bound m s place (repeat e es) =

@@ -26,7 +26,7 @@ use Rattle.vh_design_nodes.specs.declared.object.ObjectInfo.{ObjectInfo}
 use Rattle.vh_design_nodes.specs.Widths.{kind_width, kind_signed}
 use Rattle.vh_design_nodes.specs.Fits.{is_width, fits_node}
 use Rattle.vh_design.specs.Validity.{AllFit}
-use Rattle.vh_ast.specs.declared.operator.Unary.{Unary as Sign}
+use Rattle.vh_ast.specs.declared.operator.Unary.{Unary as UnaryOperator}
 use Rattle.vh_ast.specs.declared.operator.Unary.TheVariants as sign
 use Rattle.vh_ast.specs.declared.operator.Binary.{Binary}
 use Rattle.vh_ast.specs.declared.operator.Binary.TheVariants as by
@@ -62,7 +62,7 @@ abbrev pub IsSound : Mode → Scope → Nodes → Type 0
 IsSound m s ns = AreSound (objects_of m s) (precision_of m s) ns
 
 -- A unary operator. (Table 5-1)
-abbrev pub unary_of : Sign → Unary
+abbrev pub unary_of : UnaryOperator → Unary
 unary_of sign.Plus = to.Plus
 unary_of sign.Minus = to.Negate
 unary_of sign.Not = to.Not

@@ -8,7 +8,7 @@ use Rattle.vh_logic.specs.Number.{integer_of}
 use Rattle.vh_design_nodes.specs.declared.expr.Range.{Range}
 use Rattle.vh_design_nodes.specs.declared.expr.Select.{Select}
 use Rattle.vh_design_nodes.specs.declared.expr.Select.TheVariants as select
-use Rattle.vh_eval.specs.Selects.{digits_from, place_of, selected}
+use Rattle.vh_eval.specs.Selects.{digits_from, position_of, selected}
 use Rattle.vh_bind.specs.Steps.{Fault}
 
 -- What comes of something, or the first fault.
@@ -66,7 +66,7 @@ abbrev pub slice_of : Place → Bounded → ℕ → ℕ → Outcome (Option Vect
 slice_of place b left right =
     if goes_with b.0 left right && nat_le (span left right) MAX_WIDTH then
     Ok (Some (record {
-      digits = digits_from b.1.digits (place_of b.0 (pos right)) (span left right);
+      digits = digits_from b.1.digits (position_of b.0 (pos right)) (span left right);
       signed = false;
     }))
     else Err (N3, place)

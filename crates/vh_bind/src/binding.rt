@@ -6,7 +6,7 @@ ghost use Rattle.vh_ast.specs.Expressions.{exprs};
 ghost use Rattle.vh_ast.specs.Views.{expr_tree, link_tree, name_tree, sel_tree};
 ghost use Rattle.vh_bind.specs.Steps.{Steps, Gives};
 ghost use Rattle.vh_bind.specs.Nodes.{IsSound};
-ghost use Rattle.vh_bind.specs.Constants.{bound, call_fault, entry, entries_bound, links_bound, name_value, sel_value, mark_of, system_row, sole_bound, constant};
+ghost use Rattle.vh_bind.specs.Constants.{bound, call_fault, entry, entries_bound, links_bound, name_value, sel_value, given_sign, system_row, sole_bound, constant};
 ghost use Rattle.vh_bind.specs.declared.scope.Mode.TheVariants as mode;
 ghost use Rattle.vh_bind.specs.Views.{scope_seen, numbers_of};
 
@@ -14,7 +14,7 @@ use crate::fault::ElabFault;
 use crate::named::{Named, alone_called, look_up};
 use crate::nodes::{Nodes, Numbered, Numbers, push, push_text};
 use crate::parts::{
-    Prefix, chain_operators, is_unsized, mark_of, push_choice, push_concat, push_links,
+    Prefix, chain_operators, is_unsized, given_sign, push_choice, push_concat, push_links,
     push_literal, push_prefixed, push_times, sequence, with_number,
 };
 use crate::scope::{Mode, Scope};
@@ -104,7 +104,7 @@ fn bind(alloc: Global, scope: &Scope, nodes: &mut Nodes, e: &Expr) -> Numbered
                 Mode::Constant,
                 nodes,
                 place,
-                Prefix::Sign(*sign),
+                Prefix::UnaryOperator(*sign),
                 part,
             )
         }
@@ -226,14 +226,14 @@ fn bind_system(
     requires sound { IsSound mode.Constant (scope_seen scope.now) nodes.old.items }
     ensures step { Steps
         (system_row mode.Constant (scope_seen scope.now) id.now
-        (exprs (map expr_tree arguments.now)) (mark_of id.now.name)
+        (exprs (map expr_tree arguments.now)) (given_sign id.now.name)
         (sole_bound mode.Constant (scope_seen scope.now) (exprs (map expr_tree arguments.now)))
         nodes.old.items) result nodes.new.items }
     ensures sound { OnOk result (IsSound mode.Constant (scope_seen scope.now) nodes.new.items) }
     ensures below { IfOk result (λ o. IfSome o (λ n. n < length nodes.new.items)) }
     ensures grows { OnOk result (length nodes.old.items ≤ length nodes.new.items) }
 {
-    let Some(signed) = mark_of(id.name.as_slice()) else {
+    let Some(signed) = given_sign(id.name.as_slice()) else {
         return Err(ElabFault::Refused(DesignFault::N4, id.place));
     };
     let arguments = arguments.as_slice();
@@ -241,8 +241,8 @@ fn bind_system(
         return Err(ElabFault::Refused(DesignFault::N10, id.place));
     }
     let part = bind(alloc, scope, nodes, &arguments[0])?;
-    let mark = Prefix::Mark { signed };
-    push_prefixed(scope, Mode::Constant, nodes, id.place, mark, part)
+    let with_sign = Prefix::WithSign { signed };
+    push_prefixed(scope, Mode::Constant, nodes, id.place, with_sign, part)
 }
 
 // An entry of a concatenation.

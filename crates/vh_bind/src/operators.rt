@@ -2,7 +2,7 @@ ghost use Rattle.std.specs.Prelude.{◌≡◌, IfOk, Option};
 ghost use Rattle.vh_bind.specs.Nodes.{unary_of, operator_of, links_by};
 
 use std::alloc::Global;
-use vh_ast::{Binary, Unary as Sign};
+use vh_ast::{Binary, Unary as UnaryOperator};
 use vh_base::{ExprId, NoMemory, Sequence};
 use vh_design_nodes::{Arithmetic, Comparison, Link, Links, Logic, Shift, Unary};
 
@@ -15,20 +15,20 @@ pub enum Operator {
     Logic(Logic),
 }
 
-pub(crate) fn unary_of(sign: Sign) -> Unary
+pub(crate) fn unary_of(sign: UnaryOperator) -> Unary
     ensures { result ≡ unary_of sign }
 {
     match sign {
-        Sign::Plus => Unary::Plus,
-        Sign::Minus => Unary::Negate,
-        Sign::Not => Unary::Not,
-        Sign::Invert => Unary::Invert,
-        Sign::ReduceAnd => Unary::And,
-        Sign::ReduceNand => Unary::Nand,
-        Sign::ReduceOr => Unary::Or,
-        Sign::ReduceNor => Unary::Nor,
-        Sign::ReduceXor => Unary::Xor,
-        Sign::ReduceXnor => Unary::Xnor,
+        UnaryOperator::Plus => Unary::Plus,
+        UnaryOperator::Minus => Unary::Negate,
+        UnaryOperator::Not => Unary::Not,
+        UnaryOperator::Invert => Unary::Invert,
+        UnaryOperator::ReduceAnd => Unary::And,
+        UnaryOperator::ReduceNand => Unary::Nand,
+        UnaryOperator::ReduceOr => Unary::Or,
+        UnaryOperator::ReduceNor => Unary::Nor,
+        UnaryOperator::ReduceXor => Unary::Xor,
+        UnaryOperator::ReduceXnor => Unary::Xnor,
     }
 }
 

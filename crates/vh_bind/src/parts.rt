@@ -4,7 +4,7 @@ ghost use Rattle.vh_ast.specs.Expressions;
 ghost use Rattle.vh_ast.specs.Views.{expr_tree, link_tree};
 ghost use Rattle.vh_bind.specs.Steps.{Steps};
 ghost use Rattle.vh_bind.specs.Nodes.{IsSound};
-ghost use Rattle.vh_bind.specs.Constants.{literal, prefixed, chain_pushed, concat_pushed, times_pushed, choice_pushed, operators, is_unsized, with_number, mark_of};
+ghost use Rattle.vh_bind.specs.Constants.{literal, prefixed, chain_pushed, concat_pushed, times_pushed, choice_pushed, operators, is_unsized, with_number, given_sign};
 ghost use Rattle.vh_bind.specs.Views.{scope_seen, numbers_of};
 
 use crate::fault::ElabFault;
@@ -18,8 +18,8 @@ use vh_design_nodes::{ExprIds, ExprKind};
 use vh_logic::Vec4;
 
 /// How `$signed` or `$unsigned` marks its argument.
-pub fn mark_of(name: &[u8]) -> Option<bool>
-    ensures { result ≡ mark_of name.now }
+pub fn given_sign(name: &[u8]) -> Option<bool>
+    ensures { result ≡ given_sign name.now }
 {
     if name == b"$signed".as_slice() {
         return Some(true);
@@ -100,11 +100,11 @@ pub fn push_literal(
     }
 }
 
-/// What stands before one operand: `$signed` or `$unsigned` as a mark, or an operator.
+/// What stands before one operand: `$signed` or `$unsigned` with the sign that it gives, or an operator.
 #[derive(Clone, Copy)]
 pub enum Prefix {
-    Mark { signed: bool },
-    Sign(Unary),
+    WithSign { signed: bool },
+    UnaryOperator(Unary),
 }
 
 /// A part behind a prefix, where it is not passed over.
@@ -129,10 +129,10 @@ pub fn push_prefixed(
         return Ok(None);
     };
     match prefix {
-        Prefix::Mark { signed } => {
-            push(scope, mode, nodes, place, ExprKind::Marked { part, signed })
+        Prefix::WithSign { signed } => {
+            push(scope, mode, nodes, place, ExprKind::WithSign { part, signed })
         }
-        Prefix::Sign(sign) => {
+        Prefix::UnaryOperator(sign) => {
             let op = unary_of(sign);
             push(scope, mode, nodes, place, ExprKind::Unary { op, part })
         }

@@ -9,7 +9,7 @@ ghost use Rattle.std.specs.List.{list_any};
 ghost use Rattle.vh_bind.specs.Steps.{Steps, StepsOn, beside};
 ghost use Rattle.vh_bind.specs.Objects.{directions_of, is_taken};
 ghost use Rattle.vh_bind.specs.Nodes.{IsSound};
-ghost use Rattle.vh_bind.specs.Constants.{bound, call_row, entries_bound, entry, form_bound, given_bound, links_bound, mark_of, memory_bound, part_bound, sole_bound, system_row, taken_bound, target_pieces, targets_pieces, vector_bound};
+ghost use Rattle.vh_bind.specs.Constants.{bound, call_row, entries_bound, entry, form_bound, given_bound, links_bound, given_sign, memory_bound, part_bound, sole_bound, system_row, taken_bound, target_pieces, targets_pieces, vector_bound};
 ghost use Rattle.vh_bind.specs.Views.{scope_seen};
 ghost use Rattle.vh_bind_expr.specs.Kinds.{IsFunction};
 ghost use Rattle.vh_bind_expr.specs.Rows.{argument_bound, output_bound, side_bound, variable_bound};
@@ -27,7 +27,7 @@ use vh_ast::{Esel, Expr, ExprForm, Id, Link, Name, Part, Primary, Sel, TaskDirec
 use vh_base::{DesignFault, ExprId, ObjId, Place, Sequence};
 use vh_bind::{
     ElabFault, Function, Mode, Nodes, Numbered, Numbers, Prefix, Readable, Scope, is_unsized,
-    mark_of, push, push_choice, push_concat, push_literal, push_prefixed, push_text, sequence,
+    given_sign, push, push_choice, push_concat, push_literal, push_prefixed, push_text, sequence,
     with_number,
 };
 use vh_bind_least::lesser;
@@ -100,7 +100,7 @@ fn bind(alloc: Global, scope: &Scope, nodes: &mut Nodes, e: &Expr) -> Numbered
         },
         ExprForm::Unary(sign, operand) => {
             let part = bind(alloc, scope, nodes, operand.get())?;
-            push_prefixed(scope, Mode::Value, nodes, place, Prefix::Sign(*sign), part)
+            push_prefixed(scope, Mode::Value, nodes, place, Prefix::UnaryOperator(*sign), part)
         }
         ExprForm::Chain(first, links) => {
             let first = bind(alloc, scope, nodes, first.get())?;
@@ -274,7 +274,7 @@ pub fn bind_part(
     }
 }
 
-// A system call: `$signed` and `$unsigned` mark their one argument.
+// A system call: `$signed` and `$unsigned` give their one argument a sign.
 #[cycle(bind)]
 fn bind_system(
     alloc: Global,
@@ -287,14 +287,14 @@ fn bind_system(
     requires unit { is_unit (scope_seen scope.now).precision (scope_seen scope.now).unit ≡ true }
     ensures step { Steps
         (system_row mode.Value (scope_seen scope.now) id.now
-        (exprs (map expr_tree arguments.now)) (mark_of id.now.name)
+        (exprs (map expr_tree arguments.now)) (given_sign id.now.name)
         (sole_bound mode.Value (scope_seen scope.now) (exprs (map expr_tree arguments.now)))
         nodes.old.items) result nodes.new.items }
     ensures sound { OnOk result (IsSound mode.Value (scope_seen scope.now) nodes.new.items) }
     ensures below { IfOk result (λ o. IfSome o (λ n. n < length nodes.new.items)) }
     ensures grows { OnOk result (length nodes.old.items ≤ length nodes.new.items) }
 {
-    let Some(signed) = mark_of(id.name.as_slice()) else {
+    let Some(signed) = given_sign(id.name.as_slice()) else {
         return push_system(scope, nodes, id, arguments);
     };
     let arguments = arguments.as_slice();
@@ -302,8 +302,8 @@ fn bind_system(
         return Err(ElabFault::Refused(DesignFault::N10, id.place));
     }
     let part = bind(alloc, scope, nodes, &arguments[0])?;
-    let mark = Prefix::Mark { signed };
-    push_prefixed(scope, Mode::Value, nodes, id.place, mark, part)
+    let with_sign = Prefix::WithSign { signed };
+    push_prefixed(scope, Mode::Value, nodes, id.place, with_sign, part)
 }
 
 // An entry of a concatenation.

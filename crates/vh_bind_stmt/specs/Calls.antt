@@ -102,7 +102,7 @@ calls_in w ns e (kind.Logic first rest) = []
 calls_in w ns e (kind.Choice condition a b) = []
 calls_in w ns e (kind.Join first rest) = []
 calls_in w ns e (kind.Repeat count part) = []
-calls_in w ns e (kind.Marked part signed) = []
+calls_in w ns e (kind.WithSign part signed) = []
 calls_in w ns e (kind.Time unit) = []
 calls_in w ns e (kind.Call function result arguments) =
     call_of ns function (arguments_of w function) arguments (record { call = e; variable = result })

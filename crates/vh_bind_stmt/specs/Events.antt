@@ -18,7 +18,7 @@ use Rattle.vh_design_code.specs.declared.wait.Edge.{Edge}
 use Rattle.vh_design_code.specs.declared.wait.Edge.TheVariants as edge
 use Rattle.vh_design_code.specs.declared.wait.Term.{Term}
 use Rattle.vh_design_code.specs.declared.wait.Term.TheVariants as term
-use Rattle.vh_eval.specs.Selects.{place_of, lowest_index}
+use Rattle.vh_eval.specs.Selects.{position_of, lowest_index}
 use Rattle.vh_bind_scope.specs.declared.names.Meaning.{Meaning}
 use Rattle.vh_bind_scope.specs.LookUp.{object_meant}
 use Rattle.vh_ast.specs.declared.timing.Edge.{Edge as Word}
@@ -57,16 +57,16 @@ select_term o width e count (negsuc below) = below_term o e (min (count - suc be
 -- By an index: one that isn't known names no digit.
 abbrev pub index_term : ℕ → ℕ → Edge → Range → Option ℤ → List Term
 index_term o width e r None = []
-index_term o width e r (Some i) = select_term o width e 1 (place_of r i)
+index_term o width e r (Some i) = select_term o width e 1 (position_of r i)
 
 abbrev pub indexed_term : ℕ → ℕ → Edge → Range → Bool → ℕ → Option ℤ → List Term
 indexed_term o width e r upward count None = []
-indexed_term o width e r upward count (Some i) = select_term o width e count (place_of r (lowest_index r upward i count))
+indexed_term o width e r upward count (Some i) = select_term o width e count (position_of r (lowest_index r upward i count))
 
 abbrev pub slice_term : ℕ → ℕ → Edge → Select → List Term
 slice_term o width e select.Whole = []
 slice_term o width e (select.Bit r index) = []
-slice_term o width e (select.Slice r lowest count) = select_term o width e count (place_of r (pos lowest))
+slice_term o width e (select.Slice r lowest count) = select_term o width e count (position_of r (pos lowest))
 slice_term o width e (select.Indexed upward r base count) = []
 
 -- A select that isn't constant can't be waited for.

@@ -3,8 +3,8 @@
 use Rattle.std.specs.Prelude.{ℕ, ◌+◌, ◌*◌, ◌-◌, ◌==◌, List, [], ◌∷◌, ◌++◌, Bool, true, false, ◌||◌, ◌&&◌, nat_le, bytes_eq, codes, if◌then◌else◌, Option, Some, None, unwrap_or}
 use Rattle.std.specs.Option.{option_map, option_and_then}
 use Rattle.vh_base.specs.declared.place.Place.{Place}
-use Rattle.vh_bind_stmt.specs.declared.shows.Places.{Places}
-use Rattle.vh_bind_stmt.specs.declared.shows.Places.TheVariants as places
+use Rattle.vh_bind_stmt.specs.declared.shows.Columns.{Columns}
+use Rattle.vh_bind_stmt.specs.declared.shows.Columns.TheVariants as columns
 use Rattle.vh_bind_stmt.specs.declared.shows.Scanned.{Scanned}
 use Rattle.vh_design_code.specs.declared.show.ShowArg.{ShowArg}
 use Rattle.vh_design_code.specs.declared.show.ShowArg.TheVariants as arg
@@ -37,58 +37,58 @@ wants_argument b =
 abbrev pub is_digit : ℕ → Bool
 is_digit b = nat_le 48 b && nat_le b 57
 
--- A digit behind `%`: of places there are from 1 to 999, written without a 0 before them. (own)
-abbrev pub with_digit : Places → ℕ → Option Places
-with_digit places.Outside b = Some places.Outside
-with_digit places.Bare b = Some (if b == 48 then places.Least else places.SoMany (b - 48))
-with_digit places.Least b = None
-with_digit (places.SoMany n) b =
-    if nat_le (10 * n + (b - 48)) 999 then Some (places.SoMany (10 * n + (b - 48))) else None
+-- A digit behind `%`: of columns there are from 1 to 999, written without a 0 before them. (own)
+abbrev pub with_digit : Columns → ℕ → Option Columns
+with_digit columns.Outside b = Some columns.Outside
+with_digit columns.Bare b = Some (if b == 48 then columns.Least else columns.SoMany (b - 48))
+with_digit columns.Least b = None
+with_digit (columns.SoMany n) b =
+    if nat_le (10 * n + (b - 48)) 999 then Some (columns.SoMany (10 * n + (b - 48))) else None
 
 -- Does the conversion with this letter show an argument? None where it is wrong: `%%` has no digits. (17.1.1)
-abbrev pub percent : Places → Option Bool
-percent places.Outside = None
-percent places.Bare = Some false
-percent places.Least = None
-percent (places.SoMany n) = None
+abbrev pub percent : Columns → Option Bool
+percent columns.Outside = None
+percent columns.Bare = Some false
+percent columns.Least = None
+percent (columns.SoMany n) = None
 
-abbrev pub at_letter : Places → ℕ → Option Bool
+abbrev pub at_letter : Columns → ℕ → Option Bool
 at_letter p b =
     if wants_argument b then Some true
     else (if is_letter 109 b then Some false else (if b == 37 then percent p else None))
 
 -- A byte of a format: what stands behind a `%` then, and whether it shows an argument.
-abbrev pub scanned : Bool → Places → Scanned
-scanned shows p = record { places = p; shows = shows }
+abbrev pub scanned : Bool → Columns → Scanned
+scanned shows p = record { columns = p; shows = shows }
 
-abbrev pub in_conversion : Places → ℕ → Option Scanned
+abbrev pub in_conversion : Columns → ℕ → Option Scanned
 in_conversion p b =
     if is_digit b then option_map (scanned false) (with_digit p b)
-    else option_map (λ shows. scanned shows places.Outside) (at_letter p b)
+    else option_map (λ shows. scanned shows columns.Outside) (at_letter p b)
 
-abbrev pub scan_byte : Places → ℕ → Option Scanned
-scan_byte places.Outside b = Some (scanned false (if b == 37 then places.Bare else places.Outside))
-scan_byte places.Bare b = in_conversion places.Bare b
-scan_byte places.Least b = in_conversion places.Least b
-scan_byte (places.SoMany n) b = in_conversion (places.SoMany n) b
+abbrev pub scan_byte : Columns → ℕ → Option Scanned
+scan_byte columns.Outside b = Some (scanned false (if b == 37 then columns.Bare else columns.Outside))
+scan_byte columns.Bare b = in_conversion columns.Bare b
+scan_byte columns.Least b = in_conversion columns.Least b
+scan_byte (columns.SoMany n) b = in_conversion (columns.SoMany n) b
 
 -- How many arguments a format shows, with those so far; none where it is wrong. (17.1.1)
-abbrev pub ended : Places → ℕ → Option ℕ
-ended places.Outside count = Some count
-ended places.Bare count = None
-ended places.Least count = None
-ended (places.SoMany n) count = None
+abbrev pub ended : Columns → ℕ → Option ℕ
+ended columns.Outside count = Some count
+ended columns.Bare count = None
+ended columns.Least count = None
+ended (columns.SoMany n) count = None
 
 abbrev pub one_more : Bool → ℕ → ℕ
 one_more true count = count + 1
 one_more false count = count
 
-abbrev pub shows_from : Places → ℕ → List ℕ → Option ℕ
+abbrev pub shows_from : Columns → ℕ → List ℕ → Option ℕ
 shows_from p count [] = ended p count
-shows_from p count (b ∷ bs) = option_and_then (λ s. shows_from s.places (one_more s.shows count) bs) (scan_byte p b)
+shows_from p count (b ∷ bs) = option_and_then (λ s. shows_from s.columns (one_more s.shows count) bs) (scan_byte p b)
 
 abbrev pub shows_of : List ℕ → Option ℕ
-shows_of format = shows_from places.Outside 0 format
+shows_of format = shows_from columns.Outside 0 format
 
 -- A string, where the argument is one.
 abbrev pub text_of : ExprTree → Option (List ℕ)

@@ -101,7 +101,7 @@ fn selected_in(kind: &ExprKind) -> Option<Selected>
         | ExprKind::Choice { .. }
         | ExprKind::Join { .. }
         | ExprKind::Repeat { .. }
-        | ExprKind::Marked { .. }
+        | ExprKind::WithSign { .. }
         | ExprKind::Time { .. }
         | ExprKind::Call { .. }
         | ExprKind::SysCall(_) => None,
@@ -307,7 +307,7 @@ fn add_calls_in(
         | ExprKind::Choice { .. }
         | ExprKind::Join { .. }
         | ExprKind::Repeat { .. }
-        | ExprKind::Marked { .. }
+        | ExprKind::WithSign { .. }
         | ExprKind::Time { .. } => Ok(()),
         ExprKind::Call {
             function,

@@ -1,7 +1,7 @@
 ghost use Rattle.std.specs.Prelude.{◌≡◌, ◌≤◌, ◌∷◌, ◌++◌, ◌^◌, ◌<ℤ◌, neg_ℤ, pos, true, false, [], Some, map, is_some, IfOk, IfSome, OnOk};
 ghost use Rattle.vh_base.specs.declared.faults.DesignFault.TheVariants.{N6};
 ghost use Rattle.vh_logic.specs.Number.{integer_of};
-ghost use Rattle.vh_eval.specs.Selects.{place_of, lowest_index};
+ghost use Rattle.vh_eval.specs.Selects.{position_of, lowest_index};
 ghost use Rattle.vh_ast.specs.Views.{ev_tree, expr_tree, name_tree, part_by, sel_tree};
 ghost use Rattle.vh_bind.specs.Steps.{Gives};
 ghost use Rattle.vh_bind.specs.Views.{scope_seen};
@@ -17,7 +17,7 @@ use vh_bind_expr::name_read;
 use vh_bind_scope::Meaning;
 use vh_design_code::{Edge, Term, Terms};
 use vh_design_nodes::{Range, Select, is_event_at};
-use vh_eval::{integer, lowest_index, place_of};
+use vh_eval::{integer, lowest_index, position_of};
 use vh_logic::{MAX_WIDTH, Vec4};
 
 // Which change counts.
@@ -105,7 +105,7 @@ fn index_term(alloc: Global, of: Watched, range: Range, index: &Vec4) -> Result<
 {
     match integer(index) {
         None => Ok(none(alloc)),
-        Some(index) => select_term(alloc, of, 1, place_of(range, index)),
+        Some(index) => select_term(alloc, of, 1, position_of(range, index)),
     }
 }
 
@@ -126,7 +126,7 @@ fn indexed_term(
         None => Ok(none(alloc)),
         Some(base) => {
             let lowest = lowest_index(range, up, base, count);
-            select_term(alloc, of, count, place_of(range, lowest))
+            select_term(alloc, of, count, position_of(range, lowest))
         }
     }
 }
@@ -141,7 +141,7 @@ fn slice_term(alloc: Global, of: Watched, select: Select) -> Result<Terms, NoMem
             range,
             lowest,
             width,
-        } => select_term(alloc, of, width, place_of(range, i128::from(lowest))),
+        } => select_term(alloc, of, width, position_of(range, i128::from(lowest))),
     }
 }
 

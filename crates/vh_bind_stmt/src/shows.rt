@@ -33,9 +33,9 @@ pub fn show_task(name: &[u8]) -> Option<ShowTask>
     }
 }
 
-/// What stands behind a `%` so far: nothing, `0`, or a number of places.
+/// What stands behind a `%` so far: nothing, `0`, or a number of columns.
 #[derive(Clone, Copy)]
-pub enum Places {
+pub enum Columns {
     Outside,
     Bare,
     Least,
@@ -62,24 +62,24 @@ fn wants_argument(b: u8) -> bool
         || is_letter(116, b)
 }
 
-// A digit behind `%`: of places there are from 1 to 999, written without a 0 before them.
-fn with_digit(places: Places, b: u8) -> Option<Places>
+// A digit behind `%`: of columns there are from 1 to 999, written without a 0 before them.
+fn with_digit(columns: Columns, b: u8) -> Option<Columns>
     requires { 48 ≤ b }
-    ensures { result ≡ with_digit places b }
+    ensures { result ≡ with_digit columns b }
 {
     let digit = u32::from(b) - 48;
-    match places {
-        Places::Outside => Some(Places::Outside),
-        Places::Bare => Some(if digit == 0 {
-            Places::Least
+    match columns {
+        Columns::Outside => Some(Columns::Outside),
+        Columns::Bare => Some(if digit == 0 {
+            Columns::Least
         } else {
-            Places::SoMany(digit)
+            Columns::SoMany(digit)
         }),
-        Places::Least => None,
-        Places::SoMany(n) => {
+        Columns::Least => None,
+        Columns::SoMany(n) => {
             let sum = 10 * u64::from(n) + u64::from(digit);
             if sum <= 999 {
-                Some(Places::SoMany(sum as u32))
+                Some(Columns::SoMany(sum as u32))
             } else {
                 None
             }
@@ -88,8 +88,8 @@ fn with_digit(places: Places, b: u8) -> Option<Places>
 }
 
 // Whether the conversion with this letter shows an argument; none where it is wrong.
-fn at_letter(places: Places, b: u8) -> Option<bool>
-    ensures { result ≡ at_letter places b }
+fn at_letter(columns: Columns, b: u8) -> Option<bool>
+    ensures { result ≡ at_letter columns b }
 {
     if wants_argument(b) {
         return Some(true);
@@ -100,61 +100,61 @@ fn at_letter(places: Places, b: u8) -> Option<bool>
     if b != 37 {
         return None;
     }
-    match places {
-        Places::Bare => Some(false),
-        Places::Outside | Places::Least | Places::SoMany(_) => None,
+    match columns {
+        Columns::Bare => Some(false),
+        Columns::Outside | Columns::Least | Columns::SoMany(_) => None,
     }
 }
 
 /// What a byte of a format comes to: what stands behind a `%` then, and whether it shows an argument.
 #[derive(Clone, Copy)]
 pub struct Scanned {
-    pub places: Places,
+    pub columns: Columns,
     pub shows: bool,
 }
 
 // A byte of a conversion.
-fn in_conversion(places: Places, b: u8) -> Option<Scanned>
-    ensures { result ≡ in_conversion places b }
+fn in_conversion(columns: Columns, b: u8) -> Option<Scanned>
+    ensures { result ≡ in_conversion columns b }
 {
     if 48 <= b && b <= 57 {
-        let places = with_digit(places, b)?;
+        let columns = with_digit(columns, b)?;
         return Some(Scanned {
-            places,
+            columns,
             shows: false,
         });
     }
-    let shows = at_letter(places, b)?;
+    let shows = at_letter(columns, b)?;
     Some(Scanned {
-        places: Places::Outside,
+        columns: Columns::Outside,
         shows,
     })
 }
 
 // A byte of a format.
-fn scan_byte(places: Places, b: u8) -> Option<Scanned>
-    ensures { result ≡ scan_byte places b }
+fn scan_byte(columns: Columns, b: u8) -> Option<Scanned>
+    ensures { result ≡ scan_byte columns b }
 {
-    match places {
-        Places::Outside => Some(Scanned {
-            places: if b == 37 {
-                Places::Bare
+    match columns {
+        Columns::Outside => Some(Scanned {
+            columns: if b == 37 {
+                Columns::Bare
             } else {
-                Places::Outside
+                Columns::Outside
             },
             shows: false,
         }),
-        Places::Bare | Places::Least | Places::SoMany(_) => in_conversion(places, b),
+        Columns::Bare | Columns::Least | Columns::SoMany(_) => in_conversion(columns, b),
     }
 }
 
 // How many arguments a format shows, where it is right up to its end.
-fn ended(places: Places, count: usize) -> Option<usize>
-    ensures { result ≡ ended places count }
+fn ended(columns: Columns, count: usize) -> Option<usize>
+    ensures { result ≡ ended columns count }
 {
-    match places {
-        Places::Outside => Some(count),
-        Places::Bare | Places::Least | Places::SoMany(_) => None,
+    match columns {
+        Columns::Outside => Some(count),
+        Columns::Bare | Columns::Least | Columns::SoMany(_) => None,
     }
 }
 
@@ -162,16 +162,16 @@ fn ended(places: Places, count: usize) -> Option<usize>
 fn shows_of(format: &[u8]) -> Option<usize>
     ensures { result ≡ shows_of format.now }
 {
-    let mut places = Places::Outside;
+    let mut columns = Columns::Outside;
     let mut count: usize = 0;
     for b in format {
-        let scanned = scan_byte(places, *b)?;
-        places = scanned.places;
+        let scanned = scan_byte(columns, *b)?;
+        columns = scanned.columns;
         if scanned.shows {
             count += 1;
         }
     }
-    ended(places, count)
+    ended(columns, count)
 }
 
 // A string, where the argument is one.

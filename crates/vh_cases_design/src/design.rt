@@ -550,7 +550,7 @@ fn repeat(count: u32, part: u32) -> ExprKind {
 }
 
 fn marked(part: u32, signed: bool) -> ExprKind {
-    ExprKind::Marked {
+    ExprKind::WithSign {
         part: ExprId::new(part),
         signed,
     }

@@ -71,7 +71,7 @@ fn push_kind(line: &mut String, kind: &Kind) -> Result<(), Fail> {
             )?;
         }
         Kind::Word(keyword) => write!(line, "{keyword:?}")?,
-        Kind::Mark(mark) => write!(line, "{mark:?}")?,
+        Kind::Symbol(symbol) => write!(line, "{symbol:?}")?,
         Kind::Name(name) => push_bytes(line, name.as_slice())?,
         Kind::SysName(name) => push_bytes(line, name.as_slice())?,
         Kind::Text(text) => push_text(line, text.as_slice())?,

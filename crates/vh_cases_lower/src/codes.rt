@@ -1,4 +1,4 @@
-//! The codes of trees, by hand: a letter and its places for each label.
+//! The codes of trees, by hand: a letter and its places for each instruction.
 
 use crate::texts::{show_operation, show_place};
 use sqlite_items::{Boxed, Items};
@@ -6,17 +6,17 @@ use std::alloc::Global;
 use std::test::Fail;
 use vh_base::{ExprId, NoMemory, ObjId, Sequence};
 use vh_design_code::{CaseKind, Code, Instruction, Operation, Single};
-use vh_lower_flow::{CaseHead, CaseItem, CodeKind, Flow, FlowForm, Gate, Mark, Step, code_of};
+use vh_lower_flow::{CaseHead, CaseItem, CodeKind, Flow, FlowForm, Gate, Origin, Step, code_of};
 
-const PLAIN: Mark = Mark {
+const PLAIN: Origin = Origin {
     stmt: None,
     first: false,
 };
 
-fn label(number: u32) -> Result<Flow, NoMemory> {
+fn instruction(number: u32) -> Result<Flow, NoMemory> {
     Flow::new(FlowForm::Step(Step {
         operation: Operation::Single(Single::Trigger(ObjId::new(number))),
-        mark: PLAIN,
+        origin: PLAIN,
     }))
 }
 
@@ -38,7 +38,7 @@ fn pair(alloc: Global, a: Flow, b: Flow) -> Result<Flow, NoMemory> {
 fn choice(alloc: Global, gate: Gate, holds: Flow, fails: Flow) -> Result<Flow, NoMemory> {
     Flow::new(FlowForm::Choice {
         gate,
-        mark: PLAIN,
+        origin: PLAIN,
         holds: Boxed::new(alloc, holds)?,
         fails: Boxed::new(alloc, fails)?,
     })
@@ -48,7 +48,7 @@ fn turns(alloc: Global, body: Flow, gate: Gate) -> Result<Flow, NoMemory> {
     Flow::new(FlowForm::Turns {
         body: Boxed::new(alloc, body)?,
         gate,
-        mark: PLAIN,
+        origin: PLAIN,
     })
 }
 
@@ -114,27 +114,27 @@ fn nothing(rt: HostRuntime) -> Result<(), Fail> {
 }
 
 #[test]
-fn one_label(rt: HostRuntime) -> Result<(), Fail> {
+fn one_instruction(rt: HostRuntime) -> Result<(), Fail> {
     let alloc = rt.alloc();
-    let text = code(alloc, CodeKind::Initial, label(1)?)?;
+    let text = code(alloc, CodeKind::Initial, instruction(1)?)?;
     assert_eq!(rt; text.as_str(), "0 s>1 e>b");
-    let text = code(alloc, CodeKind::Always, label(1)?)?;
+    let text = code(alloc, CodeKind::Always, instruction(1)?)?;
     assert_eq!(rt; text.as_str(), "0 u>1 s>0");
-    let text = code(alloc, CodeKind::Body, label(1)?)?;
+    let text = code(alloc, CodeKind::Body, instruction(1)?)?;
     assert_eq!(rt; text.as_str(), "0 s>b");
     Ok(())
 }
 
 #[test]
-fn rows_go_on_at_the_next_label(rt: HostRuntime) -> Result<(), Fail> {
+fn rows_go_on_at_the_next_instruction(rt: HostRuntime) -> Result<(), Fail> {
     let alloc = rt.alloc();
-    let two = pair(alloc, label(1)?, label(2)?)?;
+    let two = pair(alloc, instruction(1)?, instruction(2)?)?;
     let text = code(alloc, CodeKind::Body, two)?;
     assert_eq!(rt; text.as_str(), "0 s>1 s>b");
-    let last = pair(alloc, label(1)?, none(alloc)?)?;
+    let last = pair(alloc, instruction(1)?, none(alloc)?)?;
     let text = code(alloc, CodeKind::Body, last)?;
     assert_eq!(rt; text.as_str(), "0 s>b");
-    let first = pair(alloc, none(alloc)?, label(1)?)?;
+    let first = pair(alloc, none(alloc)?, instruction(1)?)?;
     let text = code(alloc, CodeKind::Initial, first)?;
     assert_eq!(rt; text.as_str(), "0 s>1 e>b");
     Ok(())
@@ -143,10 +143,10 @@ fn rows_go_on_at_the_next_label(rt: HostRuntime) -> Result<(), Fail> {
 #[test]
 fn values_and_assignments(rt: HostRuntime) -> Result<(), Fail> {
     let alloc = rt.alloc();
-    let two = pair(alloc, label(1)?, label(2)?)?;
+    let two = pair(alloc, instruction(1)?, instruction(2)?)?;
     let text = code(alloc, CodeKind::Value, two)?;
     assert_eq!(rt; text.as_str(), "0 s>1 s>b");
-    let two = pair(alloc, label(1)?, label(2)?)?;
+    let two = pair(alloc, instruction(1)?, instruction(2)?)?;
     let text = code(alloc, CodeKind::Assign, two)?;
     assert_eq!(rt; text.as_str(), "0 s>1 s>0");
     Ok(())
@@ -155,13 +155,13 @@ fn values_and_assignments(rt: HostRuntime) -> Result<(), Fail> {
 #[test]
 fn an_if(rt: HostRuntime) -> Result<(), Fail> {
     let alloc = rt.alloc();
-    let both = choice(alloc, test(7), label(1)?, label(2)?)?;
+    let both = choice(alloc, test(7), instruction(1)?, instruction(2)?)?;
     let text = code(alloc, CodeKind::Initial, both)?;
     assert_eq!(rt; text.as_str(), "0 t/2>1 s>3 s>3 e>b");
-    let no_else = choice(alloc, test(7), label(1)?, none(alloc)?)?;
+    let no_else = choice(alloc, test(7), instruction(1)?, none(alloc)?)?;
     let text = code(alloc, CodeKind::Initial, no_else)?;
     assert_eq!(rt; text.as_str(), "0 t/2>1 s>2 e>b");
-    let no_then = choice(alloc, test(7), none(alloc)?, label(1)?)?;
+    let no_then = choice(alloc, test(7), none(alloc)?, instruction(1)?)?;
     let text = code(alloc, CodeKind::Initial, no_then)?;
     assert_eq!(rt; text.as_str(), "0 t/1>2 s>2 e>b");
     Ok(())
@@ -170,7 +170,7 @@ fn an_if(rt: HostRuntime) -> Result<(), Fail> {
 #[test]
 fn loops(rt: HostRuntime) -> Result<(), Fail> {
     let alloc = rt.alloc();
-    let again = turns(alloc, label(1)?, test(7))?;
+    let again = turns(alloc, instruction(1)?, test(7))?;
     let while_ = choice(alloc, test(7), again, none(alloc)?)?;
     let text = code(alloc, CodeKind::Initial, while_)?;
     assert_eq!(rt; text.as_str(), "0 t/3>1 s>2 t/3>1 e>b");
@@ -178,7 +178,7 @@ fn loops(rt: HostRuntime) -> Result<(), Fail> {
     let repeat = choice(alloc, Gate::Repeat(ExprId::new(7)), again, none(alloc)?)?;
     let text = code(alloc, CodeKind::Initial, repeat)?;
     assert_eq!(rt; text.as_str(), "0 r/2>1 a/2>1 e>b");
-    let again = turns(alloc, label(1)?, Gate::Turn)?;
+    let again = turns(alloc, instruction(1)?, Gate::Turn)?;
     let forever = choice(alloc, Gate::Turn, again, none(alloc)?)?;
     let text = code(alloc, CodeKind::Body, forever)?;
     assert_eq!(rt; text.as_str(), "0 u>1 s>2 u>1");
@@ -188,8 +188,8 @@ fn loops(rt: HostRuntime) -> Result<(), Fail> {
 #[test]
 fn blocks(rt: HostRuntime) -> Result<(), Fail> {
     let alloc = rt.alloc();
-    let inner = block(alloc, 5, label(1)?)?;
-    let outer = block(alloc, 4, pair(alloc, inner, label(2)?)?)?;
+    let inner = block(alloc, 5, instruction(1)?)?;
+    let outer = block(alloc, 4, pair(alloc, inner, instruction(2)?)?)?;
     let text = code(alloc, CodeKind::Initial, outer)?;
     assert_eq!(rt; text.as_str(), "0 s>1@1 s>2@0 e>b [>2] [0>1]");
     Ok(())
@@ -199,11 +199,11 @@ fn blocks(rt: HostRuntime) -> Result<(), Fail> {
 fn forks(rt: HostRuntime) -> Result<(), Fail> {
     let alloc = rt.alloc();
     let mut branches = Items::new(alloc);
-    branches.push(label(1)?)?;
+    branches.push(instruction(1)?)?;
     branches.push(none(alloc)?)?;
-    branches.push(block(alloc, 5, label(2)?)?)?;
+    branches.push(block(alloc, 5, instruction(2)?)?)?;
     let fork = Flow::new(FlowForm::Fork {
-        mark: PLAIN,
+        origin: PLAIN,
         branches,
     })?;
     let text = code(alloc, CodeKind::Initial, block(alloc, 4, fork)?)?;
@@ -214,9 +214,9 @@ fn forks(rt: HostRuntime) -> Result<(), Fail> {
     Ok(())
 }
 
-fn item(alloc: Global, labels: &[ExprId], body: Flow) -> Result<CaseItem<Flow>, NoMemory> {
+fn item(alloc: Global, instructions: &[ExprId], body: Flow) -> Result<CaseItem<Flow>, NoMemory> {
     Ok(CaseItem {
-        labels: Sequence::from_slice(alloc, labels)?,
+        instructions: Sequence::from_slice(alloc, instructions)?,
         body,
     })
 }
@@ -225,9 +225,9 @@ fn item(alloc: Global, labels: &[ExprId], body: Flow) -> Result<CaseItem<Flow>, 
 fn a_case(rt: HostRuntime) -> Result<(), Fail> {
     let alloc = rt.alloc();
     let mut items = Items::new(alloc);
-    items.push(item(alloc, &[ExprId::new(1), ExprId::new(2)], label(1)?)?)?;
+    items.push(item(alloc, &[ExprId::new(1), ExprId::new(2)], instruction(1)?)?)?;
     items.push(item(alloc, &[ExprId::new(3)], none(alloc)?)?)?;
-    items.push(item(alloc, &[ExprId::new(4)], label(2)?)?)?;
+    items.push(item(alloc, &[ExprId::new(4)], instruction(2)?)?)?;
     let case = Flow::new(FlowForm::Case {
         head: CaseHead {
             kind: CaseKind::Plain,
@@ -235,9 +235,9 @@ fn a_case(rt: HostRuntime) -> Result<(), Fail> {
             width: 1,
             signed: false,
         },
-        mark: PLAIN,
+        origin: PLAIN,
         items,
-        default: Boxed::new(alloc, label(3)?)?,
+        default: Boxed::new(alloc, instruction(3)?)?,
     })?;
     let text = code(alloc, CodeKind::Initial, case)?;
     assert_eq!(rt; text.as_str(), "0 c/1/1/4/2>3 s>4 s>4 s>4 e>b");

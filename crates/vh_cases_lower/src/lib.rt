@@ -1,4 +1,4 @@
-//! Statements of a module, with their labels or their faults and places, worked out by hand.
+//! Statements of a module, with their instructions or their faults and places, worked out by hand.
 #![tactic(auto)]
 
 #[cfg(test)]

@@ -1,4 +1,4 @@
-//! Statements of a module: each label with a letter and where it goes on, `!` before the first label of
+//! Statements of a module: each instruction with a letter and where it goes on, `!` before the first instruction of
 //! an execution, and its statement's number; or the fault and its column.
 
 ghost use Rattle.std.specs.Prelude.{◌≡◌, true, IfOk};

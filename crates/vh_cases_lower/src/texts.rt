@@ -1,9 +1,9 @@
-//! Labels as text.
+//! Instructions as text.
 
 use vh_base::NoMemory;
 use vh_design_code::{Arm, Goes, Loop, Operation};
 
-// Where a label goes on.
+// Where an instruction goes on.
 pub(crate) fn show_place(text: &mut String, goes: Goes) -> Result<(), NoMemory> {
     match goes {
         Goes::Back => text.push_str("b")?,
@@ -21,7 +21,7 @@ fn show_case(text: &mut String, arms: &[Arm]) -> Result<(), NoMemory> {
     Ok(())
 }
 
-// A letter for what a label does, with its places: that which is given where it has none.
+// A letter for what an instruction does, with its places: that which is given where it has none.
 pub(crate) fn show_operation(
     text: &mut String,
     operation: &Operation,

@@ -51,11 +51,11 @@ fn push_name<'e>(pieces: &mut Pieces<'e>, name: &'e Name<Expr>) -> Result<(), Fa
 fn push_pair<'e>(
     pieces: &mut Pieces<'e>,
     left: &'e Expr,
-    sign: &'static str,
+    lexeme: &'static str,
     right: &'e Expr,
 ) -> Result<(), Fail> {
     pieces.push(Piece::Expr(right))?;
-    pieces.push(Piece::Mark(sign))?;
+    pieces.push(Piece::Mark(lexeme))?;
     pieces.push(Piece::Expr(left))?;
     Ok(())
 }

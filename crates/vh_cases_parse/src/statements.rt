@@ -7,7 +7,7 @@ use std::process::Abort;
 use std::test::Fail;
 use vh_ast::{
     AssignWord, BlockWord, CaseWord, DataType, Decl, Delay, DelayValue, Edge, Ev, Event, Expr,
-    ExprForm, ForceWord, Id, Init, Labels, LoopWord, Lv, LvPart, Name, Primary, Range, ReleaseWord,
+    ExprForm, ForceWord, Id, Init, Matched, LoopWord, Lv, LvPart, Name, Primary, Range, ReleaseWord,
     Sel, Set, Simple, Step, Stmt, StmtForm, Var, VarPart, held,
 };
 use vh_base::Place;
@@ -219,7 +219,7 @@ pub(crate) fn push_decl(line: &mut String, decl: &Decl) -> Result<(), Fail> {
     Ok(line.push('>')?)
 }
 
-fn assign_sign(word: AssignWord) -> &'static str {
+fn assign_lexeme(word: AssignWord) -> &'static str {
     match word {
         AssignWord::Blocking => " = ",
         AssignWord::Nonblocking => " <= ",
@@ -229,12 +229,12 @@ fn assign_sign(word: AssignWord) -> &'static str {
 fn push_assign(
     line: &mut String,
     target: &Lv,
-    sign: &str,
+    lexeme: &str,
     delay: &Option<Boxed<Delay>>,
     value: &Expr,
 ) -> Result<(), Fail> {
     push_lv(line, target)?;
-    line.push_str(sign)?;
+    line.push_str(lexeme)?;
     if let Some(delay) = delay {
         push_delay(line, delay.get())?;
         line.push(' ')?;
@@ -303,7 +303,7 @@ fn push_simple(line: &mut String, simple: &Simple) -> Result<(), Fail> {
             word,
             delay,
             value,
-        } => push_assign(line, target, assign_sign(*word), delay, value.get()),
+        } => push_assign(line, target, assign_lexeme(*word), delay, value.get()),
         Simple::Trigger(name) => {
             line.push_str("-> ")?;
             push_name(line, name)
@@ -328,7 +328,7 @@ fn push_simple(line: &mut String, simple: &Simple) -> Result<(), Fail> {
 #[derive(Clone, Copy)]
 enum Piece<'e> {
     Mark(&'static str),
-    Labels(&'e Labels),
+    Matched(&'e Matched),
     Stmt(&'e Stmt),
 }
 
@@ -356,10 +356,10 @@ fn block_text(word: BlockWord) -> &'static str {
     }
 }
 
-fn push_labels(line: &mut String, labels: &Labels) -> Result<(), Fail> {
-    match labels {
-        Labels::Default => line.push_str(" default")?,
-        Labels::Values(all) => push_exprs(line, all.as_slice())?,
+fn push_labels(line: &mut String, matched: &Matched) -> Result<(), Fail> {
+    match matched {
+        Matched::Default => line.push_str(" default")?,
+        Matched::Values(all) => push_exprs(line, all.as_slice())?,
     }
     Ok(line.push(':')?)
 }
@@ -455,7 +455,7 @@ fn push_case<'e>(
         push_expr(line, value.get())?;
         for citem in citems.as_slice().iter().rev() {
             pieces.push(Piece::Stmt(&citem.body))?;
-            pieces.push(Piece::Labels(&citem.labels))?;
+            pieces.push(Piece::Matched(&citem.matched))?;
         }
     }
     Ok(())
@@ -513,7 +513,7 @@ pub(crate) fn push_tree(alloc: Global, line: &mut String, stmt: &Stmt) -> Result
     for _ in 0..u32::MAX {
         match pieces.pop() {
             Some(Piece::Mark(mark)) => line.push_str(mark)?,
-            Some(Piece::Labels(labels)) => push_labels(line, labels)?,
+            Some(Piece::Matched(matched)) => push_labels(line, matched)?,
             Some(Piece::Stmt(stmt)) => push_stmt(line, &mut pieces, stmt)?,
             None => return Ok(()),
         }

@@ -9,7 +9,7 @@ use sqlite_items::{Boxed, Items};
 use std::alloc::Global;
 use std::test::Fail;
 use vh_ast::{
-    Assigned, Binary, CaseWord, Citem, Expr, ExprForm, Gblock, Id, Item, ItemForm, Labels, Link,
+    Assigned, Binary, CaseWord, Citem, Expr, ExprForm, Gblock, Id, Item, ItemForm, Matched, Link,
     Lv, LvPart, Name, Number, Primary, Simple, Step, Stmt, StmtForm, Unary,
 };
 use vh_base::{NoMemory, Place};
@@ -204,7 +204,7 @@ fn two_hundred_parentheses(rt: HostRuntime) -> Result<(), Fail> {
 }
 
 #[test]
-fn a_sign_and_its_operand(rt: HostRuntime) -> Result<(), Fail> {
+fn a_lexeme_and_its_operand(rt: HostRuntime) -> Result<(), Fail> {
     let alloc = rt.alloc();
     let minus = Expr::unary(alloc, at(1), Unary::Minus, named(alloc, 2, b"a")?)?;
     assert_eq!(rt; minus.place, at(1));
@@ -240,7 +240,7 @@ fn otherwise(alloc: Global, column: u32) -> Result<Items<Citem<Stmt>>, NoMemory>
     let mut citems = Items::new(alloc);
     citems.push(Citem {
         place: at(column),
-        labels: Labels::Default,
+        matched: Matched::Default,
         body: empty(column),
     })?;
     Ok(citems)

@@ -296,7 +296,7 @@ impl Builder {
 
     fn marked(&mut self, signed: bool) -> ExprKind {
         let part = self.pop();
-        ExprKind::Marked { part, signed }
+        ExprKind::WithSign { part, signed }
     }
 
     fn whole_word(&mut self) -> ExprKind {

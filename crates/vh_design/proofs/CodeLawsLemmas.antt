@@ -39,9 +39,9 @@ use Rattle.vh_design_code.specs.declared.target.Output.{Output}
 use Rattle.vh_design_code.specs.declared.wait.Term.{Term}
 use Rattle.vh_design_code.specs.declared.wait.Term.TheVariants as term
 use Rattle.vh_design_code.specs.Codes.{fits_instruction, fits_blocks, fits_term, fits_arg}
-use Rattle.vh_design_code.specs.Operations.{fits_goes, fits_delayed, fits_pause, labels, fits_arm, fits_case, fits_loop, fits_result, fits_leave, fits_single, fits_operation}
+use Rattle.vh_design_code.specs.Operations.{fits_goes, fits_delayed, fits_pause, matched, fits_arm, fits_case, fits_loop, fits_result, fits_leave, fits_single, fits_operation}
 use Rattle.vh_design_code.specs.Targets.{targets_width, fits_target, fits_targets, fits_drivers, fits_delay, fits_input, fits_output}
-use Rattle.vh_design.specs.CodeLaws.{loop_goes, goes_of, IsPlace, change_of, single_changes, result_reads, changes_of, delay_units, pause_units, units_of, delay_exprs, pause_exprs, loop_exprs, single_exprs, result_exprs, exprs_of, term_read, IsUnit, CodesMayStand, BodiesMayStand, PlacesAreThere, ExpressionsAreThere, ChangesFit, DelaysFit, CasesAreMeasured, WaitsFit, ShowsFit, StatementsFit}
+use Rattle.vh_design.specs.CodeLaws.{loop_goes, goes_of, IsPosition, change_of, single_changes, result_reads, changes_of, delay_units, pause_units, units_of, delay_exprs, pause_exprs, loop_exprs, single_exprs, result_exprs, exprs_of, term_read, IsUnit, CodesMayStand, BodiesMayStand, PositionsAreThere, ExpressionsAreThere, ChangesFit, DelaysFit, CasesAreMeasured, WaitsFit, ShowsFit, StatementsFit}
 use Rattle.vh_design.specs.Laws.{selected_exprs, read}
 use Rattle.vh_design.specs.Shape.{Shape}
 use Rattle.vh_design.specs.Validity.{CodeFits, limits_of}
@@ -68,7 +68,7 @@ all_flat q p f step (x ∷ xs) h =
     all_joined p (f x) (flat_map f xs) (step x (and_left (q x) (list_all q xs) h))
     (all_flat q p f step xs (and_right (q x) (list_all q xs) h))
 
--- What all of a list pass, the one at a place passes.
+-- What all of a list pass, the one at a position passes.
 passes_at : {A : Type 0} (p : A → Bool) (xs : List A) (k : ℕ) (x : A)
     → list_all p xs ≡ true → slice_get xs k ≡ Some x → p x ≡ true
 passes_at p [] k x h at = absurd (cc)
@@ -112,18 +112,18 @@ module _ (d : Shape) (c : Code) (k : ℕ) (i : Instruction) (fits : CodeFits d c
   next_fits = and_right operation_test next_test both_fit
 
 -- The parts of a `case` that passes.
-module _ (ns : List ExprNode) (places : ℕ) (c : CaseTest) (h : fits_case ns places c ≡ true) where
+module _ (ns : List ExprNode) (positions : ℕ) (c : CaseTest) (h : fits_case ns positions c ≡ true) where
   abbrev subject_test : Bool
   subject_test = nat_lt c.subject (length ns)
 
   abbrev arms_test : Bool
-  arms_test = list_all (fits_arm (length ns) places) c.arms
+  arms_test = list_all (fits_arm (length ns) positions) c.arms
 
   abbrev width_test : Bool
-  width_test = nat_eq c.width (widest ns (width_of ns c.subject) (labels c.arms))
+  width_test = nat_eq c.width (widest ns (width_of ns c.subject) (matched c.arms))
 
   abbrev sign_test : Bool
-  sign_test = same_sign c.signed (signed_of ns c.subject && all_signed ns (labels c.arms))
+  sign_test = same_sign c.signed (signed_of ns c.subject && all_signed ns (matched c.arms))
 
   case_front : (subject_test && arms_test && width_test) ≡ true
   case_front = first_of (subject_test && arms_test && width_test) (is_width c.width) sign_test h
@@ -134,63 +134,63 @@ module _ (ns : List ExprNode) (places : ℕ) (c : CaseTest) (h : fits_case ns pl
   case_arms : arms_test ≡ true
   case_arms = second_of subject_test arms_test width_test case_front
 
-  case_width : c.width ≡ widest ns (width_of ns c.subject) (labels c.arms)
+  case_width : c.width ≡ widest ns (width_of ns c.subject) (matched c.arms)
   case_width =
-      eqb-true c.width (widest ns (width_of ns c.subject) (labels c.arms))
+      eqb-true c.width (widest ns (width_of ns c.subject) (matched c.arms))
       (and_right (subject_test && arms_test) width_test case_front)
 
   case_range : is_width c.width ≡ true
   case_range = second_of (subject_test && arms_test && width_test) (is_width c.width) sign_test h
 
-  case_signed : c.signed ≡ (signed_of ns c.subject && all_signed ns (labels c.arms))
+  case_signed : c.signed ≡ (signed_of ns c.subject && all_signed ns (matched c.arms))
   case_signed =
-      same c.signed (signed_of ns c.subject && all_signed ns (labels c.arms))
+      same c.signed (signed_of ns c.subject && all_signed ns (matched c.arms))
       (and_right (subject_test && arms_test && width_test && is_width c.width) sign_test h)
 
 -- Where an operation that passes goes on.
-loop_pass : (exprs places : ℕ) (t : Loop) → fits_loop exprs places t ≡ true → list_all (fits_goes places) (loop_goes t) ≡ true
-loop_pass exprs places (turn.Repeat count done) h =
-    only (fits_goes places done) (and_right (nat_lt count exprs) (fits_goes places done) h)
-loop_pass exprs places (turn.Again done) h = only (fits_goes places done) h
-loop_pass exprs places turn.Turn h = refl
+loop_pass : (exprs positions : ℕ) (t : Loop) → fits_loop exprs positions t ≡ true → list_all (fits_goes positions) (loop_goes t) ≡ true
+loop_pass exprs positions (turn.Repeat count done) h =
+    only (fits_goes positions done) (and_right (nat_lt count exprs) (fits_goes positions done) h)
+loop_pass exprs positions (turn.Again done) h = only (fits_goes positions done) h
+loop_pass exprs positions turn.Turn h = refl
 
-goes_pass : (os : List ObjectInfo) (ns : List ExprNode) (ds : List DriverInfo) (l : Limits) (places : ℕ) (o : Operation)
-    → fits_operation os ns ds l places o ≡ true → list_all (fits_goes places) (goes_of o) ≡ true
-goes_pass os ns ds l places (op.Assign value targets) h = refl
-goes_pass os ns ds l places (op.Hold value width delay) h = refl
-goes_pass os ns ds l places (op.Store targets) h = refl
-goes_pass os ns ds l places (op.Schedule s) h = refl
-goes_pass os ns ds l places (op.Pause p) h = refl
-goes_pass os ns ds l places (op.Test condition otherwise) h =
-    only (fits_goes places otherwise) (and_right (nat_lt condition (length ns)) (fits_goes places otherwise) h)
-goes_pass os ns ds l places (op.Case c) h =
-    all_mapped (fits_arm (length ns) places) (fits_goes places) (λ (a : Arm). a.to)
-    (λ a passed. and_right (nat_lt a.value (length ns)) (fits_goes places a.to) passed) c.arms
-    (case_arms ns places c h)
-goes_pass os ns ds l places (op.Loop t) h = loop_pass (length ns) places t h
-goes_pass os ns ds l places (op.Fork branches) h =
-    all_mapped (λ b. nat_lt b places) (fits_goes places) (λ b. goes.To b) (λ b passed. passed) branches h
-goes_pass os ns ds l places op.End h = refl
-goes_pass os ns ds l places (op.Enter routine inputs) h = refl
-goes_pass os ns ds l places (op.Leave e) h = refl
-goes_pass os ns ds l places (op.SysCall o) h = refl
-goes_pass os ns ds l places (op.SysFunc o) h = refl
-goes_pass os ns ds l places (op.Single s) h = refl
-goes_pass os ns ds l places (op.Drive d) h = refl
-goes_pass os ns ds l places (op.Initial o value) h = refl
+goes_pass : (os : List ObjectInfo) (ns : List ExprNode) (ds : List DriverInfo) (l : Limits) (positions : ℕ) (o : Operation)
+    → fits_operation os ns ds l positions o ≡ true → list_all (fits_goes positions) (goes_of o) ≡ true
+goes_pass os ns ds l positions (op.Assign value targets) h = refl
+goes_pass os ns ds l positions (op.Hold value width delay) h = refl
+goes_pass os ns ds l positions (op.Store targets) h = refl
+goes_pass os ns ds l positions (op.Schedule s) h = refl
+goes_pass os ns ds l positions (op.Pause p) h = refl
+goes_pass os ns ds l positions (op.Test condition otherwise) h =
+    only (fits_goes positions otherwise) (and_right (nat_lt condition (length ns)) (fits_goes positions otherwise) h)
+goes_pass os ns ds l positions (op.Case c) h =
+    all_mapped (fits_arm (length ns) positions) (fits_goes positions) (λ (a : Arm). a.to)
+    (λ a passed. and_right (nat_lt a.value (length ns)) (fits_goes positions a.to) passed) c.arms
+    (case_arms ns positions c h)
+goes_pass os ns ds l positions (op.Loop t) h = loop_pass (length ns) positions t h
+goes_pass os ns ds l positions (op.Fork branches) h =
+    all_mapped (λ b. nat_lt b positions) (fits_goes positions) (λ b. goes.To b) (λ b passed. passed) branches h
+goes_pass os ns ds l positions op.End h = refl
+goes_pass os ns ds l positions (op.Enter routine inputs) h = refl
+goes_pass os ns ds l positions (op.Leave e) h = refl
+goes_pass os ns ds l positions (op.SysCall o) h = refl
+goes_pass os ns ds l positions (op.SysFunc o) h = refl
+goes_pass os ns ds l positions (op.Single s) h = refl
+goes_pass os ns ds l positions (op.Drive d) h = refl
+goes_pass os ns ds l positions (op.Initial o value) h = refl
 
-is_place : (places : ℕ) (g : Goes) → fits_goes places g ≡ true → IsPlace places g
-is_place places goes.Back h = tt
-is_place places (goes.To place) h = ltb-true place places h
+is_position : (positions : ℕ) (g : Goes) → fits_goes positions g ≡ true → IsPosition positions g
+is_position positions goes.Back h = tt
+is_position positions (goes.To position) h = ltb-true position positions h
 
-pub places_are_there : PlacesAreThere
-places_are_there d c k i fits at =
-    let places = length c.instructions in
-    let passed : list_all (fits_goes places) (i.next ∷ goes_of i.operation) ≡ true =
+pub positions_are_there : PositionsAreThere
+positions_are_there d c k i fits at =
+    let positions = length c.instructions in
+    let passed : list_all (fits_goes positions) (i.next ∷ goes_of i.operation) ≡ true =
     both_true (next_fits d c k i fits at)
-    (goes_pass d.objects d.exprs d.drivers (limits_of d) places i.operation (operation_fits d c k i fits at)) in
-    let all = AllPass-from_list_all (fits_goes places) (i.next ∷ goes_of i.operation) passed in
-    λ n g inside. is_place places (slice_index_or (i.next ∷ goes_of i.operation) n g) (all n g inside)
+    (goes_pass d.objects d.exprs d.drivers (limits_of d) positions i.operation (operation_fits d c k i fits at)) in
+    let all = AllPass-from_list_all (fits_goes positions) (i.next ∷ goes_of i.operation) passed in
+    λ n g inside. is_position positions (slice_index_or (i.next ∷ goes_of i.operation) n g) (all n g inside)
 
 -- The objects that an operation which passes changes or names.
 target_pass : (os : List ObjectInfo) (exprs : ℕ) (t : Selected) → fits_target os exprs t ≡ true → passes os (change_of t) ≡ true
@@ -253,29 +253,29 @@ enter_pass os exprs routine inputs h =
     (λ i passed. and_left (has_kind is_variable os i.variable) (nat_lt i.value exprs) passed) inputs
     (and_right (called && has) given h))
 
-changes_pass : (os : List ObjectInfo) (ns : List ExprNode) (ds : List DriverInfo) (l : Limits) (places : ℕ) (o : Operation)
-    → fits_operation os ns ds l places o ≡ true → list_all (passes os) (changes_of o) ≡ true
-changes_pass os ns ds l places (op.Assign value targets) h =
+changes_pass : (os : List ObjectInfo) (ns : List ExprNode) (ds : List DriverInfo) (l : Limits) (positions : ℕ) (o : Operation)
+    → fits_operation os ns ds l positions o ≡ true → list_all (passes os) (changes_of o) ≡ true
+changes_pass os ns ds l positions (op.Assign value targets) h =
     targets_pass os (length ns) targets (and_right (nat_lt value (length ns)) (fits_targets os (length ns) targets) h)
-changes_pass os ns ds l places (op.Hold value width delay) h = refl
-changes_pass os ns ds l places (op.Store targets) h = targets_pass os (length ns) targets h
-changes_pass os ns ds l places (op.Schedule s) h =
+changes_pass os ns ds l positions (op.Hold value width delay) h = refl
+changes_pass os ns ds l positions (op.Store targets) h = targets_pass os (length ns) targets h
+changes_pass os ns ds l positions (op.Schedule s) h =
     targets_pass os (length ns) s.targets
     (second_of (nat_lt s.value (length ns)) (fits_targets os (length ns) s.targets)
     (fits_delayed (length ns) l.precision s.delay) h)
-changes_pass os ns ds l places (op.Pause p) h = refl
-changes_pass os ns ds l places (op.Test condition otherwise) h = refl
-changes_pass os ns ds l places (op.Case c) h = refl
-changes_pass os ns ds l places (op.Loop t) h = refl
-changes_pass os ns ds l places (op.Fork branches) h = refl
-changes_pass os ns ds l places op.End h = refl
-changes_pass os ns ds l places (op.Enter routine inputs) h = enter_pass os (length ns) routine inputs h
-changes_pass os ns ds l places (op.Leave e) h = leave_pass os (length ns) e h
-changes_pass os ns ds l places (op.SysCall o) h = only (has_kind is_system_task os o) h
-changes_pass os ns ds l places (op.SysFunc o) h = only (has_kind is_system_function os o) h
-changes_pass os ns ds l places (op.Single s) h = single_pass os (length ns) l.shows s h
-changes_pass os ns ds l places (op.Drive d) h = refl
-changes_pass os ns ds l places (op.Initial o value) h =
+changes_pass os ns ds l positions (op.Pause p) h = refl
+changes_pass os ns ds l positions (op.Test condition otherwise) h = refl
+changes_pass os ns ds l positions (op.Case c) h = refl
+changes_pass os ns ds l positions (op.Loop t) h = refl
+changes_pass os ns ds l positions (op.Fork branches) h = refl
+changes_pass os ns ds l positions op.End h = refl
+changes_pass os ns ds l positions (op.Enter routine inputs) h = enter_pass os (length ns) routine inputs h
+changes_pass os ns ds l positions (op.Leave e) h = leave_pass os (length ns) e h
+changes_pass os ns ds l positions (op.SysCall o) h = only (has_kind is_system_task os o) h
+changes_pass os ns ds l positions (op.SysFunc o) h = only (has_kind is_system_function os o) h
+changes_pass os ns ds l positions (op.Single s) h = single_pass os (length ns) l.shows s h
+changes_pass os ns ds l positions (op.Drive d) h = refl
+changes_pass os ns ds l positions (op.Initial o value) h =
     only (has_kind is_variable os o) (and_left (has_kind is_variable os o) (nat_lt value (length ns)) h)
 
 pub changes_fit : ChangesFit
@@ -315,12 +315,12 @@ pause_there exprs l (pause.Await wait) h = refl
 pause_there exprs l (pause.WaitFor condition wait) h =
     only (nat_lt condition exprs) (and_left (nat_lt condition exprs) (nat_lt wait l.waits) h)
 
-loop_there : (exprs places : ℕ) (t : Loop)
-    → fits_loop exprs places t ≡ true → list_all (λ e. nat_lt e exprs) (loop_exprs t) ≡ true
-loop_there exprs places (turn.Repeat count done) h =
-    only (nat_lt count exprs) (and_left (nat_lt count exprs) (fits_goes places done) h)
-loop_there exprs places (turn.Again done) h = refl
-loop_there exprs places turn.Turn h = refl
+loop_there : (exprs positions : ℕ) (t : Loop)
+    → fits_loop exprs positions t ≡ true → list_all (λ e. nat_lt e exprs) (loop_exprs t) ≡ true
+loop_there exprs positions (turn.Repeat count done) h =
+    only (nat_lt count exprs) (and_left (nat_lt count exprs) (fits_goes positions done) h)
+loop_there exprs positions (turn.Again done) h = refl
+loop_there exprs positions turn.Turn h = refl
 
 single_there : (os : List ObjectInfo) (exprs shows : ℕ) (s : Single)
     → fits_single os exprs shows s ≡ true → list_all (λ e. nat_lt e exprs) (single_exprs s) ≡ true
@@ -355,20 +355,20 @@ leave_there os exprs e h =
     e.outputs (and_left outputs result h))
     (result_there os exprs e.result (and_right outputs result h))
 
-exprs_there : (os : List ObjectInfo) (ns : List ExprNode) (ds : List DriverInfo) (l : Limits) (places : ℕ) (o : Operation)
-    → fits_operation os ns ds l places o ≡ true → list_all (λ e. nat_lt e (length ns)) (exprs_of o) ≡ true
-exprs_there os ns ds l places (op.Assign value targets) h =
+exprs_there : (os : List ObjectInfo) (ns : List ExprNode) (ds : List DriverInfo) (l : Limits) (positions : ℕ) (o : Operation)
+    → fits_operation os ns ds l positions o ≡ true → list_all (λ e. nat_lt e (length ns)) (exprs_of o) ≡ true
+exprs_there os ns ds l positions (op.Assign value targets) h =
     let there = nat_lt value (length ns) in
     let aimed = fits_targets os (length ns) targets in
     both_true (and_left there aimed h) (targets_there os (length ns) targets (and_right there aimed h))
-exprs_there os ns ds l places (op.Hold value width it) h =
+exprs_there os ns ds l positions (op.Hold value width it) h =
     let there = nat_lt value (length ns) in
     let delayed = fits_delay (length ns) l.precision it in
     both_true (first_of there (is_width width) delayed h)
     (only (nat_lt it.amount (length ns))
     (and_left (nat_lt it.amount (length ns)) (is_unit l.precision it.unit) (and_right (there && is_width width) delayed h)))
-exprs_there os ns ds l places (op.Store targets) h = targets_there os (length ns) targets h
-exprs_there os ns ds l places (op.Schedule s) h =
+exprs_there os ns ds l positions (op.Store targets) h = targets_there os (length ns) targets h
+exprs_there os ns ds l positions (op.Schedule s) h =
     let there = nat_lt s.value (length ns) in
     let aimed = fits_targets os (length ns) s.targets in
     let delayed = fits_delayed (length ns) l.precision s.delay in
@@ -376,33 +376,33 @@ exprs_there os ns ds l places (op.Schedule s) h =
     (all_joined (λ e. nat_lt e (length ns)) (flat_map selected_exprs s.targets) (delay_exprs s.delay)
     (targets_there os (length ns) s.targets (second_of there aimed delayed h))
     (delayed_there (length ns) l.precision s.delay (and_right (there && aimed) delayed h)))
-exprs_there os ns ds l places (op.Pause p) h = pause_there (length ns) l p h
-exprs_there os ns ds l places (op.Test condition otherwise) h =
-    only (nat_lt condition (length ns)) (and_left (nat_lt condition (length ns)) (fits_goes places otherwise) h)
-exprs_there os ns ds l places (op.Case c) h =
-    both_true (case_subject ns places c h)
-    (all_mapped (fits_arm (length ns) places) (λ e. nat_lt e (length ns)) (λ (a : Arm). a.value)
-    (λ a passed. and_left (nat_lt a.value (length ns)) (fits_goes places a.to) passed) c.arms
-    (case_arms ns places c h))
-exprs_there os ns ds l places (op.Loop t) h = loop_there (length ns) places t h
-exprs_there os ns ds l places (op.Fork branches) h = refl
-exprs_there os ns ds l places op.End h = refl
-exprs_there os ns ds l places (op.Enter routine inputs) h =
+exprs_there os ns ds l positions (op.Pause p) h = pause_there (length ns) l p h
+exprs_there os ns ds l positions (op.Test condition otherwise) h =
+    only (nat_lt condition (length ns)) (and_left (nat_lt condition (length ns)) (fits_goes positions otherwise) h)
+exprs_there os ns ds l positions (op.Case c) h =
+    both_true (case_subject ns positions c h)
+    (all_mapped (fits_arm (length ns) positions) (λ e. nat_lt e (length ns)) (λ (a : Arm). a.value)
+    (λ a passed. and_left (nat_lt a.value (length ns)) (fits_goes positions a.to) passed) c.arms
+    (case_arms ns positions c h))
+exprs_there os ns ds l positions (op.Loop t) h = loop_there (length ns) positions t h
+exprs_there os ns ds l positions (op.Fork branches) h = refl
+exprs_there os ns ds l positions op.End h = refl
+exprs_there os ns ds l positions (op.Enter routine inputs) h =
     all_mapped (fits_input os (length ns)) (λ e. nat_lt e (length ns)) (λ (i : Input). i.value)
     (λ i passed. and_right (has_kind is_variable os i.variable) (nat_lt i.value (length ns)) passed) inputs
     (and_right (has_kind is_routine os routine && has_body os routine) (list_all (fits_input os (length ns)) inputs) h)
-exprs_there os ns ds l places (op.Leave e) h = leave_there os (length ns) e h
-exprs_there os ns ds l places (op.SysCall o) h = refl
-exprs_there os ns ds l places (op.SysFunc o) h = refl
-exprs_there os ns ds l places (op.Single s) h = single_there os (length ns) l.shows s h
-exprs_there os ns ds l places (op.Drive d) h =
+exprs_there os ns ds l positions (op.Leave e) h = leave_there os (length ns) e h
+exprs_there os ns ds l positions (op.SysCall o) h = refl
+exprs_there os ns ds l positions (op.SysFunc o) h = refl
+exprs_there os ns ds l positions (op.Single s) h = single_there os (length ns) l.shows s h
+exprs_there os ns ds l positions (op.Drive d) h =
     let driven = fits_drivers ds d.drivers in
     let there = nat_lt d.value (length ns) in
     let delayed = fits_delayed (length ns) l.precision d.delay in
     let front = and_left (driven && there && delayed) (nat_lt d.wait l.waits) h in
     both_true (second_of driven there delayed front)
     (delayed_there (length ns) l.precision d.delay (and_right (driven && there) delayed front))
-exprs_there os ns ds l places (op.Initial o value) h =
+exprs_there os ns ds l positions (op.Initial o value) h =
     only (nat_lt value (length ns)) (and_right (has_kind is_variable os o) (nat_lt value (length ns)) h)
 
 pub expressions_are_there : ExpressionsAreThere
@@ -428,33 +428,33 @@ pause_pass exprs l (pause.Wait it) h = only (is_unit l.precision it.unit) (delay
 pause_pass exprs l (pause.Await wait) h = refl
 pause_pass exprs l (pause.WaitFor condition wait) h = refl
 
-units_pass : (os : List ObjectInfo) (ns : List ExprNode) (ds : List DriverInfo) (l : Limits) (places : ℕ) (o : Operation)
-    → fits_operation os ns ds l places o ≡ true → list_all (is_unit l.precision) (units_of o) ≡ true
-units_pass os ns ds l places (op.Assign value targets) h = refl
-units_pass os ns ds l places (op.Hold value width it) h =
+units_pass : (os : List ObjectInfo) (ns : List ExprNode) (ds : List DriverInfo) (l : Limits) (positions : ℕ) (o : Operation)
+    → fits_operation os ns ds l positions o ≡ true → list_all (is_unit l.precision) (units_of o) ≡ true
+units_pass os ns ds l positions (op.Assign value targets) h = refl
+units_pass os ns ds l positions (op.Hold value width it) h =
     only (is_unit l.precision it.unit) (delay_pass (length ns) l.precision it
     (and_right (nat_lt value (length ns) && is_width width) (fits_delay (length ns) l.precision it) h))
-units_pass os ns ds l places (op.Store targets) h = refl
-units_pass os ns ds l places (op.Schedule s) h =
+units_pass os ns ds l positions (op.Store targets) h = refl
+units_pass os ns ds l positions (op.Schedule s) h =
     delayed_pass (length ns) l.precision s.delay
     (and_right (nat_lt s.value (length ns) && fits_targets os (length ns) s.targets)
     (fits_delayed (length ns) l.precision s.delay) h)
-units_pass os ns ds l places (op.Pause p) h = pause_pass (length ns) l p h
-units_pass os ns ds l places (op.Test condition otherwise) h = refl
-units_pass os ns ds l places (op.Case c) h = refl
-units_pass os ns ds l places (op.Loop t) h = refl
-units_pass os ns ds l places (op.Fork branches) h = refl
-units_pass os ns ds l places op.End h = refl
-units_pass os ns ds l places (op.Enter routine inputs) h = refl
-units_pass os ns ds l places (op.Leave e) h = refl
-units_pass os ns ds l places (op.SysCall o) h = refl
-units_pass os ns ds l places (op.SysFunc o) h = refl
-units_pass os ns ds l places (op.Single s) h = refl
-units_pass os ns ds l places (op.Drive d) h =
+units_pass os ns ds l positions (op.Pause p) h = pause_pass (length ns) l p h
+units_pass os ns ds l positions (op.Test condition otherwise) h = refl
+units_pass os ns ds l positions (op.Case c) h = refl
+units_pass os ns ds l positions (op.Loop t) h = refl
+units_pass os ns ds l positions (op.Fork branches) h = refl
+units_pass os ns ds l positions op.End h = refl
+units_pass os ns ds l positions (op.Enter routine inputs) h = refl
+units_pass os ns ds l positions (op.Leave e) h = refl
+units_pass os ns ds l positions (op.SysCall o) h = refl
+units_pass os ns ds l positions (op.SysFunc o) h = refl
+units_pass os ns ds l positions (op.Single s) h = refl
+units_pass os ns ds l positions (op.Drive d) h =
     delayed_pass (length ns) l.precision d.delay
     (second_of (fits_drivers ds d.drivers && nat_lt d.value (length ns)) (fits_delayed (length ns) l.precision d.delay)
     (nat_lt d.wait l.waits) h)
-units_pass os ns ds l places (op.Initial o value) h = refl
+units_pass os ns ds l positions (op.Initial o value) h = refl
 
 unit_of : (d : Shape) (unit : ℕ) → is_unit d.precision unit ≡ true → IsUnit d unit
 unit_of d unit h = record {
@@ -473,14 +473,14 @@ delays_fit d c k i fits at =
 -- A `case`.
 pub cases_are_measured : CasesAreMeasured
 cases_are_measured d c k i it fits at is =
-    let places = length c.instructions in
-    let h : fits_case d.exprs places it ≡ true = rw is at (operation_fits d c k i fits at) in
-    let range = case_range d.exprs places it h in
+    let positions = length c.instructions in
+    let h : fits_case d.exprs positions it ≡ true = rw is at (operation_fits d c k i fits at) in
+    let range = case_range d.exprs positions it h in
     record {
-      width = case_width d.exprs places it h;
+      width = case_width d.exprs positions it h;
       least = width_least it.width range;
       most = width_most it.width range;
-      signed = case_signed d.exprs places it h;
+      signed = case_signed d.exprs positions it h;
     }
 
 -- What a wait that passes waits for.

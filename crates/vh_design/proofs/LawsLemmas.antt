@@ -55,7 +55,7 @@ parts_before os precision e (kind.Choice condition left right) h =
     (only (nat_lt right e) (and_right (nat_lt condition e && nat_lt left e) (nat_lt right e) h)))
 parts_before os precision e (kind.Join first rest) h = h
 parts_before os precision e (kind.Repeat count part) h = only (nat_lt part e) h
-parts_before os precision e (kind.Marked part signed) h = only (nat_lt part e) h
+parts_before os precision e (kind.WithSign part signed) h = only (nat_lt part e) h
 parts_before os precision e (kind.Time unit) h = refl
 parts_before os precision e (kind.Call function result arguments) h =
     and_right (has_kind is_function os function && has_kind is_variable os result) (all_before e arguments) h
@@ -95,7 +95,7 @@ reads_pass os precision e (kind.Logic first rest) h = refl
 reads_pass os precision e (kind.Choice condition left right) h = refl
 reads_pass os precision e (kind.Join first rest) h = refl
 reads_pass os precision e (kind.Repeat count part) h = refl
-reads_pass os precision e (kind.Marked part signed) h = refl
+reads_pass os precision e (kind.WithSign part signed) h = refl
 reads_pass os precision e (kind.Time unit) h = refl
 reads_pass os precision e (kind.Call function result arguments) h =
     let called = has_kind is_function os function in

@@ -27,7 +27,7 @@ use Rattle.vh_design_code.specs.declared.target.Delay.{Delay}
 use Rattle.vh_design_code.specs.declared.wait.Term.{Term}
 use Rattle.vh_design_code.specs.declared.wait.Term.TheVariants as term
 use Rattle.vh_design_code.specs.declared.wait.WaitInfo.{WaitInfo}
-use Rattle.vh_design_code.specs.Operations.{labels}
+use Rattle.vh_design_code.specs.Operations.{matched}
 use Rattle.vh_design.specs.Laws.{selected_exprs, Read, read, read_selected}
 use Rattle.vh_design.specs.Shape.{Shape}
 use Rattle.vh_design.specs.Validity.{CodeFits, IsValid}
@@ -38,7 +38,7 @@ loop_goes (turn.Repeat count done) = done ∷ []
 loop_goes (turn.Again done) = done ∷ []
 loop_goes turn.Turn = []
 
--- Where an operation goes on, beside the instruction's next place.
+-- Where an operation goes on, beside the instruction's next position.
 abbrev pub goes_of : Operation → List Goes
 goes_of (op.Assign value targets) = []
 goes_of (op.Hold value width delay) = []
@@ -58,10 +58,10 @@ goes_of (op.Single s) = []
 goes_of (op.Drive d) = []
 goes_of (op.Initial o value) = []
 
--- A place of a code with so many instructions; behind the call is always one.
-abbrev pub IsPlace : ℕ → Goes → Type 0
-IsPlace places goes.Back = ⊤
-IsPlace places (goes.To place) = place < places
+-- A position of a code with so many instructions; behind the call is always one.
+abbrev pub IsPosition : ℕ → Goes → Type 0
+IsPosition positions goes.Back = ⊤
+IsPosition positions (goes.To position) = position < positions
 
 -- The object that a target changes, and the test that its kind passes.
 abbrev pub change_of : Selected → Read
@@ -173,7 +173,7 @@ exprs_of (op.Store targets) = flat_map selected_exprs targets
 exprs_of (op.Schedule s) = s.value ∷ (flat_map selected_exprs s.targets ++ delay_exprs s.delay)
 exprs_of (op.Pause p) = pause_exprs p
 exprs_of (op.Test condition otherwise) = condition ∷ []
-exprs_of (op.Case c) = c.subject ∷ labels c.arms
+exprs_of (op.Case c) = c.subject ∷ matched c.arms
 exprs_of (op.Loop t) = loop_exprs t
 exprs_of (op.Fork branches) = []
 exprs_of op.End = []
@@ -198,10 +198,10 @@ pub record IsUnit (d : Shape) (unit : ℕ) : Type 0 where
 
 -- A `case` compares in the greatest width of its subject and values, signed where all of them are.
 pub record IsCase (d : Shape) (c : CaseTest) : Type 0 where
-  pub width : c.width ≡ widest d.exprs (width_of d.exprs c.subject) (labels c.arms)
+  pub width : c.width ≡ widest d.exprs (width_of d.exprs c.subject) (matched c.arms)
   pub least : 1 ≤ c.width
   pub most : c.width ≤ MAX_WIDTH
-  pub signed : c.signed ≡ (signed_of d.exprs c.subject && all_signed d.exprs (labels c.arms))
+  pub signed : c.signed ≡ (signed_of d.exprs c.subject && all_signed d.exprs (matched c.arms))
 
 -- The codes of a design, and the bodies, may stand in it.
 abbrev pub CodesMayStand : Type 0
@@ -210,10 +210,10 @@ CodesMayStand = (d : Shape) (p : ℕ) (c : Code) → IsValid d → slice_get d.c
 abbrev pub BodiesMayStand : Type 0
 BodiesMayStand = (d : Shape) (n : ℕ) (c : Code) → IsValid d → slice_get d.bodies n ≡ Some c → CodeFits d c
 
--- The places to which a code goes on are instructions of it.
-abbrev pub PlacesAreThere : Type 0
-PlacesAreThere = (d : Shape) (c : Code) (k : ℕ) (i : Instruction) → CodeFits d c → slice_get c.instructions k ≡ Some i
-    → All (IsPlace (length c.instructions)) (i.next ∷ goes_of i.operation)
+-- The positions to which a code goes on are instructions of it.
+abbrev pub PositionsAreThere : Type 0
+PositionsAreThere = (d : Shape) (c : Code) (k : ℕ) (i : Instruction) → CodeFits d c → slice_get c.instructions k ≡ Some i
+    → All (IsPosition (length c.instructions)) (i.next ∷ goes_of i.operation)
 
 -- The expressions that it names are there.
 abbrev pub ExpressionsAreThere : Type 0

@@ -1,5 +1,5 @@
 ghost use Rattle.vh_design.specs.Laws.{PartsComeBefore, ReadsFit, NodesAreMeasured, UnitsFit, ScopesComeBefore, DriversAreOfNets, PrecisionFits};
-ghost use Rattle.vh_design.specs.CodeLaws.{CodesMayStand, BodiesMayStand, PlacesAreThere, ExpressionsAreThere, ChangesFit, DelaysFit, CasesAreMeasured, WaitsFit, ShowsFit, StatementsFit};
+ghost use Rattle.vh_design.specs.CodeLaws.{CodesMayStand, BodiesMayStand, PositionsAreThere, ExpressionsAreThere, ChangesFit, DelaysFit, CasesAreMeasured, WaitsFit, ShowsFit, StatementsFit};
 
 /// What the rules of a valid design mean. It does nothing: its contract is the theorem.
 pub fn design_laws()
@@ -19,12 +19,12 @@ pub fn design_laws()
     ensures scopes { ScopesComeBefore }
     ensures drivers { DriversAreOfNets }
 
-    // Each code and each body may stand in the design: it goes on at places of its own, its
+    // Each code and each body may stand in the design: it goes on at positions of its own, its
     // expressions are there, it changes objects of kinds that may stand there, and its time units,
     // widths and signs are as above.
     ensures codes { CodesMayStand }
     ensures bodies { BodiesMayStand }
-    ensures places { PlacesAreThere }
+    ensures positions { PositionsAreThere }
     ensures expressions { ExpressionsAreThere }
     ensures changes { ChangesFit }
     ensures delays { DelaysFit }

@@ -3,7 +3,7 @@
 //! A [`Design`] has objects, expressions and drivers, the codes of processes, the bodies of tasks
 //! and functions, waits, display calls and statements, each at its number, and the precision of the
 //! simulation. [`Design::build`] makes one of [`Parts`], and of no parts that break a rule: that
-//! numbers and places point at what is there and may stand there, that the parts of an expression
+//! numbers and positions point at what is there and may stand there, that the parts of an expression
 //! and the scope of an object come before it, and that widths and signs are those that IEEE
 //! 1364-2005, 5.4.1 and 5.5.1, give.
 //!
@@ -27,7 +27,7 @@ pub use parts::Parts;
 pub use vh_design_code::{
     Arm, Arms, Block, Blocks, CaseKind, CaseTest, Change, Code, Delay, Drive, DriverIds, Edge,
     Goes, Input, Inputs, Instruction, Instructions, Layer, Leave, Loop, Made, Operation, Output,
-    Outputs, Pause, Places, Returned, Schedule, ShowArg, ShowArgs, ShowCall, ShowTask, Single,
+    Outputs, Pause, Positions, Returned, Schedule, ShowArg, ShowArgs, ShowCall, ShowTask, Single,
     StmtInfo, StmtKind, Targets, Term, Terms, WaitInfo,
 };
 pub use vh_design_nodes::{

@@ -1,5 +1,5 @@
 -- Which codes, waits, display calls and statements may stand in a design. (own: the rules say where numbers and
--- places point, and which kinds of object may stand where after IEEE 1364-2005, clauses 9, 10, 17 and 26.6)
+-- positions point, and which kinds of object may stand where after IEEE 1364-2005, clauses 9, 10, 17 and 26.6)
 use Rattle.std.specs.Prelude.{ℕ, List, Bool, true, ◌||◌, ◌&&◌, nat_lt, length}
 use Rattle.std.specs.List.{list_all, enumerate_from}
 use Rattle.vh_design_nodes.specs.declared.driver.DriverInfo.{DriverInfo}
@@ -20,26 +20,26 @@ use Rattle.vh_design_code.specs.declared.wait.Term.TheVariants as term
 use Rattle.vh_design_code.specs.declared.wait.WaitInfo.{WaitInfo}
 use Rattle.vh_design_code.specs.Operations.{fits_goes, fits_operation}
 
--- An instruction of a code with so many places and blocks.
+-- An instruction of a code with so many positions and blocks.
 abbrev pub fits_instruction : List ObjectInfo → List ExprNode → List DriverInfo → Limits → ℕ → ℕ → Instruction → Bool
-fits_instruction os ns ds l places blocks i =
-    fits_operation os ns ds l places i.operation && fits_goes places i.next && before l.stmts i.stmt
+fits_instruction os ns ds l positions blocks i =
+    fits_operation os ns ds l positions i.operation && fits_goes positions i.next && before l.stmts i.stmt
     && before blocks i.block
 
 -- A block of such a code, by its number: the one around it has a lesser number.
 abbrev pub fits_block : List ObjectInfo → ℕ → ℕ → Block → Bool
-fits_block os places k b = has_kind is_named_block os b.object && before k b.around && fits_goes places b.after
+fits_block os positions k b = has_kind is_named_block os b.object && before k b.around && fits_goes positions b.after
 
 abbrev pub fits_blocks : List ObjectInfo → ℕ → List Block → Bool
-fits_blocks os places bs = list_all (λ b. fits_block os places b.0 b.1) (enumerate_from 0 bs)
+fits_blocks os positions bs = list_all (λ b. fits_block os positions b.0 b.1) (enumerate_from 0 bs)
 
--- A code: it goes on at places of its own, and what its instructions and blocks name is there.
+-- A code: it goes on at positions of its own, and what its instructions and blocks name is there.
 abbrev pub fits_code : List ObjectInfo → List ExprNode → List DriverInfo → Limits → Code → Bool
 fits_code os ns ds l c =
-    let places = length c.instructions in
-    fits_goes places c.start
-    && list_all (fits_instruction os ns ds l places (length c.blocks)) c.instructions
-    && fits_blocks os places c.blocks
+    let positions = length c.instructions in
+    fits_goes positions c.start
+    && list_all (fits_instruction os ns ds l positions (length c.blocks)) c.instructions
+    && fits_blocks os positions c.blocks
 
 -- What a wait may wait for, a row for each kind: a memory is waited for with all its words alone.
 abbrev pub fits_term : List ObjectInfo → Term → Bool

@@ -1,4 +1,4 @@
--- Which operations may stand in a code. (own: the rules say where numbers and places point, and which kinds of
+-- Which operations may stand in a code. (own: the rules say where numbers and positions point, and which kinds of
 -- object may stand where after IEEE 1364-2005, clauses 6, 9, 10 and 17)
 use Rattle.std.specs.Prelude.{ℕ, List, map, Bool, true, ◌&&◌, ◌==◌, nat_lt, Option, Some, None, length}
 use Rattle.std.specs.List.{list_all}
@@ -29,10 +29,10 @@ use Rattle.vh_design_code.specs.declared.target.Delay.{Delay}
 use Rattle.vh_design_code.specs.declared.target.Input.{Input}
 use Rattle.vh_design_code.specs.Targets.{fits_targets, fits_drivers, fits_delay, fits_input, fits_output}
 
--- Where a code with so many places may go on.
+-- Where a code with so many positions may go on.
 abbrev pub fits_goes : ℕ → Goes → Bool
-fits_goes places goes.Back = true
-fits_goes places (goes.To place) = nat_lt place places
+fits_goes positions goes.Back = true
+fits_goes positions (goes.To place) = nat_lt place positions
 
 -- A delay, where there is one.
 abbrev pub fits_delayed : ℕ → ℕ → Option Delay → Bool
@@ -51,24 +51,24 @@ fits_pause exprs l (pause.Await wait) = nat_lt wait l.waits
 fits_pause exprs l (pause.WaitFor condition wait) = nat_lt condition exprs && nat_lt wait l.waits
 
 -- The values of a `case`'s items.
-abbrev pub labels : List Arm → List ℕ
-labels arms = map (λ a. a.value) arms
+abbrev pub matched : List Arm → List ℕ
+matched arms = map (λ a. a.value) arms
 
 abbrev pub fits_arm : ℕ → ℕ → Arm → Bool
-fits_arm exprs places a = nat_lt a.value exprs && fits_goes places a.to
+fits_arm exprs positions a = nat_lt a.value exprs && fits_goes positions a.to
 
 -- A `case`: its width is the greatest of its subject and values, and it is signed where all of them are.
 abbrev pub fits_case : List ExprNode → ℕ → CaseTest → Bool
-fits_case ns places c =
-    nat_lt c.subject (length ns) && list_all (fits_arm (length ns) places) c.arms
-    && c.width == widest ns (width_of ns c.subject) (labels c.arms) && is_width c.width
-    && same_sign c.signed (signed_of ns c.subject && all_signed ns (labels c.arms))
+fits_case ns positions c =
+    nat_lt c.subject (length ns) && list_all (fits_arm (length ns) positions) c.arms
+    && c.width == widest ns (width_of ns c.subject) (matched c.arms) && is_width c.width
+    && same_sign c.signed (signed_of ns c.subject && all_signed ns (matched c.arms))
 
 -- A turn of a loop, a row for each kind.
 abbrev pub fits_loop : ℕ → ℕ → Loop → Bool
-fits_loop exprs places (turn.Repeat count done) = nat_lt count exprs && fits_goes places done
-fits_loop exprs places (turn.Again done) = fits_goes places done
-fits_loop exprs places turn.Turn = true
+fits_loop exprs positions (turn.Repeat count done) = nat_lt count exprs && fits_goes positions done
+fits_loop exprs positions (turn.Again done) = fits_goes positions done
+fits_loop exprs positions turn.Turn = true
 
 -- Where a function's result goes.
 abbrev pub fits_result : List ObjectInfo → ℕ → Option Returned → Bool
@@ -91,7 +91,7 @@ fits_force os exprs o value = has_kind is_forcible os o && nat_lt value exprs
 abbrev pub fits_write : List ObjectInfo → ℕ → ℕ → ℕ → Bool
 fits_write os exprs o value = has_kind is_variable os o && nat_lt value exprs
 
--- A statement with one label, a row for each kind.
+-- A statement with one value, a row for each kind.
 abbrev pub fits_single : List ObjectInfo → ℕ → ℕ → Single → Bool
 fits_single os exprs shows (single.Show show) = nat_lt show shows
 fits_single os exprs shows single.Finish = true
@@ -108,25 +108,25 @@ abbrev pub fits_drive : List DriverInfo → ℕ → Limits → Drive → Bool
 fits_drive ds exprs l d =
     fits_drivers ds d.drivers && nat_lt d.value exprs && fits_delayed exprs l.precision d.delay && nat_lt d.wait l.waits
 
--- An operation of a code with so many places, a row for each kind.
+-- An operation of a code with so many positions, a row for each kind.
 abbrev pub fits_operation : List ObjectInfo → List ExprNode → List DriverInfo → Limits → ℕ → Operation → Bool
-fits_operation os ns ds l places (op.Assign value targets) =
+fits_operation os ns ds l positions (op.Assign value targets) =
     nat_lt value (length ns) && fits_targets os (length ns) targets
-fits_operation os ns ds l places (op.Hold value width delay) =
+fits_operation os ns ds l positions (op.Hold value width delay) =
     nat_lt value (length ns) && is_width width && fits_delay (length ns) l.precision delay
-fits_operation os ns ds l places (op.Store targets) = fits_targets os (length ns) targets
-fits_operation os ns ds l places (op.Schedule s) = fits_schedule os (length ns) l.precision s
-fits_operation os ns ds l places (op.Pause p) = fits_pause (length ns) l p
-fits_operation os ns ds l places (op.Test condition otherwise) =
-    nat_lt condition (length ns) && fits_goes places otherwise
-fits_operation os ns ds l places (op.Case c) = fits_case ns places c
-fits_operation os ns ds l places (op.Loop t) = fits_loop (length ns) places t
-fits_operation os ns ds l places (op.Fork branches) = list_all (λ b. nat_lt b places) branches
-fits_operation os ns ds l places op.End = true
-fits_operation os ns ds l places (op.Enter routine inputs) = fits_enter os (length ns) routine inputs
-fits_operation os ns ds l places (op.Leave e) = fits_leave os (length ns) e
-fits_operation os ns ds l places (op.SysCall o) = has_kind is_system_task os o
-fits_operation os ns ds l places (op.SysFunc o) = has_kind is_system_function os o
-fits_operation os ns ds l places (op.Single s) = fits_single os (length ns) l.shows s
-fits_operation os ns ds l places (op.Drive d) = fits_drive ds (length ns) l d
-fits_operation os ns ds l places (op.Initial o value) = fits_write os (length ns) o value
+fits_operation os ns ds l positions (op.Store targets) = fits_targets os (length ns) targets
+fits_operation os ns ds l positions (op.Schedule s) = fits_schedule os (length ns) l.precision s
+fits_operation os ns ds l positions (op.Pause p) = fits_pause (length ns) l p
+fits_operation os ns ds l positions (op.Test condition otherwise) =
+    nat_lt condition (length ns) && fits_goes positions otherwise
+fits_operation os ns ds l positions (op.Case c) = fits_case ns positions c
+fits_operation os ns ds l positions (op.Loop t) = fits_loop (length ns) positions t
+fits_operation os ns ds l positions (op.Fork branches) = list_all (λ b. nat_lt b positions) branches
+fits_operation os ns ds l positions op.End = true
+fits_operation os ns ds l positions (op.Enter routine inputs) = fits_enter os (length ns) routine inputs
+fits_operation os ns ds l positions (op.Leave e) = fits_leave os (length ns) e
+fits_operation os ns ds l positions (op.SysCall o) = has_kind is_system_task os o
+fits_operation os ns ds l positions (op.SysFunc o) = has_kind is_system_function os o
+fits_operation os ns ds l positions (op.Single s) = fits_single os (length ns) l.shows s
+fits_operation os ns ds l positions (op.Drive d) = fits_drive ds (length ns) l d
+fits_operation os ns ds l positions (op.Initial o value) = fits_write os (length ns) o value

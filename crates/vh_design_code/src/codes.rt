@@ -32,27 +32,27 @@ fn is_none_or_below(most: usize, number: Option<u32>) -> bool
     }
 }
 
-// Whether an instruction may stand in a code with so many places and blocks.
+// Whether an instruction may stand in a code with so many positions and blocks.
 fn fits_instruction(
     objects: &[ObjectInfo],
     exprs: &[ExprNode],
     drivers: &[DriverInfo],
     limits: Limits,
-    places: usize,
+    positions: usize,
     blocks: usize,
     instruction: &Instruction,
 ) -> bool
     ensures { result ≡
-        fits_instruction objects.now exprs.now drivers.now limits places blocks instruction.now }
+        fits_instruction objects.now exprs.now drivers.now limits positions blocks instruction.now }
 {
     fits_operation(
         objects,
         exprs,
         drivers,
         limits,
-        places,
+        positions,
         &instruction.operation,
-    ) && fits_goes(places, instruction.next)
+    ) && fits_goes(positions, instruction.next)
         && is_none_or_below(limits.stmts, instruction.stmt)
         && is_none_or_below(blocks, instruction.block)
 }
@@ -63,36 +63,36 @@ fn all_instructions_fit(
     exprs: &[ExprNode],
     drivers: &[DriverInfo],
     limits: Limits,
-    places: usize,
+    positions: usize,
     blocks: usize,
     instructions: &[Instruction],
 ) -> bool
     ensures { result ≡
-        list_all (fits_instruction objects.now exprs.now drivers.now limits places blocks)
+        list_all (fits_instruction objects.now exprs.now drivers.now limits positions blocks)
         instructions.now }
 {
     instructions.iter().all(|instruction| {
-        fits_instruction(objects, exprs, drivers, limits, places, blocks, instruction)
+        fits_instruction(objects, exprs, drivers, limits, positions, blocks, instruction)
     })
 }
 
 // Whether a block may have the number `k` in such a code.
-fn fits_block(objects: &[ObjectInfo], places: usize, k: usize, block: Block) -> bool
-    ensures { result ≡ fits_block objects.now places k block }
+fn fits_block(objects: &[ObjectInfo], positions: usize, k: usize, block: Block) -> bool
+    ensures { result ≡ fits_block objects.now positions k block }
 {
     is_named_block_at(objects, block.object)
         && is_none_or_below(k, block.around)
-        && fits_goes(places, block.after)
+        && fits_goes(positions, block.after)
 }
 
-// Whether all these blocks may stand at their places.
-fn fits_blocks(objects: &[ObjectInfo], places: usize, blocks: &[Block]) -> bool
-    ensures { result ≡ fits_blocks objects.now places blocks.now }
+// Whether all these blocks may stand at their positions.
+fn fits_blocks(objects: &[ObjectInfo], positions: usize, blocks: &[Block]) -> bool
+    ensures { result ≡ fits_blocks objects.now positions blocks.now }
 {
     blocks
         .iter()
         .enumerate()
-        .all(|(k, block)| fits_block(objects, places, k, *block))
+        .all(|(k, block)| fits_block(objects, positions, k, *block))
 }
 
 /// Whether a code may stand in a design. It goes once over its instructions and blocks, and over
@@ -108,18 +108,18 @@ pub fn fits_code(
 {
     let instructions = code.instructions.as_slice();
     let blocks = code.blocks.as_slice();
-    let places = instructions.len();
-    fits_goes(places, code.start)
+    let positions = instructions.len();
+    fits_goes(positions, code.start)
         && all_instructions_fit(
             objects,
             exprs,
             drivers,
             limits,
-            places,
+            positions,
             blocks.len(),
             instructions,
         )
-        && fits_blocks(objects, places, blocks)
+        && fits_blocks(objects, positions, blocks)
 }
 
 // Whether a wait may wait for this.

@@ -26,7 +26,7 @@ pub use change::{Change, Layer, Made};
 pub use code::{Block, Blocks, Code, Goes, Instruction, Instructions};
 pub use codes::{Limits, fits_code, fits_show, fits_statement, fits_wait};
 pub use operation::{
-    Arm, Arms, CaseKind, CaseTest, Drive, DriverIds, Leave, Loop, Operation, Pause, Places,
+    Arm, Arms, CaseKind, CaseTest, Drive, DriverIds, Leave, Loop, Operation, Pause, Positions,
     Returned, Schedule, Single,
 };
 pub use show::{ShowArg, ShowArgs, ShowCall, ShowTask};

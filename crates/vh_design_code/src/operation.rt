@@ -88,7 +88,7 @@ pub enum Loop {
     Turn,
 }
 
-/// A statement with one label that goes on at once.
+/// A statement with one value that goes on at once.
 #[derive(Clone, Copy)]
 pub enum Single {
     /// `$display` and its like.
@@ -107,7 +107,7 @@ pub enum Single {
 }
 
 /// Where branches begin, which contracts see as a list.
-pub type Places = Sequence<u32>;
+pub type Positions = Sequence<u32>;
 
 /// What an instruction does, in the order of the statements' table.
 #[derive(Drop)]
@@ -117,14 +117,14 @@ pub enum Operation {
         value: ExprId,
         targets: Targets,
     },
-    /// The first label of one with a delay: it reads the value in a context of so many digits, and
+    /// The first value of one with a delay: it reads the value in a context of so many digits, and
     /// waits.
     Hold {
         value: ExprId,
         width: u32,
         delay: Delay,
     },
-    /// Its second label: it assigns what was held.
+    /// Its second value: it assigns what was held.
     Store(Targets),
     Schedule(Boxed<Schedule>),
     Pause(Pause),
@@ -137,7 +137,7 @@ pub enum Operation {
     Case(Boxed<CaseTest>),
     Loop(Loop),
     /// It begins the branches, and goes on behind the join.
-    Fork(Places),
+    Fork(Positions),
     /// The end of an `initial` or of a branch.
     End,
     /// A call of a task or function: it writes the inputs, and goes on behind the body.

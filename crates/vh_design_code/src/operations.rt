@@ -1,7 +1,7 @@
 ghost use Rattle.std.specs.Prelude.{◌≡◌, nat_lt};
 ghost use Rattle.std.specs.List.{list_all};
 ghost use Rattle.vh_design_nodes.specs.Widths.{widest, all_signed};
-ghost use Rattle.vh_design_code.specs.Operations.{fits_goes, fits_delayed, fits_schedule, fits_pause, labels, fits_arm, fits_case, fits_loop, fits_result, fits_leave, fits_enter, fits_force, fits_write, fits_single, fits_drive, fits_operation};
+ghost use Rattle.vh_design_code.specs.Operations.{fits_goes, fits_delayed, fits_schedule, fits_pause, matched, fits_arm, fits_case, fits_loop, fits_result, fits_leave, fits_enter, fits_force, fits_write, fits_single, fits_drive, fits_operation};
 
 use crate::code::Goes;
 use crate::codes::Limits;
@@ -17,13 +17,13 @@ use vh_design_nodes::{
     is_width, same_sign, signed_of, width_of,
 };
 
-// Whether a code with so many places may go on there.
-pub(crate) fn fits_goes(places: usize, goes: Goes) -> bool
-    ensures { result ≡ fits_goes places goes }
+// Whether a code with so many positions may go on there.
+pub(crate) fn fits_goes(positions: usize, goes: Goes) -> bool
+    ensures { result ≡ fits_goes positions goes }
 {
     match goes {
         Goes::Back => true,
-        Goes::To(place) => (place as usize) < places,
+        Goes::To(place) => (place as usize) < positions,
     }
 }
 
@@ -67,22 +67,22 @@ fn fits_pause(exprs: usize, limits: Limits, pause: Pause) -> bool
 }
 
 // Whether a value of an item of a `case` may.
-fn fits_arm(exprs: usize, places: usize, arm: Arm) -> bool
-    ensures { result ≡ fits_arm exprs places arm }
+fn fits_arm(exprs: usize, positions: usize, arm: Arm) -> bool
+    ensures { result ≡ fits_arm exprs positions arm }
 {
-    is_before(exprs, arm.value) && fits_goes(places, arm.to)
+    is_before(exprs, arm.value) && fits_goes(positions, arm.to)
 }
 
 // Whether all values may.
-fn all_arms_fit(exprs: usize, places: usize, arms: &[Arm]) -> bool
-    ensures { result ≡ list_all (fits_arm exprs places) arms.now }
+fn all_arms_fit(exprs: usize, positions: usize, arms: &[Arm]) -> bool
+    ensures { result ≡ list_all (fits_arm exprs positions) arms.now }
 {
-    arms.iter().all(|arm| fits_arm(exprs, places, *arm))
+    arms.iter().all(|arm| fits_arm(exprs, positions, *arm))
 }
 
 // The greatest width of a subject and values.
-fn widest_label(exprs: &[ExprNode], subject: u32, arms: &[Arm]) -> u32
-    ensures { result ≡ widest exprs.now subject (labels arms.now) }
+fn widest_matched(exprs: &[ExprNode], subject: u32, arms: &[Arm]) -> u32
+    ensures { result ≡ widest exprs.now subject (matched arms.now) }
 {
     arms.iter()
         .map(|arm| arm.value)
@@ -90,8 +90,8 @@ fn widest_label(exprs: &[ExprNode], subject: u32, arms: &[Arm]) -> u32
 }
 
 // Whether all values are signed.
-fn all_labels_signed(exprs: &[ExprNode], arms: &[Arm]) -> bool
-    ensures { result ≡ all_signed exprs.now (labels arms.now) }
+fn all_matched_signed(exprs: &[ExprNode], arms: &[Arm]) -> bool
+    ensures { result ≡ all_signed exprs.now (matched arms.now) }
 {
     arms.iter()
         .map(|arm| arm.value)
@@ -99,36 +99,36 @@ fn all_labels_signed(exprs: &[ExprNode], arms: &[Arm]) -> bool
 }
 
 // Whether a `case` may stand there.
-fn fits_case(exprs: &[ExprNode], places: usize, case: &CaseTest) -> bool
-    ensures { result ≡ fits_case exprs.now places case.now }
+fn fits_case(exprs: &[ExprNode], positions: usize, case: &CaseTest) -> bool
+    ensures { result ≡ fits_case exprs.now positions case.now }
 {
     let arms = case.arms.as_slice();
     is_before(exprs.len(), case.subject)
-        && all_arms_fit(exprs.len(), places, arms)
-        && case.width == widest_label(exprs, width_of(exprs, case.subject), arms)
+        && all_arms_fit(exprs.len(), positions, arms)
+        && case.width == widest_matched(exprs, width_of(exprs, case.subject), arms)
         && is_width(case.width)
         && same_sign(
             case.signed,
-            signed_of(exprs, case.subject) && all_labels_signed(exprs, arms),
+            signed_of(exprs, case.subject) && all_matched_signed(exprs, arms),
         )
 }
 
 // Whether a turn of a loop may.
-fn fits_loop(exprs: usize, places: usize, turn: Loop) -> bool
-    ensures { result ≡ fits_loop exprs places turn }
+fn fits_loop(exprs: usize, positions: usize, turn: Loop) -> bool
+    ensures { result ≡ fits_loop exprs positions turn }
 {
     match turn {
-        Loop::Repeat { count, done } => is_before(exprs, count) && fits_goes(places, done),
-        Loop::Again { done } => fits_goes(places, done),
+        Loop::Repeat { count, done } => is_before(exprs, count) && fits_goes(positions, done),
+        Loop::Again { done } => fits_goes(positions, done),
         Loop::Turn => true,
     }
 }
 
-// Whether all these places are there.
-fn all_places_there(places: usize, branches: &[u32]) -> bool
-    ensures { result ≡ list_all (λ b. nat_lt b places) branches.now }
+// Whether all these positions are there.
+fn all_positions_there(positions: usize, branches: &[u32]) -> bool
+    ensures { result ≡ list_all (λ b. nat_lt b positions) branches.now }
 {
-    branches.iter().all(|branch| (*branch as usize) < places)
+    branches.iter().all(|branch| (*branch as usize) < positions)
 }
 
 // Whether a function's result may go there.
@@ -181,7 +181,7 @@ fn fits_write(objects: &[ObjectInfo], exprs: usize, object: ObjId, value: ExprId
     is_variable_at(objects, object) && is_before(exprs, value)
 }
 
-// Whether a statement with one label may stand there.
+// Whether a statement with one value may stand there.
 fn fits_single(objects: &[ObjectInfo], exprs: usize, shows: usize, single: Single) -> bool
     ensures { result ≡ fits_single objects.now exprs shows single }
 {
@@ -208,16 +208,16 @@ fn fits_drive(drivers: &[DriverInfo], exprs: usize, limits: Limits, drive: &Driv
         && has_wait(limits.waits, drive.wait)
 }
 
-// Whether an operation may stand in a code with so many places.
+// Whether an operation may stand in a code with so many positions.
 pub(crate) fn fits_operation(
     objects: &[ObjectInfo],
     exprs: &[ExprNode],
     drivers: &[DriverInfo],
     limits: Limits,
-    places: usize,
+    positions: usize,
     operation: &Operation,
 ) -> bool
-    ensures { result ≡ fits_operation objects.now exprs.now drivers.now limits places
+    ensures { result ≡ fits_operation objects.now exprs.now drivers.now limits positions
         operation.now }
 {
     let count = exprs.len();
@@ -242,10 +242,10 @@ pub(crate) fn fits_operation(
         Operation::Test {
             condition,
             otherwise,
-        } => is_before(count, *condition) && fits_goes(places, *otherwise),
-        Operation::Case(case) => fits_case(exprs, places, case.get()),
-        Operation::Loop(turn) => fits_loop(count, places, *turn),
-        Operation::Fork(branches) => all_places_there(places, branches.as_slice()),
+        } => is_before(count, *condition) && fits_goes(positions, *otherwise),
+        Operation::Case(case) => fits_case(exprs, positions, case.get()),
+        Operation::Loop(turn) => fits_loop(count, positions, *turn),
+        Operation::Fork(branches) => all_positions_there(positions, branches.as_slice()),
         Operation::End => true,
         Operation::Enter { routine, inputs } => {
             fits_enter(objects, count, *routine, inputs.as_slice())

@@ -84,7 +84,7 @@ fits_kind os precision e (kind.Logic first rest) = nat_lt first e && all_before 
 fits_kind os precision e (kind.Choice condition left right) = nat_lt condition e && nat_lt left e && nat_lt right e
 fits_kind os precision e (kind.Join first rest) = nat_lt first e && all_before e rest
 fits_kind os precision e (kind.Repeat count part) = nat_lt part e
-fits_kind os precision e (kind.Marked part signed) = nat_lt part e
+fits_kind os precision e (kind.WithSign part signed) = nat_lt part e
 fits_kind os precision e (kind.Time unit) = is_unit precision unit
 fits_kind os precision e (kind.Call function result arguments) =
     has_kind is_function os function && has_kind is_variable os result && all_before e arguments

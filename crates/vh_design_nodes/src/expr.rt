@@ -170,7 +170,7 @@ pub enum ExprKind {
         part: ExprId,
     },
     /// `$signed` or `$unsigned`.
-    Marked {
+    WithSign {
         part: ExprId,
         signed: bool,
     },

@@ -274,7 +274,7 @@ fn fits_kind(objects: &[ObjectInfo], precision: u8, e: usize, kind: &ExprKind) -
         }
         ExprKind::Join { first, rest } => is_before(e, *first) && all_before(e, rest.as_slice()),
         ExprKind::Repeat { part, .. } => is_before(e, *part),
-        ExprKind::Marked { part, .. } => is_before(e, *part),
+        ExprKind::WithSign { part, .. } => is_before(e, *part),
         ExprKind::Time { unit } => is_unit(precision, *unit),
         ExprKind::Call {
             function,

@@ -8,7 +8,7 @@ use Rattle.std.proofs.lemmas.List.{length-map, map_push}
 use Rattle.indexmap.specs.IndexMap.{insert_entry}
 use Rattle.vh_base.specs.declared.orders.SystfEntry.{SystfEntry}
 use Rattle.vh_design_systf.specs.Seen.{entries_seen, names_seen, IsKept}
-use Rattle.vh_design_systf.specs.Table.{is_built_in, names_of, place_of, has_name, with_entry}
+use Rattle.vh_design_systf.specs.Table.{is_built_in, names_of, position_of, has_name, with_entry}
 
 -- A name that no row has goes last.
 inserted : {A : Type 0} (eq : Vec ℕ A → Vec ℕ A → Bool) → ((x y : Vec ℕ A) → eq x y ≡ bytes_eq x.items y.items)
@@ -45,7 +45,7 @@ pub copied_some : {X : Type 0} (o : Option (Bor X)) → is_some o ≡ is_some (o
 copied_some None = refl
 copied_some (Some x) = refl
 
--- The place of a name among the rows.
+-- The position_named of a name among the rows.
 prefix_seen : {A : Type 0} (p : List ℕ → Bool) (rows : List (Vec ℕ A × SystfEntry))
     → prefix_len (λ x. not (p x)) (names_seen rows) ≡ prefix_len (λ k. not (p k.items)) (keys_of rows)
 prefix_seen p [] = refl
@@ -60,7 +60,7 @@ place_seen : {A : Type 0} (p : List ℕ → Bool) (rows : List (Vec ℕ A × Sys
 place_seen p rows = rw (length_seen rows, prefix_seen p rows) refl
 
 pub place_name : {A : Type 0} (name : List ℕ) (rows : List (Vec ℕ A × SystfEntry))
-    → IsKept rows → position (λ k. bytes_eq name k.items) (keys_of rows) ≡ place_of name (entries_seen rows)
+    → IsKept rows → position (λ k. bytes_eq name k.items) (keys_of rows) ≡ position_of name (entries_seen rows)
 place_name name rows kept = sym (place_seen (bytes_eq name) rows) ∙ ap (position (bytes_eq name)) kept.named
 
 pub if_small : (o : Option ℕ) (m : ℕ) → IfSome o (λ n. n < m) → m < 2 ^ 32 → IfSome o (λ n. n < 2 ^ 32)

@@ -24,9 +24,9 @@ is_built_in name = list_any (bytes_eq name) built_in_names
 abbrev pub names_of : List SystfEntry → List (List ℕ)
 names_of table = map (λ e. e.name) table
 
--- The place of a name, where it is there.
-abbrev pub place_of : List ℕ → List SystfEntry → Option ℕ
-place_of name table = position (bytes_eq name) (names_of table)
+-- The position_named of a name, where it is there.
+abbrev pub position_of : List ℕ → List SystfEntry → Option ℕ
+position_of name table = position (bytes_eq name) (names_of table)
 
 -- Is it there?
 abbrev pub has_name : List ℕ → List SystfEntry → Bool

@@ -1,5 +1,5 @@
 ghost use Rattle.std.specs.Prelude.{◌≡◌, ◌<◌, ◌≤◌, ◌+◌, ◌^◌, length, slice_get, Some, IfOk, IfSome, IsTrue, OnOk, ◌↔◌, List};
-ghost use Rattle.vh_design_systf.specs.Table.{has_name, place_of, with_entry, table_of};
+ghost use Rattle.vh_design_systf.specs.Table.{has_name, position_of, with_entry, table_of};
 
 use crate::built_in::is_built_in;
 use indexmap::IndexMap;
@@ -82,9 +82,9 @@ impl SystfTable {
         self.rows.get(name).is_some()
     }
 
-    // The place of a name.
-    fn place(&self, name: &[u8]) -> Option<usize>
-        ensures value { result ≡ place_of name.now self.now }
+    // The position_named of a name.
+    fn position_named(&self, name: &[u8]) -> Option<usize>
+        ensures value { result ≡ position_of name.now self.now }
         ensures below { IfSome result (λ n. n < length self.now) }
         ensures small { IfSome result (λ n. n < 2 ^ 32) }
     {
@@ -93,12 +93,12 @@ impl SystfTable {
 
     /// The number of the task or function of this name. It takes constant time.
     pub fn find(&self, name: &[u8]) -> Option<u32>
-        ensures value { result ≡ place_of name.now self.now }
+        ensures value { result ≡ position_of name.now self.now }
         ensures below { IfSome result (λ n. n < length self.now) }
     {
-        match self.place(name) {
+        match self.position_named(name) {
             None => None,
-            Some(place) => Some(place as u32),
+            Some(position_named) => Some(position_named as u32),
         }
     }
 

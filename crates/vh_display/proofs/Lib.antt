@@ -1,4 +1,4 @@
--- The places of a number, and the number of known digits
+-- The columns of a number, and the number of known digits
 pub mod TextsLemmas
 -- What a format shows, byte by byte
 pub mod FormatsLemmas

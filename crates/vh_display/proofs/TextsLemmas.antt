@@ -1,4 +1,4 @@
--- Lemmas on `specs/Texts.antt`: the places of the greatest number of a width, and the number of known digits.
+-- Lemmas on `specs/Texts.antt`: the columns of the greatest number of a width, and the number of known digits.
 use Rattle.std.proofs.Common.{◌≡◌, ◌∙◌, ◌<◌, ◌≤◌, ◌+◌, ◌-◌, ◌*◌, ◌/◌, ◌^◌, ◌==◌, ◌&&◌, nat_le, ℕ, zero, suc, Bool, true, false, List, length, get_or, drop, Some, slice_get, refl, sym, ap, arith}
 use Rattle.std.specs.Fmt.{decimal, digits}
 use Rattle.std.proofs.lemmas.Bool.{eqb-true, eqb-false, leb-true}
@@ -28,17 +28,17 @@ test_below (suc n) test k h lt =
     test_by (k == n) n test k refl (and_left (test n) (all_below n test) h) lt
     (test_below n test k (and_right (test n) (all_below n test) h))
 
-has_places : ℕ → Bool
-has_places w = (w * 1233 / 4096 + 1) == length (decimal (2 ^ w - 1))
+has_columns : ℕ → Bool
+has_columns w = (w * 1233 / 4096 + 1) == length (decimal (2 ^ w - 1))
 
-all_have_places : all_below (MAX_WIDTH + 1) has_places ≡ true
-unfolding all_below has_places digits
-all_have_places = refl
+all_have_columns : all_below (MAX_WIDTH + 1) has_columns ≡ true
+unfolding all_below has_columns digits
+all_have_columns = refl
 
--- The greatest number of a width has so many places.
-pub places_are : (w : ℕ) → w ≤ MAX_WIDTH → w * 1233 / 4096 + 1 ≡ length (decimal (2 ^ w - 1))
-unfolding has_places
-places_are w most = eqb-true (w * 1233 / 4096 + 1) (length (decimal (2 ^ w - 1))) (test_below (MAX_WIDTH + 1) has_places w all_have_places (omega arith))
+-- The greatest number of a width has so many columns.
+pub columns_are : (w : ℕ) → w ≤ MAX_WIDTH → w * 1233 / 4096 + 1 ≡ length (decimal (2 ^ w - 1))
+unfolding has_columns
+columns_are w most = eqb-true (w * 1233 / 4096 + 1) (length (decimal (2 ^ w - 1))) (test_below (MAX_WIDTH + 1) has_columns w all_have_columns (omega arith))
 
 -- The number of the digits from a place on.
 known_below : (ds : List Digit) (k n : ℕ) → 1 ≤ k → length ds ≤ MAX_WIDTH → n ≡ number_of (drop k ds) → n < 2 ^ 63

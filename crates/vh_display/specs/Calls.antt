@@ -21,11 +21,11 @@ use Rattle.vh_display.specs.Formats.{front}
 
 -- A value of an expression as a conversion shows it, where a module's unit is so many times the precision. (17.1.1)
 abbrev pub converted : Shape → Contents → ℕ → Conversion → ℕ → List ℕ
-converted d s ratio how e = value_text ratio how.form how.places (alone (value_of d s) d.exprs e)
+converted d s ratio how e = value_text ratio how.form how.columns (alone (value_of d s) d.exprs e)
 
 -- `%d`. (17.1)
 abbrev pub plain : Conversion
-plain = record { form = form.Number radix.Decimal; places = None }
+plain = record { form = form.Number radix.Decimal; columns = None }
 
 -- An argument that no conversion waits for: none is a space, a string is a format, a value is shown as `%d`. (17.1)
 abbrev pub argument : (Conversion → ℕ → List ℕ) → (List ℕ → List ℕ) → ShowArg → List ℕ

@@ -29,17 +29,17 @@ letter_of b =
     (if is_letter 109 b then Some letter.Name else
     (if b == 37 then Some letter.Percent else None))))))))
 
--- One more digit of a number of places, of which 999 are the most. (own)
+-- One more digit of a number of columns, of which 999 are the most. (own)
 abbrev pub with_digit : Option ℕ → ℕ → ℕ
-with_digit places b = min MOST_PLACES (10 * unwrap_or places 0 + (b - 48))
+with_digit columns b = min MOST_PLACES (10 * unwrap_or columns 0 + (b - 48))
 
 abbrev pub is_digit : ℕ → Bool
 is_digit b = nat_le 48 b && nat_le b 57
 
--- A text in so many places, or as it is. (own)
-abbrev pub in_places : Option ℕ → List ℕ → List ℕ
-in_places None t = t
-in_places (Some places) t = at_right places t
+-- A text in so many columns, or as it is. (own)
+abbrev pub in_columns : Option ℕ → List ℕ → List ℕ
+in_columns None t = t
+in_columns (Some columns) t = at_right columns t
 
 -- What a byte of a format shows by itself, and how the format goes on.
 pub record Step : Type 0 where
@@ -49,20 +49,20 @@ pub record Step : Type 0 where
 -- The letter behind `%` and its digits; `%m` shows the name of the scope, and what is no conversion shows
 -- nothing. (17.1.1.1 and 17.1.1.6; own for the last)
 abbrev pub at_letter : List ℕ → Option ℕ → Option Letter → Step
-at_letter name places None = record { text = []; next = next.On mode.Plain }
-at_letter name places (Some letter.Percent) = record { text = 37 ∷ []; next = next.On mode.Plain }
-at_letter name places (Some letter.Name) = record { text = in_places places name; next = next.On mode.Plain }
-at_letter name places (Some (letter.Value f)) =
-    record { text = []; next = next.Wants (record { form = f; places = places }) }
+at_letter name columns None = record { text = []; next = next.On mode.Plain }
+at_letter name columns (Some letter.Percent) = record { text = 37 ∷ []; next = next.On mode.Plain }
+at_letter name columns (Some letter.Name) = record { text = in_columns columns name; next = next.On mode.Plain }
+at_letter name columns (Some (letter.Value f)) =
+    record { text = []; next = next.Wants (record { form = f; columns = columns }) }
 
 -- A byte, by what stands before it. (17.1.1.1)
 abbrev pub step_of : List ℕ → Mode → ℕ → Step
 step_of name mode.Plain b =
     if b == 37 then record { text = []; next = next.On (mode.Open None) }
     else record { text = b ∷ []; next = next.On mode.Plain }
-step_of name (mode.Open places) b =
-    if is_digit b then record { text = []; next = next.On (mode.Open (Some (with_digit places b))) }
-    else at_letter name places (letter_of b)
+step_of name (mode.Open columns) b =
+    if is_digit b then record { text = []; next = next.On (mode.Open (Some (with_digit columns b))) }
+    else at_letter name columns (letter_of b)
 
 -- A format up to its first conversion that wants a value: the text, that conversion, and what is behind it.
 pub record Front : Type 0 where

@@ -4,11 +4,11 @@ use Rattle.std.specs.List.{fold, list_all}
 use Rattle.vh_display.specs.declared.conversion.Form.{Form}
 use Rattle.vh_display.specs.declared.conversion.Letter.TheVariants as letter
 use Rattle.vh_display.specs.declared.format.Mode.TheVariants as mode
-use Rattle.vh_display.specs.Formats.{Front, front, with_text, in_places, is_digit, letter_of, with_digit}
+use Rattle.vh_display.specs.Formats.{Front, front, with_text, in_columns, is_digit, letter_of, with_digit}
 
--- The places that some digits write; none where there are none.
-abbrev pub places_of : List ℕ → Option ℕ
-places_of digits = fold (λ places b. Some (with_digit places b)) None digits
+-- The columns that some digits write; none where there are none.
+abbrev pub columns_of : List ℕ → Option ℕ
+columns_of digits = fold (λ columns b. Some (with_digit columns b)) None digits
 
 -- A format from its begin.
 abbrev pub format_front : List ℕ → List ℕ → Front
@@ -24,13 +24,13 @@ abbrev pub WantsValues : Type 0
 WantsValues = (name digits rest : List ℕ) (b : ℕ) (f : Form) → list_all is_digit digits ≡ true → is_digit b ≡ false
     → letter_of b ≡ Some (letter.Value f)
     → format_front name (37 ∷ digits ++ b ∷ rest)
-    ≡ record { text = []; wants = Some (record { form = f; places = places_of digits }, rest) }
+    ≡ record { text = []; wants = Some (record { form = f; columns = columns_of digits }, rest) }
 
--- `%m` shows the name of the scope, in as many places. (17.1.1.6)
+-- `%m` shows the name of the scope, in as many columns. (17.1.1.6)
 abbrev pub ShowsNames : Type 0
 ShowsNames = (name digits rest : List ℕ) (b : ℕ) → list_all is_digit digits ≡ true → is_digit b ≡ false
     → letter_of b ≡ Some letter.Name
-    → format_front name (37 ∷ digits ++ b ∷ rest) ≡ with_text (in_places (places_of digits) name) (format_front name rest)
+    → format_front name (37 ∷ digits ++ b ∷ rest) ≡ with_text (in_columns (columns_of digits) name) (format_front name rest)
 
 -- `%%` shows `%`. (17.1.1)
 abbrev pub ShowsPercents : Type 0

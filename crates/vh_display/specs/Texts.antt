@@ -11,17 +11,17 @@ use Rattle.vh_display.specs.declared.conversion.Form.{Form}
 use Rattle.vh_display.specs.declared.conversion.Form.TheVariants as form
 use Rattle.vh_display.specs.declared.texts.TheConstants.{TIME_PLACES}
 
--- A text at the right of so many places, with spaces before it; a longer one as it is. (17.1.1.2)
+-- A text at the right of so many columns, with spaces before it; a longer one as it is. (17.1.1.2)
 abbrev pub at_right : ℕ → List ℕ → List ℕ
-at_right places t = replicate (places - length t) 32 ++ t
+at_right columns t = replicate (columns - length t) 32 ++ t
 
 -- Without leading zeros, of which one stays. (17.1.1.2)
 abbrev pub trimmed : List ℕ → List ℕ
 trimmed t = drop (min (prefix_len (λ b. b == 48) t) (length t - 1)) t
 
--- The places of `%d`: those of the greatest number of the width, and one more for a sign. (17.1.1.2; own for the sign)
-abbrev pub decimal_places : Vector → ℕ
-decimal_places v = length (decimal (2 ^ width_of v - 1)) + (if v.signed then 1 else 0)
+-- The columns of `%d`: those of the greatest number of the width, and one more for a sign. (17.1.1.2; own for the sign)
+abbrev pub decimal_columns : Vector → ℕ
+decimal_columns v = length (decimal (2 ^ width_of v - 1)) + (if v.signed then 1 else 0)
 
 -- An integer so many times. (own)
 abbrev pub scaled : ℕ → ℤ → List ℕ
@@ -43,15 +43,15 @@ plain_text ratio form.Time v = time_text ratio v
 plain_text ratio form.Text v = string_text v
 plain_text ratio form.Character v = number_of v.digits % 256 ∷ []
 
--- In how many places at least, where the conversion has no digits. (17.1.1.2)
-abbrev pub own_places : Form → Vector → ℕ
-own_places (form.Number radix.Binary) v = 0
-own_places (form.Number radix.Octal) v = 0
-own_places (form.Number radix.Hex) v = 0
-own_places (form.Number radix.Decimal) v = decimal_places v
-own_places form.Time v = TIME_PLACES
-own_places form.Text v = 0
-own_places form.Character v = 0
+-- In how many columns at least, where the conversion has no digits. (17.1.1.2)
+abbrev pub own_columns : Form → Vector → ℕ
+own_columns (form.Number radix.Binary) v = 0
+own_columns (form.Number radix.Octal) v = 0
+own_columns (form.Number radix.Hex) v = 0
+own_columns (form.Number radix.Decimal) v = decimal_columns v
+own_columns form.Time v = TIME_PLACES
+own_columns form.Text v = 0
+own_columns form.Character v = 0
 
 -- Has the shortest form no leading zeros? (17.1.1.2)
 abbrev pub is_trimmed : Form → Bool
@@ -63,8 +63,8 @@ is_trimmed form.Time = false
 is_trimmed form.Text = false
 is_trimmed form.Character = false
 
--- A value without digits, or in its shortest form in at least so many places. (17.1.1.2; own for digits but 0)
+-- A value without digits, or in its shortest form in at least so many columns. (17.1.1.2; own for digits but 0)
 abbrev pub value_text : ℕ → Form → Option ℕ → Vector → List ℕ
-value_text ratio f None v = at_right (own_places f v) (plain_text ratio f v)
-value_text ratio f (Some places) v =
-    at_right places (if is_trimmed f then trimmed (plain_text ratio f v) else plain_text ratio f v)
+value_text ratio f None v = at_right (own_columns f v) (plain_text ratio f v)
+value_text ratio f (Some columns) v =
+    at_right columns (if is_trimmed f then trimmed (plain_text ratio f v) else plain_text ratio f v)

@@ -19,7 +19,7 @@ use vh_text::Radix;
 // How an argument is shown that no conversion waits for.
 const PLAIN: Conversion = Conversion {
     form: Form::Number(Radix::Decimal),
-    places: None,
+    columns: None,
 };
 
 /// The text of a display call, with the values that the store holds (IEEE 1364-2005, 17.1).

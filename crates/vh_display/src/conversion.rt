@@ -16,7 +16,7 @@ pub(crate) enum Form {
 #[derive(Clone, Copy)]
 pub(crate) struct Conversion {
     pub(crate) form: Form,
-    pub(crate) places: Option<u32>,
+    pub(crate) columns: Option<u32>,
 }
 
 // What a letter behind `%` asks for: a value, the scope's name, or `%` itself.

@@ -1,13 +1,13 @@
 ghost use Rattle.std.specs.Prelude.{◌≡◌, ◌++◌, IfOk, OnOk};
 ghost use Rattle.std.specs.Option.{option_map};
 ghost use Rattle.vh_display.specs.Texts.{at_right};
-ghost use Rattle.vh_display.specs.Formats.{with_digit, in_places, at_letter, step_of, front};
+ghost use Rattle.vh_display.specs.Formats.{with_digit, in_columns, at_letter, step_of, front};
 
 use crate::conversion::{Conversion, Letter, letter_of};
 use crate::texts::push_at_right;
 use vh_base::NoMemory;
 
-/// The most places that a conversion may ask for (own).
+/// The most columns that a conversion may ask for (own).
 pub const MOST_PLACES: u32 = 999;
 
 // Where a format stands: between conversions, or behind `%` and some digits.
@@ -24,25 +24,25 @@ pub(crate) enum Next {
     Wants(Conversion),
 }
 
-// The places with one more digit.
-fn with_digit(places: Option<u32>, byte: u8) -> u32
-    ensures { result ≡ with_digit places byte }
+// The columns with one more digit.
+fn with_digit(columns: Option<u32>, byte: u8) -> u32
+    ensures { result ≡ with_digit columns byte }
 {
     let digit = u32::from(byte.saturating_sub(b'0'));
-    places
+    columns
         .unwrap_or(0)
         .saturating_mul(10)
         .saturating_add(digit)
         .min(MOST_PLACES)
 }
 
-// A text in so many places, or as it is.
-fn push_in_places(out: &mut Vec<u8>, places: Option<u32>, text: &[u8]) -> Result<(), NoMemory>
-    ensures { OnOk result (out.new.items ≡ out.old.items ++ in_places places text.now) }
+// A text in so many columns, or as it is.
+fn push_in_columns(out: &mut Vec<u8>, columns: Option<u32>, text: &[u8]) -> Result<(), NoMemory>
+    ensures { OnOk result (out.new.items ≡ out.old.items ++ in_columns columns text.now) }
 {
-    match places {
+    match columns {
         None => out.extend_from_slice(text)?,
-        Some(places) => push_at_right(out, places, text)?,
+        Some(columns) => push_at_right(out, columns, text)?,
     }
     Ok(())
 }
@@ -51,18 +51,18 @@ fn push_in_places(out: &mut Vec<u8>, places: Option<u32>, text: &[u8]) -> Result
 fn at_letter(
     out: &mut Vec<u8>,
     name: &[u8],
-    places: Option<u32>,
+    columns: Option<u32>,
     letter: Option<Letter>,
 ) -> Result<Next, NoMemory>
     ensures text { IfOk result (λ n.
-        out.new.items ≡ out.old.items ++ (at_letter name.now places letter).text) }
-    ensures next { IfOk result (λ n. n ≡ (at_letter name.now places letter).next) }
+        out.new.items ≡ out.old.items ++ (at_letter name.now columns letter).text) }
+    ensures next { IfOk result (λ n. n ≡ (at_letter name.now columns letter).next) }
 {
     match letter {
         None => {}
         Some(Letter::Percent) => out.push(b'%')?,
-        Some(Letter::Name) => push_in_places(out, places, name)?,
-        Some(Letter::Value(form)) => return Ok(Next::Wants(Conversion { form, places })),
+        Some(Letter::Name) => push_in_columns(out, columns, name)?,
+        Some(Letter::Value(form)) => return Ok(Next::Wants(Conversion { form, columns })),
     }
     Ok(Next::On(Mode::Plain))
 }
@@ -81,11 +81,11 @@ fn step(out: &mut Vec<u8>, name: &[u8], mode: Mode, byte: u8) -> Result<Next, No
             out.push(byte)?;
             Ok(Next::On(Mode::Plain))
         }
-        Mode::Open(places) => {
+        Mode::Open(columns) => {
             if byte.is_ascii_digit() {
-                return Ok(Next::On(Mode::Open(Some(with_digit(places, byte)))));
+                return Ok(Next::On(Mode::Open(Some(with_digit(columns, byte)))));
             }
-            at_letter(out, name, places, letter_of(byte))
+            at_letter(out, name, columns, letter_of(byte))
         }
     }
 }

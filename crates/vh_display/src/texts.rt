@@ -1,7 +1,7 @@
 ghost use Rattle.std.specs.Prelude.{◌≡◌, ◌≤◌, ◌++◌, ◌^◌, ◌==◌, replicate, IfOk, OnOk};
 ghost use Rattle.std.specs.List.{prefix_len};
 ghost use Rattle.vh_logic.specs.Number.{number_of, digit_value};
-ghost use Rattle.vh_display.specs.Texts.{at_right, trimmed, decimal_places, time_text, string_text, plain_text, own_places, is_trimmed, value_text};
+ghost use Rattle.vh_display.specs.Texts.{at_right, trimmed, decimal_columns, time_text, string_text, plain_text, own_columns, is_trimmed, value_text};
 
 use crate::conversion::{Conversion, Form};
 use std::alloc::Global;
@@ -10,7 +10,7 @@ use vh_eval::integer;
 use vh_logic::{Digit, Plane, Vec4};
 use vh_text::{Radix, text_of};
 
-/// The places of `%t` (IEEE 1364-2005, 17.1.1.5).
+/// The columns of `%t` (IEEE 1364-2005, 17.1.1.5).
 pub const TIME_PLACES: u32 = 20;
 
 // Spaces.
@@ -23,11 +23,11 @@ fn push_spaces(out: &mut Vec<u8>, count: usize) -> Result<(), NoMemory>
     Ok(())
 }
 
-// A text at the right of so many places.
-pub(crate) fn push_at_right(out: &mut Vec<u8>, places: u32, text: &[u8]) -> Result<(), NoMemory>
-    ensures { OnOk result (out.new.items ≡ out.old.items ++ at_right places text.now) }
+// A text at the right of so many columns.
+pub(crate) fn push_at_right(out: &mut Vec<u8>, columns: u32, text: &[u8]) -> Result<(), NoMemory>
+    ensures { OnOk result (out.new.items ≡ out.old.items ++ at_right columns text.now) }
 {
-    push_spaces(out, (places as usize).saturating_sub(text.len()))?;
+    push_spaces(out, (columns as usize).saturating_sub(text.len()))?;
     out.extend_from_slice(text)?;
     Ok(())
 }
@@ -47,13 +47,13 @@ fn trimmed(text: &[u8]) -> &[u8]
     &text[zeros..]
 }
 
-// The places of `%d`: of the greatest number of the width, and one for a sign.
-fn decimal_places(v: &Vec4) -> u32
-    ensures { result ≡ decimal_places v.now }
+// The columns of `%d`: of the greatest number of the width, and one for a sign.
+fn decimal_columns(v: &Vec4) -> u32
+    ensures { result ≡ decimal_columns v.now }
 {
     // A digit of base 2 has 1,233 / 4,096 digits of base 10.
-    let places = v.width() * 1233 / 4096 + 1;
-    if v.is_signed() { places + 1 } else { places }
+    let columns = v.width() * 1233 / 4096 + 1;
+    if v.is_signed() { columns + 1 } else { columns }
 }
 
 // A digit's number; x and z count as 0.
@@ -115,12 +115,12 @@ fn plain_text(alloc: Global, ratio: u64, form: Form, v: &Vec4) -> Result<Vec<u8>
     }
 }
 
-// In how many places at least, where the conversion has no digits.
-fn own_places(form: Form, v: &Vec4) -> u32
-    ensures { result ≡ own_places form v.now }
+// In how many columns at least, where the conversion has no digits.
+fn own_columns(form: Form, v: &Vec4) -> u32
+    ensures { result ≡ own_columns form v.now }
 {
     match form {
-        Form::Number(Radix::Decimal) => decimal_places(v),
+        Form::Number(Radix::Decimal) => decimal_columns(v),
         Form::Time => TIME_PLACES,
         Form::Number(Radix::Binary | Radix::Octal | Radix::Hex) | Form::Text | Form::Character => 0,
     }
@@ -146,12 +146,12 @@ pub(crate) fn push_value(
 ) -> Result<(), NoMemory>
     requires { ratio ≤ 10 ^ 17 }
     ensures { OnOk result (out.new.items
-        ≡ out.old.items ++ value_text ratio how.form how.places v.now) }
+        ≡ out.old.items ++ value_text ratio how.form how.columns v.now) }
 {
     let text = plain_text(alloc, ratio, how.form, v)?;
-    match how.places {
-        None => push_at_right(out, own_places(how.form, v), &text),
-        Some(places) if is_trimmed(how.form) => push_at_right(out, places, trimmed(&text)),
-        Some(places) => push_at_right(out, places, &text),
+    match how.columns {
+        None => push_at_right(out, own_columns(how.form, v), &text),
+        Some(columns) if is_trimmed(how.form) => push_at_right(out, columns, trimmed(&text)),
+        Some(columns) => push_at_right(out, columns, &text),
     }
 }

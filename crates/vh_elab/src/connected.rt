@@ -131,7 +131,7 @@ fn entry_for<'a>(
     if by_place {
         return conns.get(number);
     }
-    let place = index.place(name)?;
+    let place = index.position(name)?;
     conns.get(place as usize)
 }
 
@@ -155,7 +155,7 @@ fn outer_for<'a>(
 fn is_first(index: &Index, number: usize, name: &[u8]) -> bool
     ensures { result ≡ is_first index.now number name.now }
 {
-    match index.place(name) {
+    match index.position(name) {
         None => false,
         Some(place) => place as usize == number,
     }

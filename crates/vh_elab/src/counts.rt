@@ -24,7 +24,7 @@ fn operators_in(kind: &ExprKind) -> usize
         | ExprKind::Selected(_)
         | ExprKind::Join { .. }
         | ExprKind::Repeat { .. }
-        | ExprKind::Marked { .. }
+        | ExprKind::WithSign { .. }
         | ExprKind::Time { .. }
         | ExprKind::Call { .. }
         | ExprKind::SysCall(_) => 0,

@@ -59,7 +59,7 @@ fn module_named<'a, 'b>(modules: Modules<'a, 'b>, name: &[u8]) -> Option<&'b Por
     ensures { option_map (λ p. module_tree p.now) result
         ≡ module_named (source_seen modules.entry) name.now }
 {
-    let number = modules.names.place(name)?;
+    let number = modules.names.position(name)?;
     modules.ports.get(number as usize)
 }
 

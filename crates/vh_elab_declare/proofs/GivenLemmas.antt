@@ -2,7 +2,7 @@
 use Rattle.std.proofs.Common.{◌≡◌, ◌∙◌, ◌++◌, ℕ, zero, suc, List, [], ◌∷◌, length, map, Option, Some, None, refl, ap, sym, arith}
 use Rattle.std.specs.Prelude.{slice_get}
 use Rattle.std.specs.Option.{option_and_then, option_map}
-use Rattle.vh_elab_index.specs.First.{place_in}
+use Rattle.vh_elab_index.specs.First.{position_in}
 use Rattle.vh_logic.specs.Vector.{Vector}
 use Rattle.vh_elab_declare.specs.Constants.{given_for, paired}
 
@@ -31,10 +31,10 @@ value-paired (m ∷ ns) (w ∷ vs) (suc k) h =
 
 -- The value of a name: that at the place of the first of them.
 pub given-at : (ns : List (List ℕ)) (vs : List Vector) (name : List ℕ) → length ns ≡ length vs
-    → given_for (paired ns vs) name ≡ option_and_then (slice_get vs) (place_in ns name)
+    → given_for (paired ns vs) name ≡ option_and_then (slice_get vs) (position_in ns name)
 given-at ns vs name h =
-    ap (λ names. option_map (λ (e : List ℕ × Vector). e.1) (option_and_then (slice_get (paired ns vs)) (place_in names name))) (names-paired ns vs h)
-    ∙ by (place_in ns name)
+    ap (λ names. option_map (λ (e : List ℕ × Vector). e.1) (option_and_then (slice_get (paired ns vs)) (position_in names name))) (names-paired ns vs h)
+    ∙ by (position_in ns name)
   where
     by : (o : Option ℕ) → option_map (λ (e : List ℕ × Vector). e.1) (option_and_then (slice_get (paired ns vs)) o)
         ≡ option_and_then (slice_get vs) o

@@ -50,7 +50,7 @@ impl<'a> Given<'a> {
     pub fn of(&self, name: &[u8]) -> Option<Vec4>
         ensures { result ≡ given_for self.now name.now }
     {
-        match self.names.place(name) {
+        match self.names.position(name) {
             None => None,
             Some(place) => value_at(&self.values, place),
         }

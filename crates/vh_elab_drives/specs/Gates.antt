@@ -22,9 +22,9 @@ use Rattle.vh_bind.specs.Steps.{Step, ◌>>=◌, pure}
 use Rattle.vh_bind.specs.Constants.{chain_pushed, selected_pushed, unary_pushed, whole_of}
 use Rattle.vh_bind_stmt.specs.Calls.{Surroundings}
 use Rattle.vh_lower_flow.specs.declared.code_kind.CodeKind.TheVariants as of
-use Rattle.vh_lower.specs.Labels.{with_label}
+use Rattle.vh_lower.specs.Instructions.{with_operation}
 use Rattle.vh_lower.specs.Making as M
-use Rattle.vh_lower.specs.Making.{Making, performed, reading_from, mark}
+use Rattle.vh_lower.specs.Making.{Making, performed, reading_from, exprs_so_far}
 use Rattle.vh_lower.specs.Processes.{drive_at, plain_code}
 use Rattle.vh_lower.specs.Statements.{value_of, delay_of}
 
@@ -81,10 +81,10 @@ abbrev pub gate_delay : Surroundings → List Operation → Option DelayTree →
 gate_delay w before None = M.pure (None, before)
 gate_delay w before (Some d) = M.◌>>=◌ (delay_of w before d) (λ x. M.pure (Some x.0, x.1))
 
--- Its label, behind all calls: it waits for what its inputs read, whose nodes stand from `from` on.
+-- Its instruction, behind all calls: it waits for what its inputs read, whose nodes stand from `from` on.
 abbrev pub driving_from : List ℕ → ℕ → Option Delay → ℕ × List Operation → Making Code
 driving_from drivers from delay v =
-    M.◌>>=◌ (reading_from from) (λ t. M.pure (plain_code of.Assign (with_label v.1 (drive_at drivers v.0 delay t))))
+    M.◌>>=◌ (reading_from from) (λ t. M.pure (plain_code of.Assign (with_operation v.1 (drive_at drivers v.0 delay t))))
 
 abbrev pub gate_code : Surroundings → Place → GateType → List ℕ → ℕ → Option Delay → ℕ → List ℕ → List Operation → Making Code
 gate_code w place g drivers from delay e es before =
@@ -93,6 +93,6 @@ gate_code w place g drivers from delay e es before =
 -- What an output port drives its outer nets with: the inner net or variable. (12.3.9)
 abbrev pub port_code : Surroundings → Place → List ℕ → ℕ → Making Code
 port_code w place drivers inner =
-    M.◌>>=◌ mark (λ from.
+    M.◌>>=◌ exprs_so_far (λ from.
     M.◌>>=◌ (performed w [] (selected_pushed w.scope place (whole_of inner) (Some select.Whole)))
     (driving_from drivers from None))

@@ -14,7 +14,7 @@ use Rattle.vh_design_nodes.specs.declared.expr.Select.TheVariants as select
 use Rattle.vh_design_nodes.specs.declared.object.ObjectInfo.{ObjectInfo}
 use Rattle.vh_design_nodes.specs.Kinds.{is_net}
 use Rattle.vh_design_nodes.specs.Fits.{has_kind, is_width}
-use Rattle.vh_eval.specs.Selects.{address_of, place_of, lowest_index}
+use Rattle.vh_eval.specs.Selects.{address_of, position_of, lowest_index}
 use Rattle.vh_ast.specs.Expressions.{ExprTree, expr, ExprFormTree, number, text, named, call, system, paren, concat, repeat, unary, chain, choice, Exprs, no_expr, one_expr, NameTree, start_of, SelTree, no_sel, index_sel, both_sel, part_sel, PartTree, at, range, up, down}
 use Rattle.vh_ast.specs.Expressions as E
 use Rattle.vh_ast.specs.Statements.{LvPartTree, opened, target, closed, LvTree}
@@ -50,7 +50,7 @@ placed os o width (negsuc n) =
 
 abbrev pub indexed : List ObjectInfo → ℕ → Range → Bool → ℕ → Option ℤ → DriverInfo
 indexed os o r upwards width None = past os o width
-indexed os o r upwards width (Some i) = placed os o width (place_of r (lowest_index r upwards i width))
+indexed os o r upwards width (Some i) = placed os o width (position_of r (lowest_index r upwards i width))
 
 -- Selects are constant: one that isn't known, or is outside, drives no digit. (own)
 abbrev pub bit_driver : Scope → ℕ → Range → ExprTree → Outcome (Option DriverInfo)
@@ -60,7 +60,7 @@ bit_driver s o r i =
 abbrev pub slice_driver : List ObjectInfo → ℕ → Select → Option DriverInfo
 slice_driver os o select.Whole = None
 slice_driver os o (select.Bit r e) = None
-slice_driver os o (select.Slice r lowest width) = Some (placed os o width (place_of r (pos lowest)))
+slice_driver os o (select.Slice r lowest width) = Some (placed os o width (position_of r (pos lowest)))
 slice_driver os o (select.Indexed upwards r e width) = None
 
 abbrev pub range_driver : Scope → Place → ℕ → Range → ExprTree → ExprTree → Outcome (Option DriverInfo)

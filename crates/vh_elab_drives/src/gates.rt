@@ -240,7 +240,7 @@ pub fn gate_input(
     Ok(value)
 }
 
-// The code of a process that drives so, behind some labels.
+// The code of a process that drives so, behind some instructions.
 fn driving_from(
     alloc: Global,
     added: &mut Added,

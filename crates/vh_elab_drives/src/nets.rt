@@ -1,7 +1,7 @@
 ghost use Rattle.std.specs.Prelude.{◌≡◌, ◌^◌, ◌<ℤ◌, neg_ℤ, pos, Some, IfSome};
 ghost use Rattle.vh_design_nodes.specs.Fits.{has_kind};
 ghost use Rattle.vh_design_nodes.specs.Kinds;
-ghost use Rattle.vh_eval.specs.Selects.{address_of, lowest_index, place_of};
+ghost use Rattle.vh_eval.specs.Selects.{address_of, lowest_index, position_of};
 ghost use Rattle.vh_ast.specs.Views.{expr_tree, name_tree, part_by, sel_tree};
 ghost use Rattle.vh_bind.specs.Scopes.{here};
 ghost use Rattle.vh_bind.specs.Steps.{Gives};
@@ -76,10 +76,10 @@ fn placed(objects: &[ObjectInfo], object: ObjId, width: u32, place: i128) -> Dri
 }
 
 // The place of an index in a net that was declared so.
-fn place_of(range: Range, index: i128) -> i128
+fn position_of(range: Range, index: i128) -> i128
     requires below { index <ℤ pos (2 ^ 65) }
     requires above { neg_ℤ (pos (2 ^ 65)) <ℤ index }
-    ensures value { result ≡ place_of range index }
+    ensures value { result ≡ position_of range index }
 {
     let right = i128::from(range.right);
     if range.left >= range.right {
@@ -120,7 +120,7 @@ fn indexed(
     match index {
         None => past(objects, object, width),
         Some(index) => {
-            let place = place_of(range, lowest_index(range, up, index, width));
+            let place = position_of(range, lowest_index(range, up, index, width));
             placed(objects, object, width, place)
         }
     }
@@ -154,7 +154,7 @@ fn slice_driver(objects: &[ObjectInfo], object: ObjId, select: Select) -> Option
             lowest,
             width,
         } => {
-            let place = place_of(range, i128::from(lowest));
+            let place = position_of(range, i128::from(lowest));
             Some(placed(objects, object, width, place))
         }
         Select::Whole | Select::Bit { .. } | Select::Indexed { .. } => None,

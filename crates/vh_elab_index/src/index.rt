@@ -1,5 +1,5 @@
 ghost use Rattle.std.specs.Prelude.{◌≡◌, ◌++◌, ◌∷◌, [], IfOk};
-ghost use Rattle.vh_elab_index.specs.First.{place_in};
+ghost use Rattle.vh_elab_index.specs.First.{position_in};
 
 use indexmap::IndexMap;
 use std::alloc::Global;
@@ -10,7 +10,7 @@ use vh_base::NoMemory;
 #[derive(Drop)]
 pub struct Index<'a> {
     names: Vec<&'a [u8]>,
-    places: IndexMap<Vec<u8>, u32>,
+    positions: IndexMap<Vec<u8>, u32>,
 }
 
 impl<'a> Model for Index<'a> {
@@ -22,7 +22,7 @@ impl<'a> Model for Index<'a> {
 
     ghost view = { λ i. names_seen i.names.items };
 
-    ghost invariant = { λ i. IsIndexOf (names_seen i.names.items) (rows_seen i.places.entries) };
+    ghost invariant = { λ i. IsIndexOf (names_seen i.names.items) (rows_seen i.positions.entries) };
 }
 
 impl<'a> Index<'a> {
@@ -32,15 +32,15 @@ impl<'a> Index<'a> {
     {
         Index {
             names: Vec::new(alloc),
-            places: IndexMap::new(alloc),
+            positions: IndexMap::new(alloc),
         }
     }
 
-    /// The place of the first of a name, from 0.
-    pub fn place(&self, name: &[u8]) -> Option<u32>
-        ensures { result ≡ place_in self.now name.now }
+    /// The position of the first of a name, from 0.
+    pub fn position(&self, name: &[u8]) -> Option<u32>
+        ensures { result ≡ position_in self.now name.now }
     {
-        self.places.get(name).copied()
+        self.positions.get(name).copied()
     }
 
     /// The same names with one more behind them.
@@ -49,16 +49,16 @@ impl<'a> Index<'a> {
     {
         let Index {
             mut names,
-            mut places,
+            mut positions,
         } = self;
-        let Ok(place) = u32::try_from(names.len()) else {
+        let Ok(position) = u32::try_from(names.len()) else {
             return Err(NoMemory);
         };
-        if places.get(name).is_none() {
+        if positions.get(name).is_none() {
             let key = Vec::from_slice(alloc, name)?;
-            places.insert(key, place)?;
+            positions.insert(key, position)?;
         }
         names.push(name)?;
-        Ok(Index { names, places })
+        Ok(Index { names, positions })
     }
 }

@@ -13,7 +13,7 @@ use Rattle.vh_bind_scope.specs.LookUp.{found}
 use Rattle.vh_elab_ports.specs.Ports.{header_directed}
 use Rattle.vh_elab_instances.specs.declared.blocks.TheConstants.{MOST_NUMBERS, MOST_TURNS}
 use Rattle.vh_elab_sites.specs.Blocks.{BlockName, BlockText, Choice, GenvarAt, neither, holds, fails, loop, turn, end_of_loop, block_place, is_lone, name_bytes, name_place, text_bytes}
-use Rattle.vh_elab_sites.specs.Sites.{Sites, Standing, gen_block, loop_name, own_item, pars_sites, plain_sites, ports_sites, scopes_of, with_site}
+use Rattle.vh_elab_sites.specs.Sites.{Sites, Around, gen_block, loop_name, own_item, pars_sites, plain_sites, ports_sites, scopes_of, with_site}
 
 -- The names that a module's own items declare in its scope, wherever they stand: a wire has none of
 -- these. (4.5)
@@ -103,15 +103,15 @@ abbrev pub is_full : Making → Bool
 is_full m = nat_lt MOST_NUMBERS m.sites.next
 
 -- Where the items of a scope inside another one stand.
-abbrev pub inside : ℕ → Standing → Standing
+abbrev pub inside : ℕ → Around → Around
 inside n st = record st { scope = n; around = st.scope ∷ st.around }
 
 -- A genvar, by the scope that declares it.
-abbrev pub declaring : Standing → Names → List ℕ → ℕ
+abbrev pub declaring : Around → Names → List ℕ → ℕ
 declaring st ns name =
     unwrap_or (option_map (λ d. d.scope) (found ns (scopes_of st) name)) st.scope
 
-abbrev pub genvar_at : Standing → Names → Option (Id × ℤ) → Option GenvarAt
+abbrev pub genvar_at : Around → Names → Option (Id × ℤ) → Option GenvarAt
 genvar_at st ns None = None
 genvar_at st ns (Some g) =
     Some (record { scope = declaring st ns g.0.name; name = g.0.name; value = g.1 })
@@ -120,12 +120,12 @@ genvar_at st ns (Some g) =
 abbrev pub opened : List Id → ℕ → Sites → Sites
 opened ids n so = record so { seen = seen_of n ids so.seen }
 
-abbrev pub block_site : Standing → Place → BlockName → Option (Id × ℤ) → List Id → Sites → Sites
+abbrev pub block_site : Around → Place → BlockName → Option (Id × ℤ) → List Id → Sites → Sites
 block_site st place name g ids so =
     opened ids so.next
     (with_site st.scope (name_bytes name) place (gen_block name (genvar_at st so.seen g)) so)
 
-abbrev pub entered : Standing → Place → BlockName → Option (Id × ℤ) → Items → Making → Making
+abbrev pub entered : Around → Place → BlockName → Option (Id × ℤ) → Items → Making → Making
 entered st place name g all m = making (block_site st place name g (items_ids all)) m
 
 -- A turn of a loop, and whether there is one.
@@ -167,10 +167,10 @@ by_branch first other (turn v) m = m
 by_branch first other end_of_loop m = m
 
 -- A loop declares its name, also one without turns. (12.4.1)
-abbrev pub loop_site : Standing → Place → BlockText → Sites → Sites
+abbrev pub loop_site : Around → Place → BlockText → Sites → Sites
 loop_site st place t so = with_site st.scope (text_bytes t) place (loop_name t) so
 
-abbrev pub in_loop : Standing → Place → (BlockText → ℤ → Making → Making) → BlockText
+abbrev pub in_loop : Around → Place → (BlockText → ℤ → Making → Making) → BlockText
     → Making → Making
 in_loop st place block t m =
     turns_made MOST_TURNS (block t) (making (loop_site st place t) m)
@@ -180,10 +180,10 @@ turn_name t v = record { word = t; index = Some v }
 
 -- Items, and what generate constructs come to.
 abbrev mutual
-  pub item_made : Standing → ItemTree → Making → Making
+  pub item_made : Around → ItemTree → Making → Making
   item_made st (item place form) m = form_made st place form m
 
-  pub form_made : Standing → Place → ItemFormTree → Making → Making
+  pub form_made : Around → Place → ItemFormTree → Making → Making
   form_made st place (plain_item form) m = making (plain_sites st place form) m
   form_made st place generate_word m = m
   form_made st place endgenerate_word m = m
@@ -193,7 +193,7 @@ abbrev mutual
   form_made st place (if_item test block other) m =
       by_branch (branch_made st block) (else_made st other) (first_choice m.left) (taken m)
 
-  pub turn_made : Standing → Id → GblockTree → BlockText → ℤ → Making → Making
+  pub turn_made : Around → Id → GblockTree → BlockText → ℤ → Making → Making
   turn_made st id (one_item place all) t v m =
       items_made (inside m.sites.next st) all
       (entered st place (turn_name t v) (Some (id, v)) all m)
@@ -201,7 +201,7 @@ abbrev mutual
       items_made (inside m.sites.next st) all
       (entered st (name_place place name) (turn_name t v) (Some (id, v)) all m)
 
-  pub branch_made : Standing → GblockTree → BlockText → Making → Making
+  pub branch_made : Around → GblockTree → BlockText → Making → Making
   branch_made st (one_item place all) t m =
       if is_lone all then items_made st all m
       else items_made (inside m.sites.next st) all (entered st place (plain_name t) None all m)
@@ -209,15 +209,15 @@ abbrev mutual
       items_made (inside m.sites.next st) all
       (entered st (name_place place name) (plain_name t) None all m)
 
-  pub else_made : Standing → ElseTree → BlockText → Making → Making
+  pub else_made : Around → ElseTree → BlockText → Making → Making
   else_made st no_else t m = m
   else_made st (else_gblock g) t m = branch_made st g t m
 
-  pub items_made : Standing → Items → Making → Making
+  pub items_made : Around → Items → Making → Making
   items_made st no_item m = m
   items_made st (next_item i more) m = items_made st more (next_made st i m)
 
-  pub next_made : Standing → ItemTree → Making → Making
+  pub next_made : Around → ItemTree → Making → Making
   next_made st (item place form) m = if is_full m then m else form_made st place form m
 
 -- The sites of a module whose object has this number, where its generate constructs come to this:
@@ -233,8 +233,8 @@ abbrev pub makes_wires : DefaultNet → Bool
 makes_wires default_net.Wire = true
 makes_wires default_net.Nothing = false
 
-abbrev pub module_standing : ℕ → ModuleTree → Standing
-module_standing base m =
+abbrev pub around_module : ℕ → ModuleTree → Around
+around_module base m =
     record {
       tree = m;
       scope = base;
@@ -244,12 +244,12 @@ module_standing base m =
 
 abbrev pub module_sites : ℕ → ModuleTree → List Choice → Sites
 module_sites base m choices =
-    (items_made (module_standing base m) (items m.items)
+    (items_made (around_module base m) (items m.items)
     (record { sites = header_sites base m; left = choices })).sites
 
 -- The sites of a scope's own items alone, without wires: of a module, around which no scope is,
 -- those of its header too.
-abbrev pub own_items : Standing → Items → Sites → Sites
+abbrev pub own_items : Around → Items → Sites → Sites
 own_items st no_item so = so
 own_items st (next_item i more) so = own_items st more (own_item st i so)
 

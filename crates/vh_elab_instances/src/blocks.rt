@@ -6,7 +6,7 @@ ghost use Rattle.vh_elab_ports.specs.Views.{ids_seen};
 ghost use Rattle.vh_elab_sites.specs.Blocks.{block_place};
 ghost use Rattle.vh_elab_instances.specs.Instances;
 ghost use Rattle.vh_elab_instances.specs.Views.{making_seen, turn_seen};
-ghost use Rattle.vh_elab_sites.specs.Views.{block_name_seen, block_text_seen, choice_seen, genvar_at_seen, sites_seen, standing_seen};
+ghost use Rattle.vh_elab_sites.specs.Views.{block_name_seen, block_text_seen, choice_seen, genvar_at_seen, sites_seen, around_seen};
 
 use crate::names::declared_ids;
 use sqlite_items::Boxed;
@@ -15,7 +15,7 @@ use vh_ast::{Gblock, Id, Item, ItemForm};
 use vh_base::{NoMemory, ObjId, Place};
 use vh_bind_scope::{Meaning, Names, found};
 use vh_elab_sites::{
-    BlockName, BlockText, Choice, Declared, GenvarAt, Listing, Standing, add_plain, add_site,
+    BlockName, BlockText, Choice, Declared, GenvarAt, Listing, Around, add_plain, add_site,
     block_place, is_lone, name_place,
 };
 
@@ -54,27 +54,27 @@ fn take<'a>(left: &mut Left<'a, '_>) -> Choice<'a>
 }
 
 // The scope that declares a genvar.
-fn declaring(names: &Names, standing: Standing, name: &[u8]) -> u32
-    ensures { result ≡ Instances.declaring (standing_seen standing.entry) names.now name.now }
+fn declaring(names: &Names, around_it: Around, name: &[u8]) -> u32
+    ensures { result ≡ Instances.declaring (around_seen around_it.entry) names.now name.now }
 {
-    if names.meaning(ObjId::new(standing.scope), name).is_some() {
-        return standing.scope;
+    if names.meaning(ObjId::new(around_it.scope), name).is_some() {
+        return around_it.scope;
     }
-    match found(names, standing.around, name) {
-        None => standing.scope,
+    match found(names, around_it.around, name) {
+        None => around_it.scope,
         Some(declaration) => declaration.scope.number(),
     }
 }
 
-fn genvar_at<'a>(names: &Names, standing: Standing, turn: Option<Turn<'a>>) -> Option<GenvarAt<'a>>
+fn genvar_at<'a>(names: &Names, around_it: Around, turn: Option<Turn<'a>>) -> Option<GenvarAt<'a>>
     ensures { option_map genvar_at_seen result
-        ≡ Instances.genvar_at (standing_seen standing.entry) names.now
+        ≡ Instances.genvar_at (around_seen around_it.entry) names.now
         (option_map turn_seen turn.entry) }
 {
     match turn {
         None => None,
         Some(turn) => Some(GenvarAt {
-            scope: declaring(names, standing, turn.id.name.as_slice()),
+            scope: declaring(names, around_it, turn.id.name.as_slice()),
             name: turn.id.name.as_slice(),
             value: turn.value,
         }),
@@ -99,7 +99,7 @@ pub(crate) fn declare_ids(
 // A generate block in a scope, which opens one of its own.
 fn enter<'a>(
     alloc: Global,
-    standing: Standing<'a, '_>,
+    around_it: Around<'a, '_>,
     place: Place,
     name: BlockName<'a>,
     turn: Option<Turn<'a>>,
@@ -107,25 +107,25 @@ fn enter<'a>(
     sites: &mut Listing<'a>,
 ) -> Result<(), NoMemory>
     ensures { OnOk result (sites_seen sites.new ≡ Instances.block_site
-        (standing_seen standing.entry) place (block_name_seen name.entry)
+        (around_seen around_it.entry) place (block_name_seen name.entry)
         (option_map turn_seen turn.entry)
         (Instances.items_ids (tree.items (map item_tree items.now))) (sites_seen sites.old)) }
 {
     let number = sites.next;
-    let genvar = genvar_at(&sites.seen, standing, turn);
+    let genvar = genvar_at(&sites.seen, around_it, turn);
     let declared = Declared::GenBlock(name, genvar);
-    add_site(standing.scope, &[], place, declared, sites)?;
+    add_site(around_it.scope, &[], place, declared, sites)?;
     let ids = declared_ids(alloc, items)?;
     declare_ids(alloc, number, &ids, &mut sites.seen)
 }
 
 // The scopes around the items of a block.
-fn around_inside(alloc: Global, standing: Standing) -> Result<Vec<ObjId>, NoMemory>
-    ensures { IfOk result (λ v. v.items ≡ standing.entry.scope ∷ standing.entry.around.now) }
+fn around_inside(alloc: Global, around_it: Around) -> Result<Vec<ObjId>, NoMemory>
+    ensures { IfOk result (λ v. v.items ≡ around_it.entry.scope ∷ around_it.entry.around.now) }
 {
     let mut around = Vec::new(alloc);
-    around.push(ObjId::new(standing.scope))?;
-    around.extend_from_slice(standing.around)?;
+    around.push(ObjId::new(around_it.scope))?;
+    around.extend_from_slice(around_it.around)?;
     Ok(around)
 }
 
@@ -133,7 +133,7 @@ fn around_inside(alloc: Global, standing: Standing) -> Result<Vec<ObjId>, NoMemo
 #[cycle(blocks)]
 fn add_inside<'a>(
     alloc: Global,
-    standing: Standing<'a, '_>,
+    around_it: Around<'a, '_>,
     place: Place,
     name: BlockName<'a>,
     turn: Option<Turn<'a>>,
@@ -142,19 +142,19 @@ fn add_inside<'a>(
     sites: &mut Listing<'a>,
 ) -> Result<(), NoMemory>
     ensures { OnOk result (making_seen left.new sites.new ≡ Instances.items_made
-        (Instances.inside sites.old.next (standing_seen standing.entry))
+        (Instances.inside sites.old.next (around_seen around_it.entry))
         (tree.items (map item_tree items.now))
-        (Instances.entered (standing_seen standing.entry) place (block_name_seen name.entry)
+        (Instances.entered (around_seen around_it.entry) place (block_name_seen name.entry)
         (option_map turn_seen turn.entry) (tree.items (map item_tree items.now))
         (making_seen left.old sites.old))) }
 {
     let number = sites.next;
-    enter(alloc, standing, place, name, turn, items, sites)?;
-    let around = around_inside(alloc, standing)?;
-    let inside = Standing {
-        ports: standing.ports,
+    enter(alloc, around_it, place, name, turn, items, sites)?;
+    let around = around_inside(alloc, around_it)?;
+    let inside = Around {
+        ports: around_it.ports,
         scope: number,
-        wires: standing.wires,
+        wires: around_it.wires,
         around: &around,
     };
     add_all(alloc, inside, items, left, sites)
@@ -164,14 +164,14 @@ fn add_inside<'a>(
 #[cycle(blocks)]
 fn add_branch<'a>(
     alloc: Global,
-    standing: Standing<'a, '_>,
+    around_it: Around<'a, '_>,
     block: &'a Gblock<Item>,
     word: BlockText<'a>,
     left: &mut Left<'a, '_>,
     sites: &mut Listing<'a>,
 ) -> Result<(), NoMemory>
     ensures { OnOk result (making_seen left.new sites.new ≡ Instances.branch_made
-        (standing_seen standing.entry) (gblock_tree block.now) (block_text_seen word.entry)
+        (around_seen around_it.entry) (gblock_tree block.now) (block_text_seen word.entry)
         (making_seen left.old sites.old)) }
 {
     let name = BlockName { word, index: None };
@@ -179,13 +179,13 @@ fn add_branch<'a>(
         Gblock::Item(place, items) => {
             let items = items.as_slice();
             if is_lone(items) {
-                return add_all(alloc, standing, items, left, sites);
+                return add_all(alloc, around_it, items, left, sites);
             }
-            add_inside(alloc, standing, *place, name, None, items, left, sites)
+            add_inside(alloc, around_it, *place, name, None, items, left, sites)
         }
         Gblock::Block { place, id, items } => {
             let (place, items) = (name_place(*place, id), items.as_slice());
-            add_inside(alloc, standing, place, name, None, items, left, sites)
+            add_inside(alloc, around_it, place, name, None, items, left, sites)
         }
     }
 }
@@ -194,19 +194,19 @@ fn add_branch<'a>(
 #[cycle(blocks)]
 fn add_other<'a>(
     alloc: Global,
-    standing: Standing<'a, '_>,
+    around_it: Around<'a, '_>,
     block: &'a Option<Boxed<Gblock<Item>>>,
     word: BlockText<'a>,
     left: &mut Left<'a, '_>,
     sites: &mut Listing<'a>,
 ) -> Result<(), NoMemory>
     ensures { OnOk result (making_seen left.new sites.new ≡ Instances.else_made
-        (standing_seen standing.entry) (gelse_tree block.now) (block_text_seen word.entry)
+        (around_seen around_it.entry) (gelse_tree block.now) (block_text_seen word.entry)
         (making_seen left.old sites.old)) }
 {
     match block {
         None => Ok(()),
-        Some(block) => add_branch(alloc, standing, block.get(), word, left, sites),
+        Some(block) => add_branch(alloc, around_it, block.get(), word, left, sites),
     }
 }
 
@@ -214,7 +214,7 @@ fn add_other<'a>(
 #[cycle(blocks)]
 fn add_block<'a>(
     alloc: Global,
-    standing: Standing<'a, '_>,
+    around_it: Around<'a, '_>,
     word: BlockText<'a>,
     id: &'a Id,
     block: &'a Gblock<Item>,
@@ -223,7 +223,7 @@ fn add_block<'a>(
     sites: &mut Listing<'a>,
 ) -> Result<(), NoMemory>
     ensures { OnOk result (making_seen left.new sites.new ≡ Instances.turn_made
-        (standing_seen standing.entry) id.now (gblock_tree block.now)
+        (around_seen around_it.entry) id.now (gblock_tree block.now)
         (block_text_seen word.entry) value (making_seen left.old sites.old)) }
 {
     let name = BlockName {
@@ -234,11 +234,11 @@ fn add_block<'a>(
     match block {
         Gblock::Item(place, items) => {
             let items = items.as_slice();
-            add_inside(alloc, standing, *place, name, turn, items, left, sites)
+            add_inside(alloc, around_it, *place, name, turn, items, left, sites)
         }
         Gblock::Block { place, id, items } => {
             let (place, items) = (name_place(*place, id), items.as_slice());
-            add_inside(alloc, standing, place, name, turn, items, left, sites)
+            add_inside(alloc, around_it, place, name, turn, items, left, sites)
         }
     }
 }
@@ -247,7 +247,7 @@ fn add_block<'a>(
 #[cycle(blocks)]
 fn add_turn<'a>(
     alloc: Global,
-    standing: Standing<'a, '_>,
+    around_it: Around<'a, '_>,
     word: BlockText<'a>,
     id: &'a Id,
     block: &'a Gblock<Item>,
@@ -256,7 +256,7 @@ fn add_turn<'a>(
     sites: &mut Listing<'a>,
 ) -> Result<bool, NoMemory>
     ensures { IfOk result (λ more. (more, making_seen left.new sites.new) ≡ Instances.one_turn
-        (Instances.turn_made (standing_seen standing.entry) id.now (gblock_tree block.now)
+        (Instances.turn_made (around_seen around_it.entry) id.now (gblock_tree block.now)
         (block_text_seen word.entry)) (choice_seen choice.entry) (making_seen left.old sites.old)) }
 {
     match choice {
@@ -264,7 +264,7 @@ fn add_turn<'a>(
             if sites.next > MOST_NUMBERS {
                 return Ok(false);
             }
-            add_block(alloc, standing, word, id, block, value, left, sites)?;
+            add_block(alloc, around_it, word, id, block, value, left, sites)?;
             Ok(true)
         }
         Choice::Neither | Choice::Holds(_) | Choice::Fails(_) | Choice::Loop(_) | Choice::End => Ok(
@@ -277,7 +277,7 @@ fn add_turn<'a>(
 #[cycle(blocks)]
 fn add_turns<'a>(
     alloc: Global,
-    standing: Standing<'a, '_>,
+    around_it: Around<'a, '_>,
     word: BlockText<'a>,
     id: &'a Id,
     block: &'a Gblock<Item>,
@@ -285,13 +285,13 @@ fn add_turns<'a>(
     sites: &mut Listing<'a>,
 ) -> Result<(), NoMemory>
     ensures { OnOk result (making_seen left.new sites.new ≡ Instances.turns_made
-        MOST_TURNS (Instances.turn_made (standing_seen standing.entry) id.now
+        MOST_TURNS (Instances.turn_made (around_seen around_it.entry) id.now
         (gblock_tree block.now) (block_text_seen word.entry))
         (making_seen left.old sites.old)) }
 {
     for _turn in 0..MOST_TURNS {
         let choice = take(left);
-        if !add_turn(alloc, standing, word, id, block, choice, left, sites)? {
+        if !add_turn(alloc, around_it, word, id, block, choice, left, sites)? {
             return Ok(());
         }
     }
@@ -302,7 +302,7 @@ fn add_turns<'a>(
 #[cycle(blocks)]
 fn add_loop<'a>(
     alloc: Global,
-    standing: Standing<'a, '_>,
+    around_it: Around<'a, '_>,
     id: &'a Id,
     block: &'a Gblock<Item>,
     choice: Choice<'a>,
@@ -310,15 +310,15 @@ fn add_loop<'a>(
     sites: &mut Listing<'a>,
 ) -> Result<(), NoMemory>
     ensures { OnOk result (making_seen left.new sites.new ≡ Instances.by_loop
-        (Instances.in_loop (standing_seen standing.entry) (block_place (gblock_tree block.now))
-        (Instances.turn_made (standing_seen standing.entry) id.now (gblock_tree block.now)))
+        (Instances.in_loop (around_seen around_it.entry) (block_place (gblock_tree block.now))
+        (Instances.turn_made (around_seen around_it.entry) id.now (gblock_tree block.now)))
         (choice_seen choice.entry) (making_seen left.old sites.old)) }
 {
     match choice {
         Choice::Loop(word) => {
             let place = block_place(block);
-            add_site(standing.scope, &[], place, Declared::Loop(word), sites)?;
-            add_turns(alloc, standing, word, id, block, left, sites)
+            add_site(around_it.scope, &[], place, Declared::Loop(word), sites)?;
+            add_turns(alloc, around_it, word, id, block, left, sites)
         }
         Choice::Neither | Choice::Holds(_) | Choice::Fails(_) | Choice::Turn(_) | Choice::End => Ok(
             (),
@@ -330,22 +330,22 @@ fn add_loop<'a>(
 #[cycle(blocks)]
 fn add_one<'a>(
     alloc: Global,
-    standing: Standing<'a, '_>,
+    around_it: Around<'a, '_>,
     item: &'a Item,
     left: &mut Left<'a, '_>,
     sites: &mut Listing<'a>,
 ) -> Result<(), NoMemory>
     ensures { OnOk result (making_seen left.new sites.new ≡ Instances.item_made
-        (standing_seen standing.entry) (item_tree item.now) (making_seen left.old sites.old)) }
+        (around_seen around_it.entry) (item_tree item.now) (making_seen left.old sites.old)) }
 {
     match &item.form {
-        ItemForm::Plain(plain) => add_plain(alloc, standing, item.place, plain, sites),
+        ItemForm::Plain(plain) => add_plain(alloc, around_it, item.place, plain, sites),
         ItemForm::Generate | ItemForm::Endgenerate => Ok(()),
         ItemForm::For { start, body, .. } => {
             let choice = take(left);
             add_loop(
                 alloc,
-                standing,
+                around_it,
                 &start.get().id,
                 body.get(),
                 choice,
@@ -356,9 +356,9 @@ fn add_one<'a>(
         ItemForm::If { holds, fails, .. } => {
             match take(left) {
                 Choice::Holds(word) => {
-                    add_branch(alloc, standing, holds.get(), word, left, sites)
+                    add_branch(alloc, around_it, holds.get(), word, left, sites)
                 }
-                Choice::Fails(word) => add_other(alloc, standing, fails, word, left, sites),
+                Choice::Fails(word) => add_other(alloc, around_it, fails, word, left, sites),
                 Choice::Neither | Choice::Loop(_) | Choice::Turn(_) | Choice::End => Ok(()),
             }
         }
@@ -369,35 +369,35 @@ fn add_one<'a>(
 #[cycle(blocks)]
 fn add_next<'a>(
     alloc: Global,
-    standing: Standing<'a, '_>,
+    around_it: Around<'a, '_>,
     item: &'a Item,
     left: &mut Left<'a, '_>,
     sites: &mut Listing<'a>,
 ) -> Result<(), NoMemory>
     ensures { OnOk result (making_seen left.new sites.new ≡ Instances.next_made
-        (standing_seen standing.entry) (item_tree item.now) (making_seen left.old sites.old)) }
+        (around_seen around_it.entry) (item_tree item.now) (making_seen left.old sites.old)) }
 {
     if sites.next > MOST_NUMBERS {
         return Ok(());
     }
-    add_one(alloc, standing, item, left, sites)
+    add_one(alloc, around_it, item, left, sites)
 }
 
 // Items in a row.
 #[cycle(blocks)]
 pub(crate) fn add_all<'a>(
     alloc: Global,
-    standing: Standing<'a, '_>,
+    around_it: Around<'a, '_>,
     items: &'a [Item],
     left: &mut Left<'a, '_>,
     sites: &mut Listing<'a>,
 ) -> Result<(), NoMemory>
     ensures { OnOk result (making_seen left.new sites.new ≡ Instances.items_made
-        (standing_seen standing.entry) (tree.items (map item_tree items.now))
+        (around_seen around_it.entry) (tree.items (map item_tree items.now))
         (making_seen left.old sites.old)) }
 {
     for item in items {
-        add_next(alloc, standing, item, left, sites)?;
+        add_next(alloc, around_it, item, left, sites)?;
     }
     Ok(())
 }

@@ -4,7 +4,7 @@ ghost use Rattle.vh_ast.specs.Views.{item_tree, module_tree};
 ghost use Rattle.vh_elab_ports.specs.Ports.{header_directed};
 ghost use Rattle.vh_elab_ports.specs.Views.{directed_seen};
 ghost use Rattle.vh_elab_instances.specs.Instances;
-ghost use Rattle.vh_elab_sites.specs.Views.{choice_seen, sites_seen, standing_seen};
+ghost use Rattle.vh_elab_sites.specs.Views.{choice_seen, sites_seen, around_seen};
 
 use crate::blocks::{Left, add_all, declare_ids};
 use crate::names::module_ids;
@@ -13,7 +13,7 @@ use vh_ast::{Item, Module};
 use vh_base::{NoMemory, ObjId};
 use vh_bind_scope::Names;
 use vh_elab_ports::{Directed, Ports, add_header};
-use vh_elab_sites::{Choice, Listing, Standing, add_item, add_pars, add_ports};
+use vh_elab_sites::{Choice, Listing, Around, add_item, add_pars, add_ports};
 use vh_lex::DefaultNet;
 
 fn header_of(alloc: Global, module: &Module) -> Result<Vec<Directed<'_>>, NoMemory>
@@ -81,7 +81,7 @@ pub fn module_sites<'a>(
 {
     let module = ports.module;
     let mut sites = header_sites(alloc, base, ports)?;
-    let standing = Standing {
+    let around_it = Around {
         ports,
         scope: base,
         wires: makes_wires(module.setting.default_net),
@@ -90,7 +90,7 @@ pub fn module_sites<'a>(
     let mut left = Left { all: choices };
     add_all(
         alloc,
-        standing,
+        around_it,
         module.items.as_slice(),
         &mut left,
         &mut sites,
@@ -122,16 +122,16 @@ fn add_own_header<'a>(
 
 fn add_items<'a>(
     alloc: Global,
-    standing: Standing<'a, '_>,
+    around_it: Around<'a, '_>,
     items: &'a [Item],
     sites: &mut Listing<'a>,
 ) -> Result<(), NoMemory>
     ensures { OnOk result (sites_seen sites.new ≡ Instances.own_items
-        (standing_seen standing.entry) (tree.items (map item_tree items.now))
+        (around_seen around_it.entry) (tree.items (map item_tree items.now))
         (sites_seen sites.old)) }
 {
     for item in items {
-        add_item(alloc, standing, item, sites)?;
+        add_item(alloc, around_it, item, sites)?;
     }
     Ok(())
 }
@@ -153,12 +153,12 @@ pub fn scope_sites<'a>(
         seen: Names::new(alloc),
     };
     add_own_header(alloc, ports, number, around, &mut sites)?;
-    let standing = Standing {
+    let around_it = Around {
         ports,
         scope: number,
         wires: false,
         around,
     };
-    add_items(alloc, standing, items, &mut sites)?;
+    add_items(alloc, around_it, items, &mut sites)?;
     Ok(sites)
 }

@@ -6,7 +6,7 @@ use Rattle.std.proofs.lemmas.List.{get_or-set_same, get_or-set_other, length-set
 use Rattle.std.proofs.lemmas.Slice.Eq.{bytes_eq-Decides}
 use Rattle.std.proofs.lemmas.Bool.{false≢true}
 use Rattle.std.proofs.lemmas.Bool.Decides.{Decides-eqb}
-use Rattle.vh_elab_index.specs.First.{place_from, place_in}
+use Rattle.vh_elab_index.specs.First.{position_from, position_in}
 use Rattle.vh_elab_cycles.specs.Cycles.{leads, is_on_cycle}
 use Rattle.vh_elab_modules.specs.Numbers.{Numbered, held_by, number_of}
 
@@ -42,31 +42,31 @@ named-more names y x h = at_test (bytes_eq x y)
     at_test true = refl
     at_test false = h
 
-place-least : (n k : ℕ) (names : List (List ℕ)) (x : List ℕ) → place_from n names x ≡ Some k → n ≤ k
+place-least : (n k : ℕ) (names : List (List ℕ)) (x : List ℕ) → position_from n names x ≡ Some k → n ≤ k
 place-least n k [] x h = absurd (cc)
 place-least n k (y ∷ ys) x h = at_test (bytes_eq x y) h (place-least (suc n) k ys x)
   where
-    at_test : (b : Bool) → cond b (Some n) (place_from (suc n) ys x) ≡ Some k → (place_from (suc n) ys x ≡ Some k → suc n ≤ k) → n ≤ k
+    at_test : (b : Bool) → cond b (Some n) (position_from (suc n) ys x) ≡ Some k → (position_from (suc n) ys x ≡ Some k → suc n ≤ k) → n ≤ k
     at_test true is more = let same : n ≡ k = cc in omega arith
     at_test false is more = let low = more is in omega arith
 
-place-most : (n k : ℕ) (names : List (List ℕ)) (x : List ℕ) → place_from n names x ≡ Some k → k < n + length names
+place-most : (n k : ℕ) (names : List (List ℕ)) (x : List ℕ) → position_from n names x ≡ Some k → k < n + length names
 place-most n k [] x h = absurd (cc)
 place-most n k (y ∷ ys) x h = at_test (bytes_eq x y) h (place-most (suc n) k ys x)
   where
-    at_test : (b : Bool) → cond b (Some n) (place_from (suc n) ys x) ≡ Some k
-        → (place_from (suc n) ys x ≡ Some k → k < suc n + length ys) → k < n + suc (length ys)
+    at_test : (b : Bool) → cond b (Some n) (position_from (suc n) ys x) ≡ Some k
+        → (position_from (suc n) ys x ≡ Some k → k < suc n + length ys) → k < n + suc (length ys)
     at_test true is more = let same : n ≡ k = cc in omega arith
     at_test false is more = let high = more is in omega arith
 
-place-same : (n k : ℕ) (names : List (List ℕ)) (x y : List ℕ) → place_from n names x ≡ Some k → place_from n names y ≡ Some k → x ≡ y
+place-same : (n k : ℕ) (names : List (List ℕ)) (x y : List ℕ) → position_from n names x ≡ Some k → position_from n names y ≡ Some k → x ≡ y
 place-same n k [] x y h i = absurd (cc)
 place-same n k (z ∷ zs) x y h i =
     at_tests (bytes_eq x z) refl (bytes_eq y z) refl h i (place-same (suc n) k zs x y)
   where
     at_tests : (b : Bool) → bytes_eq x z ≡ b → (d : Bool) → bytes_eq y z ≡ d
-        → cond b (Some n) (place_from (suc n) zs x) ≡ Some k → cond d (Some n) (place_from (suc n) zs y) ≡ Some k
-        → (place_from (suc n) zs x ≡ Some k → place_from (suc n) zs y ≡ Some k → x ≡ y) → x ≡ y
+        → cond b (Some n) (position_from (suc n) zs x) ≡ Some k → cond d (Some n) (position_from (suc n) zs y) ≡ Some k
+        → (position_from (suc n) zs x ≡ Some k → position_from (suc n) zs y ≡ Some k → x ≡ y) → x ≡ y
     at_tests true is true it h i more = bytes-same x z is ∙ sym (bytes-same y z it)
     at_tests true is false it h i more =
         let same : n ≡ k = cc in let low = place-least (suc n) k zs y i in absurd (omega arith)
@@ -74,12 +74,12 @@ place-same n k (z ∷ zs) x y h i =
         let same : n ≡ k = cc in let low = place-least (suc n) k zs x h in absurd (omega arith)
     at_tests false is false it h i more = more h i
 
-place-named : (n : ℕ) (names : List (List ℕ)) (x : List ℕ) → IsNamed names x → (k : ℕ) × (place_from n names x ≡ Some k)
+place-named : (n : ℕ) (names : List (List ℕ)) (x : List ℕ) → IsNamed names x → (k : ℕ) × (position_from n names x ≡ Some k)
 place-named n [] x h = absurd (cc)
 place-named n (y ∷ ys) x h = at_test (bytes_eq x y) h (place-named (suc n) ys x)
   where
-    at_test : (b : Bool) → (b || list_any (bytes_eq x) ys) ≡ true → (IsNamed ys x → (k : ℕ) × (place_from (suc n) ys x ≡ Some k))
-        → (k : ℕ) × (cond b (Some n) (place_from (suc n) ys x) ≡ Some k)
+    at_test : (b : Bool) → (b || list_any (bytes_eq x) ys) ≡ true → (IsNamed ys x → (k : ℕ) × (position_from (suc n) ys x ≡ Some k))
+        → (k : ℕ) × (cond b (Some n) (position_from (suc n) ys x) ≡ Some k)
     at_test true is more = (n, refl)
     at_test false is more = more is
 
@@ -94,19 +94,19 @@ number-within names x h =
 pub number-same : (names : List (List ℕ)) (x y : List ℕ) → IsNamed names y → nat_eq (number_of names x) (number_of names y) ≡ bytes_eq x y
 number-same names x y named =
     same_tests (nat_eq (number_of names x) (number_of names y)) (bytes_eq x y)
-    (λ h. (bytes_eq-Decides x y).1 (at_place (place_in names x) refl ((Decides-eqb (number_of names x) (number_of names y)).0 h)))
+    (λ h. (bytes_eq-Decides x y).1 (at_place (position_in names x) refl ((Decides-eqb (number_of names x) (number_of names y)).0 h)))
     (λ h. (Decides-eqb (number_of names x) (number_of names y)).1 (ap (number_of names) (bytes-same x y h)))
   where
-    at_place : (o : Option ℕ) → place_in names x ≡ o → unwrap_or (place_in names x) (length names) ≡ number_of names y → x ≡ y
+    at_place : (o : Option ℕ) → position_in names x ≡ o → unwrap_or (position_in names x) (length names) ≡ number_of names y → x ≡ y
     at_place (Some k) is same =
         let at = place-named 0 names y named in
         let one : number_of names y ≡ at.0 = ap (λ p. unwrap_or p (length names)) at.1 in
-        let other : unwrap_or (place_in names x) (length names) ≡ k = ap (λ p. unwrap_or p (length names)) is in
+        let other : unwrap_or (position_in names x) (length names) ≡ k = ap (λ p. unwrap_or p (length names)) is in
         let both : at.0 ≡ k = sym one ∙ sym same ∙ other in
         place-same 0 k names x y is (at.1 ∙ ap (λ n. Some n) both)
     at_place None is same =
         let low = number-within names y named in
-        let other : unwrap_or (place_in names x) (length names) ≡ length names = ap (λ p. unwrap_or p (length names)) is in
+        let other : unwrap_or (position_in names x) (length names) ≡ length names = ap (λ p. unwrap_or p (length names)) is in
         absurd (omega (arith, low, same, other))
 
 -- The edges of modules begin at modules.

@@ -7,7 +7,7 @@ use Rattle.vh_base.specs.declared.place.Place.{Place}
 use Rattle.vh_ast.specs.declared.token.Id.{Id}
 use Rattle.vh_ast.specs.Items.{ModuleTree, SourceTree}
 use Rattle.vh_elab_mentions.specs.Mentions.{instantiated}
-use Rattle.vh_elab_index.specs.First.{first_named, place_in}
+use Rattle.vh_elab_index.specs.First.{first_named, position_in}
 use Rattle.vh_elab_cycles.specs.Cycles.{is_on_cycle}
 use Rattle.vh_bind_least.specs.Least.{Fault, least, least_of, or_else, fault_if}
 
@@ -59,7 +59,7 @@ cycle_fault ms = least_of (cycle_at (holdings ms)) (holdings ms) None
 
 -- A name that an earlier module has. (N2)
 abbrev pub is_first : List (List ℕ) → ℕ → List ℕ → Bool
-is_first names n name = unwrap_or (option_map (λ k. k == n) (place_in names name)) false
+is_first names n name = unwrap_or (option_map (λ k. k == n) (position_in names name)) false
 
 abbrev pub twice_from : List (List ℕ) → ℕ → SourceTree → Option Fault → Option Fault
 twice_from names n [] so_far = so_far

@@ -3,13 +3,13 @@ use Rattle.std.specs.Prelude.{ℕ, suc, List, [], ◌∷◌, Bool, true, false, 
 use Rattle.vh_base.specs.declared.faults.DesignFault.TheVariants.{N8}
 use Rattle.vh_base.specs.declared.place.Place.{Place}
 use Rattle.vh_ast.specs.declared.token.Id.{Id}
-use Rattle.vh_elab_index.specs.First.{place_in}
+use Rattle.vh_elab_index.specs.First.{position_in}
 use Rattle.vh_bind_least.specs.Least.{Fault, least, fault_if}
 use Rattle.vh_elab_modules.specs.Modules.{Holding}
 
 -- The number of a name: the place of the first module that has it, or one that no module has.
 abbrev pub number_of : List (List ℕ) → List ℕ → ℕ
-number_of names name = unwrap_or (place_in names name) (length names)
+number_of names name = unwrap_or (position_in names name) (length names)
 
 -- An item with instances: an edge between modules, and where it stands.
 abbrev pub Numbered : Type 0

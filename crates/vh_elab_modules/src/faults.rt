@@ -52,7 +52,7 @@ pub(crate) fn cycle_fault(alloc: Global, graph: &[Holding]) -> Result<Option<Fau
 fn is_first(index: &Index, number: usize, name: &[u8]) -> bool
     ensures { result ≡ Modules.is_first index.now number name.now }
 {
-    match index.place(name) {
+    match index.position(name) {
         None => false,
         Some(place) => place as usize == number,
     }

@@ -36,7 +36,7 @@ pub(crate) fn number_of(index: &Index, count: u32, name: &[u8]) -> u32
     requires { count ≡ length index.now }
     ensures { result ≡ Numbers.number_of index.now name.now }
 {
-    index.place(name).unwrap_or(count)
+    index.position(name).unwrap_or(count)
 }
 
 // Those of the items in one module.

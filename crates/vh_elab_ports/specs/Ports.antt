@@ -8,7 +8,7 @@ use Rattle.vh_ast.specs.declared.port.Direction.{Direction}
 use Rattle.vh_ast.specs.declared.port.PortType.{PortType}
 use Rattle.vh_ast.specs.Declarations.{DeclTree, NetTree, PdeclTree, PortTree, PortsTree, TypeTree, VarPartTree, VarTree, declared_port, port_name, plain_ports, declared_ports, reg, integer, time, plain, memory, valued}
 use Rattle.vh_ast.specs.Items.{ItemTree, ModuleTree, PlainTree, item, plain_item, generate_word, endgenerate_word, for_item, if_item, port, net, declaration, event, genvar, parameter, assign, gate, instance, process, task, function}
-use Rattle.vh_elab_index.specs.First.{first_named, place_in}
+use Rattle.vh_elab_index.specs.First.{first_named, position_in}
 use Rattle.vh_bind_least.specs.Least.{Fault, least, least_of, fault_if}
 
 -- A direction that is given to a port. (12.3.3)
@@ -95,7 +95,7 @@ names_of ids = map (λ id. id.name) ids
 
 -- The place of a name in the header, from 0.
 abbrev pub port_index : ModuleTree → List ℕ → Option ℕ
-port_index m name = place_in (names_of (header_ids m.ports)) name
+port_index m name = position_in (names_of (header_ids m.ports)) name
 
 abbrev pub directed_name : Directed → List ℕ
 directed_name d = d.id.name
@@ -107,7 +107,7 @@ port_at m name = first_named directed_name (directed_in m) name
 -- A name of the header without a direction, a direction of what isn't in the header (N1); a name
 -- that is twice in the header, a second direction (N2): at the name. (12.3.3)
 abbrev pub is_first : List (List ℕ) → ℕ → List ℕ → Bool
-is_first names n name = unwrap_or (option_map (λ k. k == n) (place_in names name)) false
+is_first names n name = unwrap_or (option_map (λ k. k == n) (position_in names name)) false
 
 abbrev pub again_from : List (List ℕ) → ℕ → List Id → Option Fault → Option Fault
 again_from names n [] so_far = so_far
@@ -122,7 +122,7 @@ abbrev pub lacks_direction : ModuleTree → Id → Option Fault
 lacks_direction m id = fault_if (not (is_some (port_at m id.name))) N1 id.place
 
 abbrev pub is_not_among : List (List ℕ) → Id → Option Fault
-is_not_among names id = fault_if (not (is_some (place_in names id.name))) N1 id.place
+is_not_among names id = fault_if (not (is_some (position_in names id.name))) N1 id.place
 
 abbrev pub is_no_port : ModuleTree → Directed → Option Fault
 is_no_port m d = is_not_among (names_of (header_ids m.ports)) d.id

@@ -13,7 +13,7 @@ use vh_elab_index::Index;
 fn is_first(index: &Index, number: usize, name: &[u8]) -> bool
     ensures { result ≡ spec.is_first index.now number name.now }
 {
-    match index.place(name) {
+    match index.position(name) {
         None => false,
         Some(place) => place as usize == number,
     }
@@ -52,7 +52,7 @@ pub(crate) fn again_directed(
 fn is_no_port(header: &Index, id: &Id) -> Option<Fault>
     ensures { result ≡ spec.is_not_among header.now id.now }
 {
-    let is_none = header.place(id.name.as_slice()).is_none();
+    let is_none = header.position(id.name.as_slice()).is_none();
     fault_if(is_none, DesignFault::N1, id.place)
 }
 

@@ -129,14 +129,14 @@ impl<'a> Ports<'a> {
     pub fn index(&self, name: &[u8]) -> Option<u32>
         ensures { result ≡ spec.port_index (module_tree self.now) name.now }
     {
-        self.header.place(name)
+        self.header.position(name)
     }
 
     /// What a name is as a port: its first direction.
     pub fn port_at(&self, name: &[u8]) -> Option<Directed<'a>>
         ensures { option_map directed_seen result ≡ spec.port_at (module_tree self.now) name.now }
     {
-        let place = self.directions.place(name)?;
+        let place = self.directions.position(name)?;
         self.directed.get(place as usize).copied()
     }
 
@@ -144,7 +144,7 @@ impl<'a> Ports<'a> {
     pub fn declared_type(&self, name: &[u8]) -> Option<&'a DataType>
         ensures { data_type_seen result ≡ spec.declared_type (module_tree self.now) name.now }
     {
-        let place = self.types.place(name)?;
+        let place = self.types.position(name)?;
         let typed = self.typed.get(place as usize)?;
         Some(typed.data_type)
     }

@@ -214,7 +214,7 @@ abbrev mutual
 
   pub citems_sites : ℕ → Citems → Sites → Sites
   citems_sites scope no_citem so = so
-  citems_sites scope (one_citem place labels body more) so =
+  citems_sites scope (one_citem place matched body more) so =
       citems_sites scope more (stmt_sites scope body so)
 
 -- The arguments of a task or function, and what else it declares. (10.2.1 and 10.4.1)
@@ -258,13 +258,13 @@ function_sites scope f so =
 
 -- Where items stand: their module, whether names make wires, and the scopes around them, from the
 -- inside out, of which the first is their own.
-pub record Standing : Type 0 where
+pub record Around : Type 0 where
   pub tree : ModuleTree
   pub scope : ℕ
   pub wires : Bool
   pub around : List ℕ
 
-abbrev pub scopes_of : Standing → List ℕ
+abbrev pub scopes_of : Around → List ℕ
 scopes_of st = st.scope ∷ st.around
 
 -- In the module's own scope, which none stands around.
@@ -272,21 +272,21 @@ abbrev pub own_home : ModuleTree → List ℕ → Home
 own_home m [] = Some m
 own_home m (s ∷ around) = None
 
-abbrev pub home_at : Standing → Home
+abbrev pub home_at : Around → Home
 home_at st = own_home st.tree st.around
 
 -- A name that none of the scopes declares is a wire of the scope that the item stands in, from the
 -- item on. (4.5)
-abbrev pub with_wire : Standing → Id → Sites → Sites
+abbrev pub with_wire : Around → Id → Sites → Sites
 with_wire st id so = record (with_named st.scope id wire so) {
   seen = declared st.scope id.name means.Gate so.seen;
 }
 
-abbrev pub wire_site : Standing → Id → Sites → Sites
+abbrev pub wire_site : Around → Id → Sites → Sites
 wire_site st id so =
     if is_some (found so.seen (scopes_of st) id.name) then so else with_wire st id so
 
-abbrev pub wires_sites : Standing → Ids → Sites → Sites
+abbrev pub wires_sites : Around → Ids → Sites → Sites
 wires_sites st ids so = if st.wires then each (wire_site st) ids so else so
 
 -- Ports: that, and the net or variable of its name, where no other declaration is one. (12.3.3)
@@ -330,7 +330,7 @@ abbrev pub port_by : Home → ℕ → Directed → Sites → Sites
 port_by None scope d so = so
 port_by (Some m) scope d so = port_site m scope d so
 
-abbrev pub port_id : Standing → Direction → Option PortType → TypeTree → Id → Sites → Sites
+abbrev pub port_id : Around → Direction → Option PortType → TypeTree → Id → Sites → Sites
 port_id st d p t id so =
     port_by (home_at st) st.scope
     (record { id = id; direction = d; port_type = p; data_type = t }) so
@@ -340,13 +340,13 @@ abbrev pub value_site : ℕ → Option DelayTree → ℕ → Id → Option ExprT
 value_site scope wait n id None so = so
 value_site scope wait n id (Some e) so = with_site scope [] id.place (drives wait (net_of n) e) so
 
-abbrev pub net_sites : Standing → NetType → TypeTree → Option DelayTree → NetTree → Sites → Sites
+abbrev pub net_sites : Around → NetType → TypeTree → Option DelayTree → NetTree → Sites → Sites
 net_sites st word t wait n so =
     value_site st.scope wait so.next n.id n.value
     (with_named st.scope n.id (net word (type_at (home_at st) n.id.name t)) so)
 
 -- Continuous assignments, gates and instances make wires. (6.1.2, 7.1 and 12.1.2)
-abbrev pub set_site : Standing → Option DelayTree → SetTree → Sites → Sites
+abbrev pub set_site : Around → Option DelayTree → SetTree → Sites → Sites
 set_site st wait s so =
     with_site st.scope [] s.target.place (drives wait (target_of s.target) s.value)
     (wires_sites st (target_ids s.target []) so)
@@ -355,12 +355,12 @@ abbrev pub gate_name : Option Id → List ℕ
 gate_name None = []
 gate_name (Some id) = id.name
 
-abbrev pub gate_site : Standing → GateType → Option DelayTree → GateTree → Sites → Sites
+abbrev pub gate_site : Around → GateType → Option DelayTree → GateTree → Sites → Sites
 gate_site st word wait g so =
     with_site st.scope (gate_name g.id) g.place (gate word wait g)
     (wires_sites st (terminals_ids g.terminals []) so)
 
-abbrev pub child_site : Standing → Id → List ConnTree → InstTree → Sites → Sites
+abbrev pub child_site : Around → Id → List ConnTree → InstTree → Sites → Sites
 child_site st m parameters i so =
     with_named st.scope i.id (child m parameters i) (wires_sites st (conns_ids i.conns []) so)
 
@@ -382,7 +382,7 @@ abbrev pub construct_sites : ℕ → Place → ProcessWord → StmtTree → Site
 construct_sites scope place word s so =
     stmt_sites scope s (with_site scope [] place (code (construct_word word) s) so)
 
-abbrev pub plain_sites : Standing → Place → PlainTree → Sites → Sites
+abbrev pub plain_sites : Around → Place → PlainTree → Sites → Sites
 plain_sites st place (I.port d p t ids) so = each (port_id st d p t) ids so
 plain_sites st place (I.net n t wait nets) so = each (net_sites st n t wait) nets so
 plain_sites st place (declaration d) so = decl_sites (home_at st) st.scope d so
@@ -413,7 +413,7 @@ abbrev pub ports_sites : ModuleTree → ℕ → List Directed → Sites → Site
 ports_sites m scope ds so = each (port_site m scope) ds so
 
 -- An item that holds none; of another one nothing is made.
-abbrev pub own_item : Standing → ItemTree → Sites → Sites
+abbrev pub own_item : Around → ItemTree → Sites → Sites
 own_item st (item place (plain_item form)) so = plain_sites st place form so
 own_item st (item place generate_word) so = so
 own_item st (item place endgenerate_word) so = so

@@ -21,9 +21,9 @@ use Rattle.vh_elab_sites.specs.declared.site.VarType as of
 use Rattle.vh_elab_sites.specs.declared.site.VarType.TheVariants as has
 use Rattle.vh_elab_sites.specs.declared.site.Site as at
 use Rattle.vh_elab_sites.specs.declared.site.Listing.{Listing}
-use Rattle.vh_elab_sites.specs.declared.items.Standing as standing
+use Rattle.vh_elab_sites.specs.declared.items.Around as around_it
 use Rattle.vh_elab_sites.specs.Blocks.{BlockName, BlockText, Choice, GenvarAt, written, counted, neither, holds, fails, loop, turn, end_of_loop}
-use Rattle.vh_elab_sites.specs.Sites.{Declared, Driven, Home, SiteTree, Sites, Standing, VarType, typed, joined, one_digit, integer_type, time_type, generated_name, net_of, target_of, variable, words, named_event, constant, code, named_block, result, argument, net, wire, port, drives, gate, genvar, gen_block, loop_name, child}
+use Rattle.vh_elab_sites.specs.Sites.{Declared, Driven, Home, SiteTree, Sites, Around, VarType, typed, joined, one_digit, integer_type, time_type, generated_name, net_of, target_of, variable, words, named_event, constant, code, named_block, result, argument, net, wire, port, drives, gate, genvar, gen_block, loop_name, child}
 
 abbrev pub var_type_seen : of.VarType → VarType
 var_type_seen (has.Typed t None) = typed (type_tree t.now)
@@ -101,8 +101,8 @@ sites_seen so = record { all = all_seen so.all.items; next = so.next; seen = so.
 abbrev pub home_seen : Option (Bor Ports) → Home
 home_seen ports = option_map (λ p. module_tree p.now) ports
 
-abbrev pub standing_seen : standing.Standing → Standing
-standing_seen st =
+abbrev pub around_seen : around_it.Around → Around
+around_seen st =
     record {
       tree = module_tree st.ports.now;
       scope = st.scope;

@@ -6,7 +6,7 @@ ghost use Rattle.vh_bind_scope.specs.LookUp.{found};
 ghost use Rattle.vh_elab_sites.specs.Sites;
 ghost use Rattle.vh_elab_sites.specs.Sites.{each};
 ghost use Rattle.vh_elab_ports.specs.Views.{data_type_seen, directed_seen};
-ghost use Rattle.vh_elab_sites.specs.Views.{declared_seen, home_seen, sites_seen, standing_seen, var_type_seen};
+ghost use Rattle.vh_elab_sites.specs.Views.{declared_seen, home_seen, sites_seen, around_seen, var_type_seen};
 
 use crate::decls::{add_decl, type_at};
 use crate::routines::{add_function, add_task};
@@ -26,7 +26,7 @@ use vh_elab_ports::{Directed, Ports};
 /// Where items stand: their module, and the scopes around them, from the inside out, of which the
 /// first is their own.
 #[derive(Clone, Copy)]
-pub struct Standing<'a, 'b> {
+pub struct Around<'a, 'b> {
     pub ports: &'b Ports<'a>,
     pub scope: u32,
     /// Whether names that aren't declared are wires.
@@ -36,11 +36,11 @@ pub struct Standing<'a, 'b> {
 }
 
 // The ports of the module, in its own scope.
-fn home_at<'a, 'b>(standing: Standing<'a, 'b>) -> Option<&'b Ports<'a>>
-    ensures { home_seen result ≡ Sites.home_at (standing_seen standing.entry) }
+fn home_at<'a, 'b>(around_it: Around<'a, 'b>) -> Option<&'b Ports<'a>>
+    ensures { home_seen result ≡ Sites.home_at (around_seen around_it.entry) }
 {
-    match standing.around {
-        [] => Some(standing.ports),
+    match around_it.around {
+        [] => Some(around_it.ports),
         [_, ..] => None,
     }
 }
@@ -48,15 +48,15 @@ fn home_at<'a, 'b>(standing: Standing<'a, 'b>) -> Option<&'b Ports<'a>>
 // A name that none of the scopes declares is a wire of this one.
 fn add_wire<'a>(
     alloc: Global,
-    standing: Standing<'a, '_>,
+    around_it: Around<'a, '_>,
     id: &'a Id,
     sites: &mut Listing<'a>,
 ) -> Result<(), NoMemory>
     ensures { OnOk result (sites_seen sites.new ≡
-        Sites.with_wire (standing_seen standing.entry) id.now (sites_seen sites.old)) }
+        Sites.with_wire (around_seen around_it.entry) id.now (sites_seen sites.old)) }
 {
-    let scope = ObjId::new(standing.scope);
-    add_named(standing.scope, id, Declared::Wire, sites)?;
+    let scope = ObjId::new(around_it.scope);
+    add_named(around_it.scope, id, Declared::Wire, sites)?;
     sites
         .seen
         .declare(alloc, scope, id.name.as_slice(), Meaning::Gate)?;
@@ -64,45 +64,45 @@ fn add_wire<'a>(
 }
 
 // Whether a scope or one around it declares a name.
-fn is_seen(standing: Standing, name: &[u8], sites: &Listing) -> bool
+fn is_seen(around_it: Around, name: &[u8], sites: &Listing) -> bool
     ensures { result ≡ is_some (found (sites_seen sites.now).seen (Sites.scopes_of
-        (standing_seen standing.entry)) name.now) }
+        (around_seen around_it.entry)) name.now) }
 {
-    let scope = ObjId::new(standing.scope);
-    sites.seen.meaning(scope, name).is_some() || found(&sites.seen, standing.around, name).is_some()
+    let scope = ObjId::new(around_it.scope);
+    sites.seen.meaning(scope, name).is_some() || found(&sites.seen, around_it.around, name).is_some()
 }
 
 fn add_missing<'a>(
     alloc: Global,
-    standing: Standing<'a, '_>,
+    around_it: Around<'a, '_>,
     id: &'a Id,
     sites: &mut Listing<'a>,
 ) -> Result<(), NoMemory>
     ensures { OnOk result (sites_seen sites.new ≡
-        Sites.wire_site (standing_seen standing.entry) id.now (sites_seen sites.old)) }
+        Sites.wire_site (around_seen around_it.entry) id.now (sites_seen sites.old)) }
 {
-    if is_seen(standing, id.name.as_slice(), sites) {
+    if is_seen(around_it, id.name.as_slice(), sites) {
         return Ok(());
     }
-    add_wire(alloc, standing, id, sites)
+    add_wire(alloc, around_it, id, sites)
 }
 
 // The wires that names make.
 fn add_wires<'a>(
     alloc: Global,
-    standing: Standing<'a, '_>,
+    around_it: Around<'a, '_>,
     ids: &[&'a Id],
     sites: &mut Listing<'a>,
 ) -> Result<(), NoMemory>
     ensures { OnOk result (sites_seen sites.new ≡
-        Sites.wires_sites (standing_seen standing.entry) (ids_seen ids.now)
+        Sites.wires_sites (around_seen around_it.entry) (ids_seen ids.now)
         (sites_seen sites.old)) }
 {
-    if !standing.wires {
+    if !around_it.wires {
         return Ok(());
     }
     for id in ids {
-        add_missing(alloc, standing, id, sites)?;
+        add_missing(alloc, around_it, id, sites)?;
     }
     Ok(())
 }
@@ -204,23 +204,23 @@ fn add_port<'a>(
 
 // A name that a direction is given to: in a generate block it is no port.
 fn add_port_id<'a>(
-    standing: Standing<'a, '_>,
+    around_it: Around<'a, '_>,
     directed: Directed<'a>,
     sites: &mut Listing<'a>,
 ) -> Result<(), NoMemory>
     ensures { OnOk result (sites_seen sites.new ≡ Sites.port_by
-        (Sites.home_at (standing_seen standing.entry)) standing.entry.scope
+        (Sites.home_at (around_seen around_it.entry)) around_it.entry.scope
         (directed_seen directed.entry) (sites_seen sites.old)) }
 {
-    match home_at(standing) {
+    match home_at(around_it) {
         None => Ok(()),
-        Some(ports) => add_port(ports, standing.scope, directed, sites),
+        Some(ports) => add_port(ports, around_it.scope, directed, sites),
     }
 }
 
 // The ports of a row of names.
 fn add_directed<'a>(
-    standing: Standing<'a, '_>,
+    around_it: Around<'a, '_>,
     direction: Direction,
     port_type: Option<PortType>,
     data_type: &'a DataType,
@@ -228,7 +228,7 @@ fn add_directed<'a>(
     sites: &mut Listing<'a>,
 ) -> Result<(), NoMemory>
     ensures { OnOk result (sites_seen sites.new ≡
-        each (Sites.port_id (standing_seen standing.entry) direction port_type
+        each (Sites.port_id (around_seen around_it.entry) direction port_type
         (type_tree data_type.now)) ids.now (sites_seen sites.old)) }
 {
     for id in ids {
@@ -238,7 +238,7 @@ fn add_directed<'a>(
             port_type,
             data_type,
         };
-        add_port_id(standing, directed, sites)?;
+        add_port_id(around_it, directed, sites)?;
     }
     Ok(())
 }
@@ -284,7 +284,7 @@ fn add_value<'a>(
 
 // A net, with what its declaration assigns to it.
 fn add_net<'a>(
-    standing: Standing<'a, '_>,
+    around_it: Around<'a, '_>,
     word: NetType,
     data_type: &'a DataType,
     delay: &'a Option<Boxed<Delay>>,
@@ -292,22 +292,22 @@ fn add_net<'a>(
     sites: &mut Listing<'a>,
 ) -> Result<(), NoMemory>
     ensures { OnOk result (sites_seen sites.new ≡
-        Sites.net_sites (standing_seen standing.entry) word (type_tree data_type.now)
+        Sites.net_sites (around_seen around_it.entry) word (type_tree data_type.now)
         (option_map delay_tree delay.now) (net_tree net.now) (sites_seen sites.old)) }
 {
     let number = sites.next;
-    let var_type = type_at(home_at(standing), net.id.name.as_slice(), data_type);
+    let var_type = type_at(home_at(around_it), net.id.name.as_slice(), data_type);
     add_named(
-        standing.scope,
+        around_it.scope,
         &net.id,
         Declared::Typed(Thing::Net(word), var_type),
         sites,
     )?;
-    add_value(standing.scope, delay, number, &net.id, &net.value, sites)
+    add_value(around_it.scope, delay, number, &net.id, &net.value, sites)
 }
 
 fn add_nets<'a>(
-    standing: Standing<'a, '_>,
+    around_it: Around<'a, '_>,
     word: NetType,
     data_type: &'a DataType,
     delay: &'a Option<Boxed<Delay>>,
@@ -315,11 +315,11 @@ fn add_nets<'a>(
     sites: &mut Listing<'a>,
 ) -> Result<(), NoMemory>
     ensures { OnOk result (sites_seen sites.new ≡
-        each (Sites.net_sites (standing_seen standing.entry) word (type_tree data_type.now)
+        each (Sites.net_sites (around_seen around_it.entry) word (type_tree data_type.now)
         (option_map delay_tree delay.now)) (map net_tree nets.now) (sites_seen sites.old)) }
 {
     for net in nets {
-        add_net(standing, word, data_type, delay, net, sites)?;
+        add_net(around_it, word, data_type, delay, net, sites)?;
     }
     Ok(())
 }
@@ -327,35 +327,35 @@ fn add_nets<'a>(
 // A continuous assignment, and the wires that its target makes.
 fn add_set<'a>(
     alloc: Global,
-    standing: Standing<'a, '_>,
+    around_it: Around<'a, '_>,
     delay: &'a Option<Boxed<Delay>>,
     set: &'a Set,
     sites: &mut Listing<'a>,
 ) -> Result<(), NoMemory>
     ensures { OnOk result (sites_seen sites.new ≡
-        Sites.set_site (standing_seen standing.entry) (option_map delay_tree delay.now)
+        Sites.set_site (around_seen around_it.entry) (option_map delay_tree delay.now)
         (set_tree set.now) (sites_seen sites.old)) }
 {
     let mut ids = Vec::new(alloc);
     target_ids(&set.target, &mut ids)?;
-    add_wires(alloc, standing, &ids, sites)?;
+    add_wires(alloc, around_it, &ids, sites)?;
     let declared = Declared::Drives(delay, Driven::Target(&set.target), &set.value);
-    add_site(standing.scope, &[], set.target.place, declared, sites)
+    add_site(around_it.scope, &[], set.target.place, declared, sites)
 }
 
 fn add_sets<'a>(
     alloc: Global,
-    standing: Standing<'a, '_>,
+    around_it: Around<'a, '_>,
     delay: &'a Option<Boxed<Delay>>,
     sets: &'a [Set],
     sites: &mut Listing<'a>,
 ) -> Result<(), NoMemory>
     ensures { OnOk result (sites_seen sites.new ≡
-        each (Sites.set_site (standing_seen standing.entry) (option_map delay_tree delay.now))
+        each (Sites.set_site (around_seen around_it.entry) (option_map delay_tree delay.now))
         (map set_tree sets.now) (sites_seen sites.old)) }
 {
     for set in sets {
-        add_set(alloc, standing, delay, set, sites)?;
+        add_set(alloc, around_it, delay, set, sites)?;
     }
     Ok(())
 }
@@ -372,22 +372,22 @@ fn gate_name(id: &Option<Id>) -> &[u8]
 // A gate, and the wires that its terminals make.
 fn add_gate<'a>(
     alloc: Global,
-    standing: Standing<'a, '_>,
+    around_it: Around<'a, '_>,
     word: GateType,
     delay: &'a Option<Boxed<Delay>>,
     gate: &'a Gate,
     sites: &mut Listing<'a>,
 ) -> Result<(), NoMemory>
     ensures { OnOk result (sites_seen sites.new ≡
-        Sites.gate_site (standing_seen standing.entry) word (option_map delay_tree delay.now)
+        Sites.gate_site (around_seen around_it.entry) word (option_map delay_tree delay.now)
         (gate_tree gate.now) (sites_seen sites.old)) }
 {
     let mut ids = Vec::new(alloc);
     terminals_ids(gate.terminals.as_slice(), &mut ids)?;
-    add_wires(alloc, standing, &ids, sites)?;
+    add_wires(alloc, around_it, &ids, sites)?;
     let declared = Declared::Gate(word, delay, gate);
     add_site(
-        standing.scope,
+        around_it.scope,
         gate_name(&gate.id),
         gate.place,
         declared,
@@ -397,18 +397,18 @@ fn add_gate<'a>(
 
 fn add_gates<'a>(
     alloc: Global,
-    standing: Standing<'a, '_>,
+    around_it: Around<'a, '_>,
     word: GateType,
     delay: &'a Option<Boxed<Delay>>,
     gates: &'a [Gate],
     sites: &mut Listing<'a>,
 ) -> Result<(), NoMemory>
     ensures { OnOk result (sites_seen sites.new ≡
-        each (Sites.gate_site (standing_seen standing.entry) word (option_map delay_tree delay.now))
+        each (Sites.gate_site (around_seen around_it.entry) word (option_map delay_tree delay.now))
         (map gate_tree gates.now) (sites_seen sites.old)) }
 {
     for gate in gates {
-        add_gate(alloc, standing, word, delay, gate, sites)?;
+        add_gate(alloc, around_it, word, delay, gate, sites)?;
     }
     Ok(())
 }
@@ -416,37 +416,37 @@ fn add_gates<'a>(
 // An instance, and the wires that its connections make.
 fn add_child<'a>(
     alloc: Global,
-    standing: Standing<'a, '_>,
+    around_it: Around<'a, '_>,
     module: &'a Id,
     parameters: &'a [Conn],
     inst: &'a Inst,
     sites: &mut Listing<'a>,
 ) -> Result<(), NoMemory>
     ensures { OnOk result (sites_seen sites.new ≡
-        Sites.child_site (standing_seen standing.entry) module.now (map conn_tree parameters.now)
+        Sites.child_site (around_seen around_it.entry) module.now (map conn_tree parameters.now)
         (inst_tree inst.now) (sites_seen sites.old)) }
 {
     let mut ids = Vec::new(alloc);
     conns_ids(inst.conns.as_slice(), &mut ids)?;
-    add_wires(alloc, standing, &ids, sites)?;
+    add_wires(alloc, around_it, &ids, sites)?;
     let declared = Declared::Child(module, parameters, inst);
-    add_named(standing.scope, &inst.id, declared, sites)
+    add_named(around_it.scope, &inst.id, declared, sites)
 }
 
 fn add_children<'a>(
     alloc: Global,
-    standing: Standing<'a, '_>,
+    around_it: Around<'a, '_>,
     module: &'a Id,
     parameters: &'a [Conn],
     insts: &'a [Inst],
     sites: &mut Listing<'a>,
 ) -> Result<(), NoMemory>
     ensures { OnOk result (sites_seen sites.new ≡
-        each (Sites.child_site (standing_seen standing.entry) module.now
+        each (Sites.child_site (around_seen around_it.entry) module.now
         (map conn_tree parameters.now)) (map inst_tree insts.now) (sites_seen sites.old)) }
 {
     for inst in insts {
-        add_child(alloc, standing, module, parameters, inst, sites)?;
+        add_child(alloc, around_it, module, parameters, inst, sites)?;
     }
     Ok(())
 }
@@ -515,16 +515,16 @@ fn add_construct<'a>(
 /// An item that holds none.
 pub fn add_plain<'a>(
     alloc: Global,
-    standing: Standing<'a, '_>,
+    around_it: Around<'a, '_>,
     place: Place,
     plain: &'a Plain,
     sites: &mut Listing<'a>,
 ) -> Result<(), NoMemory>
     ensures { OnOk result (sites_seen sites.new ≡
-        Sites.plain_sites (standing_seen standing.entry) place (plain_tree plain.now)
+        Sites.plain_sites (around_seen around_it.entry) place (plain_tree plain.now)
         (sites_seen sites.old)) }
 {
-    let scope = standing.scope;
+    let scope = around_it.scope;
     match plain {
         Plain::Port {
             direction,
@@ -532,7 +532,7 @@ pub fn add_plain<'a>(
             data_type,
             ids,
         } => add_directed(
-            standing,
+            around_it,
             *direction,
             *port_type,
             data_type,
@@ -545,14 +545,14 @@ pub fn add_plain<'a>(
             delay,
             nets,
         } => add_nets(
-            standing,
+            around_it,
             *net_type,
             data_type,
             delay,
             nets.as_slice(),
             sites,
         ),
-        Plain::Decl(decl) => add_decl(home_at(standing), scope, decl, sites),
+        Plain::Decl(decl) => add_decl(home_at(around_it), scope, decl, sites),
         Plain::Event(ids) => add_ids(scope, Declared::Event, ids.as_slice(), sites),
         Plain::Genvar(ids) => add_ids(scope, Declared::Genvar, ids.as_slice(), sites),
         Plain::Parameter {
@@ -560,19 +560,19 @@ pub fn add_plain<'a>(
             data_type,
             values,
         } => add_constants(scope, *word, data_type, values.as_slice(), sites),
-        Plain::Assign(delay, sets) => add_sets(alloc, standing, delay, sets.as_slice(), sites),
+        Plain::Assign(delay, sets) => add_sets(alloc, around_it, delay, sets.as_slice(), sites),
         Plain::Gate {
             gate_type,
             delay,
             gates,
-        } => add_gates(alloc, standing, *gate_type, delay, gates.as_slice(), sites),
+        } => add_gates(alloc, around_it, *gate_type, delay, gates.as_slice(), sites),
         Plain::Inst {
             module,
             conns,
             insts,
         } => add_children(
             alloc,
-            standing,
+            around_it,
             module,
             conns.as_slice(),
             insts.as_slice(),
@@ -587,15 +587,15 @@ pub fn add_plain<'a>(
 /// An item that holds none; of another one nothing is made.
 pub fn add_item<'a>(
     alloc: Global,
-    standing: Standing<'a, '_>,
+    around_it: Around<'a, '_>,
     item: &'a Item,
     sites: &mut Listing<'a>,
 ) -> Result<(), NoMemory>
     ensures { OnOk result (sites_seen sites.new ≡ Sites.own_item
-        (standing_seen standing.entry) (item_tree item.now) (sites_seen sites.old)) }
+        (around_seen around_it.entry) (item_tree item.now) (sites_seen sites.old)) }
 {
     match &item.form {
-        ItemForm::Plain(plain) => add_plain(alloc, standing, item.place, plain, sites),
+        ItemForm::Plain(plain) => add_plain(alloc, around_it, item.place, plain, sites),
         ItemForm::Generate | ItemForm::Endgenerate | ItemForm::For { .. } | ItemForm::If { .. } =>
             Ok(()),
     }

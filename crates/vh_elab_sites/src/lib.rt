@@ -23,7 +23,7 @@ pub use entries::{
     BlockName, BlockText, Choice, block_bytes, block_items, block_place, is_lone, is_lone_if,
     name_place,
 };
-pub use items::{Standing, add_item, add_pars, add_plain, add_ports};
+pub use items::{Around, add_item, add_pars, add_plain, add_ports};
 pub use site::{
     CodeWord, Declared, Driven, GenvarAt, Listing, Site, Thing, VarType, add_site, is_object,
 };

@@ -12,7 +12,7 @@ use Rattle.vh_ast.specs.Items.{ConnTree, ordered, by_name, ItemTree, item, plain
 use Rattle.vh_bind.specs.Constants.{constant}
 use Rattle.vh_bind.specs.Scopes.{Scope}
 use Rattle.vh_bind.specs.Selects.{Outcome}
-use Rattle.vh_elab_index.specs.First.{place_in}
+use Rattle.vh_elab_index.specs.First.{position_in}
 use Rattle.vh_bind_least.specs.Least.{Fault, fault_if, least}
 use Rattle.vh_elab_declare.specs.Constants.{Given}
 
@@ -62,7 +62,7 @@ is_by_name c = not (is_ordered c)
 
 -- An entry by name is for a parameter of that name, which is named once.
 abbrev pub has_name : Names → List ℕ → Bool
-has_name names name = is_some (place_in names name)
+has_name names name = is_some (position_in names name)
 
 abbrev pub named_fault : Names → Names → ConnTree → Option Fault
 named_fault names before (ordered e) = None

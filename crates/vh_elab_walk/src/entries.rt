@@ -48,10 +48,10 @@ fn name_fault(known: &Index, before: &Index, place: Place, id: &Id) -> Option<Fa
         ≡ Overrides.named_fault known.now before.now (by_name place id.now None) }
 {
     let name = id.name.as_slice();
-    if before.place(name).is_some() {
+    if before.position(name).is_some() {
         return Some((DesignFault::N7, place));
     }
-    fault_if(known.place(name).is_none(), DesignFault::N1, id.place)
+    fault_if(known.position(name).is_none(), DesignFault::N1, id.place)
 }
 
 // That of an entry.

@@ -161,7 +161,7 @@ kind_same p q d s e (kind.Join first rest) w g agree h =
     (joined_same p q d.exprs e (alone q d.exprs first) rest agree (and_right (nat_lt first e) (all_before e rest) h))
 kind_same p q d s e (kind.Repeat count a) w g agree h =
     ap (λ (v : Vector). resized (record { digits = times count v.digits; signed = false }) w g) (alone_same p q d.exprs e a agree (ltb-true a e h))
-kind_same p q d s e (kind.Marked a signed) w g agree h =
+kind_same p q d s e (kind.WithSign a signed) w g agree h =
     ap (λ (v : Vector). resized (record v { signed = signed }) w g) (alone_same p q d.exprs e a agree (ltb-true a e h))
 kind_same p q d s e (kind.Time unit) w g agree h = refl
 kind_same p q d s e (kind.Call function result arguments) w g agree h = refl

@@ -2,7 +2,7 @@
 pub mod SelectsLemmas
 -- The value of an expression, by those before it.
 pub mod ValueLemmas
--- Which operand stands at a place, and what is left behind it.
+-- Which operand stands at a position, and what is left behind it.
 pub mod ReadyLemmas
 -- A value so many times, and a value as it is.
 pub mod OperatorsLemmas

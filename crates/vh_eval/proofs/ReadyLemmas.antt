@@ -1,4 +1,4 @@
--- Lemmas on `specs/Ready.antt`, and on chains: the operand at a place, and what is left behind it.
+-- Lemmas on `specs/Ready.antt`, and on chains: the operand at a position, and what is left behind it.
 use Rattle.std.proofs.Common.{◌≡◌, ◌∙◌, ◌<◌, ◌≤◌, ◌+◌, ℕ, zero, suc, List, [], ◌∷◌, length, get_or, drop, take, ◌-◌, min, Bool, true, false, ◌&&◌, nat_lt, Option, Some, slice_get, sym, ap, subst, arith}
 use Rattle.std.specs.Option.{option_map}
 use Rattle.std.proofs.lemmas.Bool.{ltb-true}
@@ -23,7 +23,7 @@ use Rattle.vh_eval.specs.Operators.{of_digit, arithmetic_of, shift_of, compariso
 use Rattle.vh_eval.specs.Ready.{AreBefore, AreReady}
 use Rattle.vh_eval.specs.Value.{Valuation, alone, arithmetic_chain, shift_chain, comparison_chain, logic_chain, joined}
 
--- The part of the link at a place.
+-- The part of the link at a position.
 part_at : {Op : Type 0} (links : List (Link Op)) (k : ℕ) (d : Link Op) → k < length links
     → slice_get (operands links) k ≡ Some (get_or links k d).part
 part_at {Op} links k d inside =
@@ -43,7 +43,7 @@ pub ready_wide : {Op : Type 0} (ns : List ExprNode) (e w : ℕ) (links : List (L
     → AreReady ns e w (operands links) → k < length links → width_of ns (get_or links k d).part ≤ w
 ready_wide ns e w links k d ready inside = (ready k (get_or links k d).part (part_at links k d inside)).1
 
--- A number at a place.
+-- A number at a position.
 pub number_before : (e : ℕ) (parts : List ℕ) (k d : ℕ) → AreBefore e parts → k < length parts → get_or parts k d < e
 number_before e parts k d before inside = before k (get_or parts k d) (slice_get-get_or parts k d inside)
 

@@ -45,20 +45,20 @@ enough xs zero n k h i = refl
 enough [] (suc m) n k h i = take-replicate (suc m) n X h ∙ sym (take-replicate (suc m) k X i)
 enough (x ∷ xs) (suc m) n k h i = ap (λ (t : List Digit). x ∷ t) (enough xs m n k (omega arith) (omega arith))
 
--- All x, where the place is above the value.
-pub above_past : (ds : List Digit) (place width : ℕ) → length ds ≤ place → digits_above ds place width ≡ replicate width X
-above_past ds place width past = rw (drop_of_length-le ds past) (take-replicate width width X (omega arith))
+-- All x, where the position is above the value.
+pub above_past : (ds : List Digit) (position width : ℕ) → length ds ≤ position → digits_above ds position width ≡ replicate width X
+above_past ds position width past = rw (drop_of_length-le ds past) (take-replicate width width X (omega arith))
 
 -- Those that the value has, and x above.
-pub above_partly : (ds : List Digit) (place width there : ℕ) → there ≡ length ds - place → there ≤ width
-    → digits_above ds place width ≡ take there (drop place ds) ++ replicate (width - there) X
-above_partly ds place width there is partly =
-    let len : length (drop place ds) ≡ there = length-drop place ds ∙ sym is in
-    let sum : width ≡ length (drop place ds) + (width - there) = omega arith in
-    ap (λ (w : ℕ). take w (drop place ds ++ replicate width X)) sum
-    ∙ take-append-add (drop place ds) (replicate width X) (width - there)
-    ∙ ap (λ (t : List Digit). drop place ds ++ t) (take-replicate (width - there) width X (omega arith))
-    ∙ ap (λ (t : List Digit). t ++ replicate (width - there) X) (sym (take_all there (drop place ds) (omega arith)))
+pub above_partly : (ds : List Digit) (position width there : ℕ) → there ≡ length ds - position → there ≤ width
+    → digits_above ds position width ≡ take there (drop position ds) ++ replicate (width - there) X
+above_partly ds position width there is partly =
+    let len : length (drop position ds) ≡ there = length-drop position ds ∙ sym is in
+    let sum : width ≡ length (drop position ds) + (width - there) = omega arith in
+    ap (λ (w : ℕ). take w (drop position ds ++ replicate width X)) sum
+    ∙ take-append-add (drop position ds) (replicate width X) (width - there)
+    ∙ ap (λ (t : List Digit). drop position ds ++ t) (take-replicate (width - there) width X (omega arith))
+    ∙ ap (λ (t : List Digit). t ++ replicate (width - there) X) (sym (take_all there (drop position ds) (omega arith)))
 
 -- All x, where the value is further up.
 pub below_past : (ds : List Digit) (distance width : ℕ) → width ≤ distance → digits_below ds distance width ≡ replicate width X

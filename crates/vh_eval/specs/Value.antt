@@ -24,7 +24,7 @@ use Rattle.vh_design_nodes.specs.Widths.{width_of, signed_of, object_width, obje
 use Rattle.vh_design.specs.Shape.{Shape}
 use Rattle.vh_store.specs.Contents.{Contents, found, shown, result_of}
 use Rattle.vh_eval.specs.Operators.{of_digit, reduction, signed_of as sign_changed, arithmetic_of, shift_of, comparison_of, logic_of, choice_of, times, time_in}
-use Rattle.vh_eval.specs.Selects.{selected, digits_from, place_of, address_of}
+use Rattle.vh_eval.specs.Selects.{selected, digits_from, position_of, address_of}
 
 -- The value of an expression in a context of a width and a sign. (5.4 and 5.5)
 abbrev pub Valuation : Type 0
@@ -55,7 +55,7 @@ select_value part ns v select.Whole = v
 select_value part ns v (select.Bit range index) =
     selected v.digits range true (integer_of (alone part ns index)) 1
 select_value part ns v (select.Slice range lowest width) =
-    record { digits = digits_from v.digits (place_of range (pos lowest)) width; signed = false }
+    record { digits = digits_from v.digits (position_of range (pos lowest)) width; signed = false }
 select_value part ns v (select.Indexed up range base width) =
     selected v.digits range up (integer_of (alone part ns base)) width
 
@@ -121,7 +121,7 @@ own_value part d s e (kind.Choice condition a b) = filled 1 X false
 own_value part d s e (kind.Join first rest) = joined part d.exprs (alone part d.exprs first) rest
 own_value part d s e (kind.Repeat count a) =
     record { digits = times count (alone part d.exprs a).digits; signed = false }
-own_value part d s e (kind.Marked a signed) = record (alone part d.exprs a) { signed = signed }
+own_value part d s e (kind.WithSign a signed) = record (alone part d.exprs a) { signed = signed }
 own_value part d s e (kind.Time unit) = time_in s.time unit d.precision
 own_value part d s e (kind.Call function result arguments) = result_of s e
 own_value part d s e (kind.SysCall o) = result_of s e
@@ -140,7 +140,7 @@ kind_value part d s e (kind.Comparison first rest) w g = resized (own_value part
 kind_value part d s e (kind.Logic first rest) w g = resized (own_value part d s e (kind.Logic first rest)) w g
 kind_value part d s e (kind.Join first rest) w g = resized (own_value part d s e (kind.Join first rest)) w g
 kind_value part d s e (kind.Repeat count a) w g = resized (own_value part d s e (kind.Repeat count a)) w g
-kind_value part d s e (kind.Marked a signed) w g = resized (own_value part d s e (kind.Marked a signed)) w g
+kind_value part d s e (kind.WithSign a signed) w g = resized (own_value part d s e (kind.WithSign a signed)) w g
 kind_value part d s e (kind.Time unit) w g = resized (own_value part d s e (kind.Time unit)) w g
 kind_value part d s e (kind.Call function result arguments) w g =
     resized (own_value part d s e (kind.Call function result arguments)) w g

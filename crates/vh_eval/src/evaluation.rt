@@ -12,7 +12,7 @@ ghost use Rattle.vh_eval.specs.Selects.{address_of};
 ghost use Rattle.vh_eval.specs.Value.{value_of, value_below, kind_value, own_value, unary_value, alone, whole, word_or_x, chosen_at, select_value, selected_value, arithmetic_chain, shift_chain, comparison_chain, compared, compared_all, logic_chain, joined};
 
 use crate::operators::{
-    arithmetic, choice, comparison, is_reduction, logic, marked, of_digit, reduction, repeated,
+    arithmetic, choice, comparison, is_reduction, logic, with_sign, of_digit, reduction, repeated,
     shift, sign_changed, time_in,
 };
 use crate::selects::{address_of, selected, sliced};
@@ -364,7 +364,7 @@ fn composed_in(d: &Design, s: &Store, e: ExprId, kind: &ExprKind, width: u32, si
         | ExprKind::Logic { .. }
         | ExprKind::Join { .. }
         | ExprKind::Repeat { .. }
-        | ExprKind::Marked { .. }
+        | ExprKind::WithSign { .. }
         | ExprKind::Time { .. }
         | ExprKind::Call { .. }
         | ExprKind::SysCall(_) => resize(&own_in(d, s, e, kind), width, signed),
@@ -418,7 +418,7 @@ fn own_in(d: &Design, s: &Store, e: ExprId, kind: &ExprKind) -> Vec4
             joined_in(d, s, e, v, rest.as_slice())
         }
         ExprKind::Repeat { count, part } => repeated(&alone_in(d, s, *part), *count),
-        ExprKind::Marked { part, signed } => marked(&alone_in(d, s, *part), *signed),
+        ExprKind::WithSign { part, signed } => with_sign(&alone_in(d, s, *part), *signed),
         ExprKind::Time { unit } => time_in(s.time(), *unit, d.precision()),
         ExprKind::Call { .. } | ExprKind::SysCall(_) => s.result(e),
         ExprKind::Unary { .. }

@@ -16,4 +16,4 @@ mod selects;
 
 pub use evaluation::eval;
 pub use laws::eval_laws;
-pub use selects::{integer, lowest_index, place_of, selected, sliced};
+pub use selects::{integer, lowest_index, position_of, selected, sliced};

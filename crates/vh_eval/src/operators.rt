@@ -42,7 +42,7 @@ pub(crate) fn is_reduction(op: Unary) -> bool
 }
 
 // A value with another sign mark.
-pub(crate) fn marked(v: &Vec4, signed: bool) -> Vec4
+pub(crate) fn with_sign(v: &Vec4, signed: bool) -> Vec4
     ensures value { result ≡ record v.now { signed = signed } }
     ensures width { width_of result ≡ width_of v.now }
 {

@@ -3,7 +3,7 @@ ghost use Rattle.vh_logic.specs.Vector.{width_of, filled};
 ghost use Rattle.vh_logic.specs.declared.digits.Digit.TheVariants.{X};
 ghost use Rattle.vh_logic.specs.Number.{integer_at, integer_of};
 ghost use Rattle.vh_logic.specs.declared.vector.TheConstants.{MAX_WIDTH};
-ghost use Rattle.vh_eval.specs.Selects.{digits_above, digits_below, digits_from, place_of, lowest_index, selected, address_of};
+ghost use Rattle.vh_eval.specs.Selects.{digits_above, digits_below, digits_from, position_of, lowest_index, selected, address_of};
 
 use vh_design::Range;
 use vh_logic::{Digit, Plane, Vec4, concat, mask, select};
@@ -42,11 +42,11 @@ pub(crate) fn address_of(index: &Vec4) -> Option<u32>
     u32::try_from(integer(index)?).ok()
 }
 
-/// The place of an index in a range: 0 at the range's last index (IEEE 1364-2005, 4.3.1).
-pub fn place_of(range: Range, index: i128) -> i128
+/// The position of an index in a range: 0 at the range's last index (IEEE 1364-2005, 4.3.1).
+pub fn position_of(range: Range, index: i128) -> i128
     requires below { index <ℤ pos (2 ^ 65) }
     requires above { neg_ℤ (pos (2 ^ 65)) <ℤ index }
-    ensures value { result ≡ place_of range index }
+    ensures value { result ≡ position_of range index }
     ensures below { result <ℤ pos (2 ^ 66) }
     ensures above { neg_ℤ (pos (2 ^ 66)) <ℤ result }
 {
@@ -76,7 +76,7 @@ pub fn lowest_index(range: Range, up: bool, index: i128, width: u32) -> i128
     }
 }
 
-// x at so many places.
+// x at so many positions.
 fn unknown(width: u32) -> Vec4
     requires least { 1 ≤ width }
     requires most { width ≤ MAX_WIDTH }
@@ -86,28 +86,28 @@ fn unknown(width: u32) -> Vec4
     Vec4::filled(width, Digit::X, false)
 }
 
-// So many digits from a place on.
-fn digits_above(v: &Vec4, place: u128, width: u32) -> Vec4
+// So many digits from a position on.
+fn digits_above(v: &Vec4, position: u128, width: u32) -> Vec4
     requires least { 1 ≤ width }
     requires most { width ≤ MAX_WIDTH }
     ensures value { result ≡ record {
-      digits = digits_above (v.now).digits place width;
+      digits = digits_above (v.now).digits position width;
       signed = false;
     } }
     ensures width { width_of result ≡ width }
 {
-    if place >= u128::from(v.width()) {
+    if position >= u128::from(v.width()) {
         return unknown(width);
     }
-    let place = place as u32;
-    let there = v.width() - place;
+    let position = position as u32;
+    let there = v.width() - position;
     if width <= there {
-        return select(v, place, width);
+        return select(v, position, width);
     }
-    concat(&unknown(width - there), &select(v, place, there))
+    concat(&unknown(width - there), &select(v, position, there))
 }
 
-// So many digits from so many places below the lowest on.
+// So many digits from so many positions below the lowest on.
 fn digits_below(v: &Vec4, distance: u128, width: u32) -> Vec4
     requires some { 1 ≤ distance }
     requires least { 1 ≤ width }
@@ -125,18 +125,18 @@ fn digits_below(v: &Vec4, distance: u128, width: u32) -> Vec4
     concat(&digits_above(v, 0, width - distance), &unknown(distance))
 }
 
-// So many digits from a place on, of which 0 is the lowest.
-fn digits_from(v: &Vec4, place: i128, width: u32) -> Vec4
+// So many digits from a position on, of which 0 is the lowest.
+fn digits_from(v: &Vec4, position: i128, width: u32) -> Vec4
     requires least { 1 ≤ width }
     requires most { width ≤ MAX_WIDTH }
     ensures value { result ≡ record {
-      digits = digits_from (v.now).digits place width;
+      digits = digits_from (v.now).digits position width;
       signed = false;
     } }
     ensures width { width_of result ≡ width }
 {
-    let distance = place.unsigned_abs();
-    if place < 0 {
+    let distance = position.unsigned_abs();
+    if position < 0 {
         return digits_below(v, distance, width);
     }
     digits_above(v, distance, width)
@@ -154,7 +154,7 @@ pub fn selected(v: &Vec4, range: Range, up: bool, index: &Vec4, width: u32) -> V
         return unknown(width);
     };
     let lowest = lowest_index(range, up, index, width);
-    digits_from(v, place_of(range, lowest), width)
+    digits_from(v, position_of(range, lowest), width)
 }
 
 /// The digits from the one of a constant index on, upwards; x where the value has none (IEEE 1364-2005, 5.2.1).
@@ -163,10 +163,10 @@ pub fn sliced(v: &Vec4, range: Range, lowest: u32, width: u32) -> Vec4
     requires most { width ≤ MAX_WIDTH }
     ensures value { result ≡ record {
       digits = digits_from (v.now).digits
-          (place_of range (pos lowest)) width;
+          (position_of range (pos lowest)) width;
       signed = false;
     } }
     ensures width { width_of result ≡ width }
 {
-    digits_from(v, place_of(range, i128::from(lowest)), width)
+    digits_from(v, position_of(range, i128::from(lowest)), width)
 }

@@ -198,8 +198,8 @@ fn set(live: &mut BTreeMap<u64, Thing, Global>, number: u64, thing: Thing)
     requires { is_some (lookup (is_at (nat_cmp number)) live.old.entries) ≡ true }
     ensures { live.new.entries ≡ set_value (is_at (nat_cmp number)) live.old.entries thing }
 {
-    let Some(place) = live.get_mut(&number) else {
+    let Some(position) = live.get_mut(&number) else {
         unreachable!();
     };
-    *place = thing;
+    *position = thing;
 }

@@ -17,7 +17,7 @@ use Rattle.vh_host.specs.declared.status.Status.{Status}
 use Rattle.vh_host.specs.declared.status.Status.TheVariants as status
 use Rattle.vh_host.specs.declared.judging.Refusal.{Refusal}
 use Rattle.vh_host.specs.declared.judging.Refusal.TheVariants as refusal
-use Rattle.vh_host_words.specs.Words.{Reading, reading, files_of, order_of, budget_of, file_words, is_script_word}
+use Rattle.vh_host_words.specs.Words.{Reading, reading, files_of, chooser_of, budget_of, file_words, is_script_word}
 use Rattle.vh_host.specs.Acceptance.{Verdict, accepts, refuses, by_reading, by_files, by_length, by_texts, by_source, by_scripts, by_elaboration, begin_from, names_of, script_in, script_then, scripts_of, DesignRefusal, source_of, verdict, File, files_with, first_too_long}
 use Rattle.vh_host.specs.Transcript.{WroteOf, WroteFromOpening}
 use Rattle.vh_host.specs.Headline.{Holds, FailsBefore, AnswersWith, Accounts, Transcribes, Refuses, WereAnswered, Tells}
@@ -119,10 +119,10 @@ refused_texts order budget refusal.NoMemory v w is = no_memory order budget v w
 -- The account of a call, by the reading of its words.
 account_of : (words : List (List ℕ)) (holds : Holds) (s : Status) (old new : Option (List ℕ)) (r : Option Reading) (contents : List (List ℕ))
     → r ≡ reading words → WereAnswered holds (files_of r) contents
-    → AnswersWith (order_of r) (budget_of r) (by_reading r contents) s old new → Accounts words holds s old new
+    → AnswersWith (chooser_of r) (budget_of r) (by_reading r contents) s old new → Accounts words holds s old new
 account_of words holds s old new r contents is answered answers =
     let P : Option Reading → Type 0 = λ r. WereAnswered holds (files_of r) contents in
-    let Q : Option Reading → Type 0 = λ r. AnswersWith (order_of r) (budget_of r) (by_reading r contents) s old new in
+    let Q : Option Reading → Type 0 = λ r. AnswersWith (chooser_of r) (budget_of r) (by_reading r contents) s old new in
     record { contents = contents; answered = subst P is answered; answers = subst Q is answers }
 
 -- Files that were read whole.
@@ -166,21 +166,21 @@ told_reading (Some r) holds read whole answered told = told_verdict holds r.file
 -- So is the account.
 told_answers : (words : List (List ℕ)) (holds : Holds) (s : Status) (old new : Option (List ℕ)) (contents : List (List ℕ)) (v : Verdict)
     → Accounts words holds s old new → Tells holds (files_of (reading words)) contents → verdict words contents ≡ v
-    → AnswersWith (order_of (reading words)) (budget_of (reading words)) v s old new
+    → AnswersWith (chooser_of (reading words)) (budget_of (reading words)) v s old new
 told_answers words holds s old new contents v a told is =
-    let Q : Verdict → Type 0 = λ u. AnswersWith (order_of (reading words)) (budget_of (reading words)) u s old new in
+    let Q : Verdict → Type 0 = λ u. AnswersWith (chooser_of (reading words)) (budget_of (reading words)) u s old new in
     subst Q (told_reading (reading words) holds a.contents contents a.answered told ∙ is) a.answers
 
 -- The headline, of the account.
 pub transcribes_of : (words : List (List ℕ)) (holds : Holds) (s : Status) (old new : Option (List ℕ))
     → Accounts words holds s old new → Transcribes words holds s old new
 transcribes_of words holds s old new a contents before design scripts told accepted known =
-    let w : AnswersWith (order_of (reading words)) (budget_of (reading words)) (accepts design scripts) s old new = told_answers words holds s old new contents (accepts design scripts) a told accepted in
+    let w : AnswersWith (chooser_of (reading words)) (budget_of (reading words)) (accepts design scripts) s old new = told_answers words holds s old new contents (accepts design scripts) a told accepted in
     (w.written, w.appends ∙ ap (λ (o : Option (List ℕ)). appended o w.written) known, w.answers)
 
 -- The refusals, of the account.
 pub refuses_of : (words : List (List ℕ)) (holds : Holds) (s : Status) (old new : Option (List ℕ))
     → Accounts words holds s old new → Refuses words holds s old new
 refuses_of words holds s old new a contents refusal told refused =
-    let w : AnswersWith (order_of (reading words)) (budget_of (reading words)) (refuses refusal) s old new = told_answers words holds s old new contents (refuses refusal) a told refused in
+    let w : AnswersWith (chooser_of (reading words)) (budget_of (reading words)) (refuses refusal) s old new = told_answers words holds s old new contents (refuses refusal) a told refused in
     (w.answers.0, w.appends ∙ ap (λ (x : List ℕ). appended old x) w.answers.1 ∙ appended_nothing old)

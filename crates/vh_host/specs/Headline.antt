@@ -7,7 +7,7 @@ use Rattle.vh_kernel_choice.specs.declared.chooser.Chooser.{Chooser}
 use Rattle.vh_app.specs.Script.{ScriptData}
 use Rattle.vh_host.specs.declared.status.Status.{Status}
 use Rattle.vh_host.specs.declared.status.Status.TheVariants as status
-use Rattle.vh_host_words.specs.Words.{file_words, order_word, budget_word}
+use Rattle.vh_host_words.specs.Words.{file_words, chooser_word, budget_word}
 use Rattle.vh_host.specs.Acceptance.{Verdict, accepts, refuses, verdict, limit_of}
 use Rattle.vh_host.specs.Transcript.{WroteFromOpening, IsTextFromOpening}
 
@@ -70,7 +70,7 @@ pub record AnswersWith (order : Chooser) (budget : ℕ) (v : Verdict) (s : Statu
 pub record Accounts (words : List (List ℕ)) (holds : Holds) (s : Status) (old new : Option (List ℕ)) : Type 0 where
   pub contents : List (List ℕ)
   pub answered : WereAnswered holds (file_words words) contents
-  pub answers : AnswersWith (order_word words) (budget_word words) (verdict words contents) s old new
+  pub answers : AnswersWith (chooser_word words) (budget_word words) (verdict words contents) s old new
 
 -- The headline. For accepted words, texts and scripts, where the source tells the files' contents and the
 -- sink tells its own, the bytes written are exactly the text of a run of the machine from the opening
@@ -81,7 +81,7 @@ Transcribes words holds s old new =
     (contents : List (List ℕ)) (before : List ℕ) (design : Shape) (scripts : List ScriptData) →
     Tells holds (file_words words) contents → verdict words contents ≡ accepts design scripts → old ≡ Some before →
     (written : List ℕ) × (new ≡ Some (before ++ written))
-    × WroteFromOpening (order_word words) (budget_word words) design scripts s written
+    × WroteFromOpening (chooser_word words) (budget_word words) design scripts s written
 
 -- A refused input gets its refusal, and nothing is written, unless the source failed or memory was
 -- refused before that was found; where the source tells the files' contents.

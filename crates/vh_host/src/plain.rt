@@ -3,7 +3,7 @@ ghost use Rattle.std.specs.List.{list_any};
 ghost use Rattle.vh_kernel.specs.Views.{state_of};
 ghost use Rattle.vh_kernel.specs.Step.{choices_of};
 ghost use Rattle.vh_kernel.specs.Run.{moves_of, text_of, line_of_move};
-ghost use Rattle.vh_host_words.specs.Words.{texts, order_word};
+ghost use Rattle.vh_host_words.specs.Words.{texts, chooser_word};
 ghost use Rattle.vh_host.specs.Acceptance.{verdict, by_files, by_texts, files_with, first_too_long, is_too_long};
 ghost use Rattle.vh_host.specs.Reading.{file_seen, files_seen};
 ghost use Rattle.vh_host.specs.Headline.{IsTextBy};
@@ -31,7 +31,7 @@ pub fn plain_text(
     budget: u64,
 ) -> Result<Vec<u8>, NoMemory>
     ensures { IfOk result
-        (λ text. IsTextBy (order_word (texts words.now)) budget (verdict
+        (λ text. IsTextBy (chooser_word (texts words.now)) budget (verdict
         (texts words.now) contents.now) text.items) }
 {
     let Some(asked) = read_words(alloc, words)? else {

@@ -50,8 +50,8 @@ number_named word = if is_numeral word then below (2 ^ 64) (digits_value 10 word
 abbrev pub seed_named : List ℕ → Option Chooser
 seed_named word = option_map (λ n. chooser.Seeded n) (number_named word)
 
-abbrev pub order_named : List ℕ → Option Chooser
-order_named word =
+abbrev pub chooser_named : List ℕ → Option Chooser
+chooser_named word =
     if bytes_eq word (codes "fifo") then Some chooser.Fifo else (if bytes_eq word (codes "lifo") then Some chooser.Lifo
     else (if starts_with ◌==◌ word (codes "seeded:") then seed_named (drop 7 word) else None))
 
@@ -85,9 +85,9 @@ abbrev pub with_position : List ℕ → Saying → Option Saying
 with_position word s = if is_some s.mode then with_file word s else with_mode s (mode_named word)
 
 -- An option is said once at most.
-abbrev pub with_order : Option Chooser → Saying → Option Saying
-with_order None s = None
-with_order (Some order) s =
+abbrev pub with_chooser : Option Chooser → Saying → Option Saying
+with_chooser None s = None
+with_chooser (Some order) s =
     if is_some s.order then None else Some (record s { order = Some order; expects = expects.Anything })
 
 abbrev pub with_budget : Option ℕ → Saying → Option Saying
@@ -105,7 +105,7 @@ is_option word = starts_with ◌==◌ word (codes "-") && not (bytes_eq word (co
 
 abbrev pub with_valued : List ℕ → Saying → Option Saying
 with_valued word s =
-    if starts_with ◌==◌ word (codes "--order=") then with_order (order_named (drop 8 word)) s
+    if starts_with ◌==◌ word (codes "--order=") then with_chooser (chooser_named (drop 8 word)) s
     else (if starts_with ◌==◌ word (codes "--budget=") then with_budget (budget_named (drop 9 word)) s else None)
 
 abbrev pub with_option : List ℕ → Saying → Option Saying
@@ -120,7 +120,7 @@ with_any word s = if is_option word then with_option word s else with_position w
 -- One word more, by what is expected.
 abbrev pub with_expected : Expects → List ℕ → Saying → Option Saying
 with_expected expects.Anything word s = with_any word s
-with_expected expects.Order word s = with_order (order_named word) s
+with_expected expects.Order word s = with_chooser (chooser_named word) s
 with_expected expects.Budget word s = with_budget (budget_named word) s
 with_expected expects.Position word s = with_position word s
 
@@ -169,12 +169,12 @@ files_of (Some r) = r.files
 abbrev pub file_words : List (List ℕ) → List (List ℕ)
 file_words words = files_of (reading words)
 
-abbrev pub order_of : Option Reading → Chooser
-order_of None = chooser.Fifo
-order_of (Some r) = r.order
+abbrev pub chooser_of : Option Reading → Chooser
+chooser_of None = chooser.Fifo
+chooser_of (Some r) = r.order
 
-abbrev pub order_word : List (List ℕ) → Chooser
-order_word words = order_of (reading words)
+abbrev pub chooser_word : List (List ℕ) → Chooser
+chooser_word words = chooser_of (reading words)
 
 abbrev pub budget_of : Option Reading → ℕ
 budget_of None = default_budget

@@ -4,7 +4,7 @@ ghost use Rattle.vh_host_words.specs.Words;
 ghost use Rattle.vh_host_words.specs.Words.{texts};
 ghost use Rattle.vh_host_words.specs.Views.{saying};
 
-use crate::values::{budget_named, order_named};
+use crate::values::{budget_named, chooser_named};
 use std::alloc::Global;
 use vh_base::NoMemory;
 use vh_kernel_choice::Chooser;
@@ -64,8 +64,8 @@ impl Said {
         said
     }
 
-    fn with_order(self, order: Option<Chooser>) -> Option<Said>
-        ensures { option_map saying result ≡ Words.with_order order (saying self) }
+    fn with_chooser(self, order: Option<Chooser>) -> Option<Said>
+        ensures { option_map saying result ≡ Words.with_chooser order (saying self) }
     {
         let order = order?;
         if self.order.is_some() {
@@ -118,7 +118,7 @@ impl Said {
         ensures { option_map saying result ≡ Words.with_valued word.now (saying self) }
     {
         if let Some(value) = word.strip_prefix("--order=") {
-            return self.with_order(order_named(value));
+            return self.with_chooser(chooser_named(value));
         }
         let value = word.strip_prefix("--budget=")?;
         self.with_budget(budget_named(value))
@@ -152,7 +152,7 @@ impl Said {
     {
         match self.expects {
             Expects::Anything => self.with_any(alloc, word),
-            Expects::Order => Ok(self.with_order(order_named(word))),
+            Expects::Order => Ok(self.with_chooser(chooser_named(word))),
             Expects::Budget => Ok(self.with_budget(budget_named(word))),
             Expects::Position => self.with_position(alloc, word),
         }

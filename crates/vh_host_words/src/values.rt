@@ -1,6 +1,6 @@
 ghost use Rattle.std.specs.Prelude.{◌≡◌, Some, None};
 ghost use Rattle.std.specs.List.{list_all};
-ghost use Rattle.vh_host_words.specs.Words.{is_digit, is_numeral, number_named, order_named, seed_named, budget_in, budget_named};
+ghost use Rattle.vh_host_words.specs.Words.{is_digit, is_numeral, number_named, chooser_named, seed_named, budget_in, budget_named};
 
 use vh_kernel_choice::Chooser;
 
@@ -46,8 +46,8 @@ fn seed_named(word: &str) -> Option<Chooser>
 }
 
 /// The order of choice that a word is.
-pub fn order_named(word: &str) -> Option<Chooser>
-    ensures { result ≡ order_named word.now }
+pub fn chooser_named(word: &str) -> Option<Chooser>
+    ensures { result ≡ chooser_named word.now }
 {
     match word {
         "fifo" => Some(Chooser::Fifo),

@@ -35,9 +35,9 @@ use Rattle.vh_queue.specs.declared.entry.Entry.{Entry}
 use Rattle.vh_queue.specs.declared.region.Region.TheVariants as region
 use Rattle.vh_queue.specs.Events.{Events, is_full, added, cleared}
 use Rattle.vh_proc_simulation.specs.Activity.{Activity}
-use Rattle.vh_proc_simulation.specs.Entries.{Watched, watched, Agenda, woken_one, all_woken, waking, monitor_entered, monitored, list_reads, following, entered, entered_by, all_entered}
-use Rattle.vh_proc_simulation.specs.Follows.{Serials, no_serials, noted, Followed, followed, last_of, is_standing, is_in_place, added_one, follow_entered, one_followed, all_followed}
-use Rattle.vh_proc_simulation.specs.Labels.{Came, Performed, with_entries, agenda_of, with_world, world_in, monitor_of, displayed_by, displayed_at, displayed, performed, with_changes, worked}
+use Rattle.vh_proc_simulation.specs.Entries.{Watched, watched, Scheduling, woken_one, all_woken, waking, monitor_entered, monitored, list_reads, following, entered, entered_by, all_entered}
+use Rattle.vh_proc_simulation.specs.Follows.{Serials, no_serials, noted, Followed, followed, last_of, is_standing, is_in_force, added_one, follow_entered, one_followed, all_followed}
+use Rattle.vh_proc_simulation.specs.Labels.{Came, Performed, with_entries, scheduling_of, with_world, world_in, monitor_of, displayed_by, displayed_at, displayed, performed, with_changes, worked}
 use Rattle.vh_sense.specs.declared.follow.Follow.{Follow}
 use Rattle.vh_sense.specs.Sensitivity.{woken, readers_of}
 use Rattle.vh_store.specs.Contents.{Contents, driven, same_value}
@@ -121,8 +121,8 @@ WatchedKeeps P w = P w.queue
 abbrev ShownKeeps : (Events → Type 0) → Option (List ℕ) × Watched → Type 0
 ShownKeeps P c = P c.1.queue
 
-abbrev AgendaKeeps : (Serials → Events → Type 0) → Agenda → Type 0
-AgendaKeeps Q a = Q a.follows a.queue
+abbrev SchedulingKeeps : (Serials → Events → Type 0) → Scheduling → Type 0
+SchedulingKeeps Q a = Q a.follows a.queue
 
 abbrev FollowedKeeps : (Serials → Events → Type 0) → Followed → Type 0
 FollowedKeeps Q b = Q b.serials b.queue
@@ -408,7 +408,7 @@ module _ (Q : Serials → Events → Type 0) (k : KeepsNotes Q) where
 
   one-followed-keeps : (s : Contents) (f : Follow) (b : Followed) → Q b.serials b.queue → AllOk (FollowedKeeps Q) (one_followed s f b)
   one-followed-keeps s f b holds =
-      either-ok (FollowedKeeps Q) (is_in_place s f) (follow_entered f.force f.object b) (Ok b)
+      either-ok (FollowedKeeps Q) (is_in_force s f) (follow_entered f.force f.object b) (Ok b)
       (entering-follow (is_standing b.queue (last_of f.force f.object b.serials)) f.force f.object b refl holds) holds
 
   followed-keeps : (s : Contents) (fs : List Follow) (b : Followed) → Q b.serials b.queue → AllOk (FollowedKeeps Q) (all_followed s fs b)
@@ -418,31 +418,31 @@ module _ (Q : Serials → Events → Type 0) (k : KeepsNotes Q) where
       then-ok (FollowedKeeps Q) (FollowedKeeps Q) (one_followed s f b) (all_followed s fs) (one-followed-keeps s f b holds)
       (λ c here. followed-keeps s fs c here)
 
-  entered-keeps : (d : Shape) (s : Contents) (c : Change) (a : Agenda) → Q a.follows a.queue → AllOk (AgendaKeeps Q) (entered d s c a)
+  entered-keeps : (d : Shape) (s : Contents) (c : Change) (a : Scheduling) → Q a.follows a.queue → AllOk (SchedulingKeeps Q) (entered d s c a)
   entered-keeps d s c a holds =
       let P : Events → Type 0 = Q a.follows in
-      then-ok (ScheduledKeeps P) (AgendaKeeps Q) (waking c (scheduled a.processes a.sense a.queue)) _
+      then-ok (ScheduledKeeps P) (SchedulingKeeps Q) (waking c (scheduled a.processes a.sense a.queue)) _
       (woken-keeps P (k.each a.follows) (woken a.sense c) (scheduled a.processes a.sense a.queue) holds)
-      (λ o here. then-ok (FollowedKeeps Q) (AgendaKeeps Q) (following s o.sense c (followed a.follows o.queue)) _
+      (λ o here. then-ok (FollowedKeeps Q) (SchedulingKeeps Q) (following s o.sense c (followed a.follows o.queue)) _
       (followed-keeps s (readers_of c.object.id o.sense) (followed a.follows o.queue) here)
-      (λ f behind. then-ok (WatchedKeeps (Q f.serials)) (AgendaKeeps Q) (monitored d c (watched a.monitor f.queue)) _
+      (λ f behind. then-ok (WatchedKeeps (Q f.serials)) (SchedulingKeeps Q) (monitored d c (watched a.monitor f.queue)) _
       (monitored-keeps (Q f.serials) (k.each f.serials) d c (watched a.monitor f.queue) behind) (λ w there. there)))
 
-  entered-by-keeps : (d : Shape) (s : Contents) (c : Option Change) (a : Agenda) → Q a.follows a.queue → AllOk (AgendaKeeps Q) (entered_by d s c a)
+  entered-by-keeps : (d : Shape) (s : Contents) (c : Option Change) (a : Scheduling) → Q a.follows a.queue → AllOk (SchedulingKeeps Q) (entered_by d s c a)
   entered-by-keeps d s None a holds = holds
   entered-by-keeps d s (Some c) a holds = entered-keeps d s c a holds
 
-  all-entered-keeps : (d : Shape) (s : Contents) (ms : List Made) (a : Agenda) → Q a.follows a.queue → AllOk (AgendaKeeps Q) (all_entered d s ms a)
+  all-entered-keeps : (d : Shape) (s : Contents) (ms : List Made) (a : Scheduling) → Q a.follows a.queue → AllOk (SchedulingKeeps Q) (all_entered d s ms a)
   unfolding all_entered
   all-entered-keeps d s [] a holds = holds
   all-entered-keeps d s (m ∷ ms) a holds =
-      then-ok (AgendaKeeps Q) (AgendaKeeps Q) (entered_by d s m.change a) (all_entered d s ms) (entered-by-keeps d s m.change a holds)
+      then-ok (SchedulingKeeps Q) (SchedulingKeeps Q) (entered_by d s m.change a) (all_entered d s ms) (entered-by-keeps d s m.change a holds)
       (λ b here. all-entered-keeps d s ms b here)
 
   entries-keep : (ms : List Made) (a : Activity) → Q a.follows a.queue → AllOk (ActivityKeeps Q) (with_entries ms a)
   entries-keep ms a holds =
-      then-ok (AgendaKeeps Q) (ActivityKeeps Q) (all_entered a.design a.store ms (agenda_of a)) _
-      (all-entered-keeps a.design a.store ms (agenda_of a) holds) (λ g here. here)
+      then-ok (SchedulingKeeps Q) (ActivityKeeps Q) (all_entered a.design a.store ms (scheduling_of a)) _
+      (all-entered-keeps a.design a.store ms (scheduling_of a) holds) (λ g here. here)
 
   -- A label of a process, and an entry that is picked.
   pub performed-keeps : (p : ℕ) (a : Activity) → Q a.follows a.queue → AllOk (PerformedKeeps Q) (performed p a)

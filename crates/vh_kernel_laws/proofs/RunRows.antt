@@ -22,7 +22,7 @@ use Rattle.vh_eval.specs.Value.{value_below}
 use Rattle.vh_design_first.specs.Designs.{instructions_of, codes_of}
 use Rattle.vh_logic.specs.Number.{number_of}
 use Rattle.vh_logic.specs.Planes.{digits_of as plane_digits}
-use Rattle.vh_logic.specs.Vector.{map_digits, zip_digits, all_places}
+use Rattle.vh_logic.specs.Vector.{map_digits, zip_digits, all_positions}
 use Rattle.vh_design_names.specs.Names.{scopes_below, dotted}
 use Rattle.vh_sense.specs.Reads.{reads_below}
 use Rattle.vh_proc_simulation.specs.Entries.{all_woken, all_entered}
@@ -39,34 +39,34 @@ design regs blocks = record { name = codes "top"; regs = regs; blocks = blocks }
 says_hi : text_of (moves_of Fifo 100 (opening (design (codes "a" ∷ [])
     ((code.Assign 0 bit.One ∷ code.Wait 3 ∷ code.Show (codes "hi") ∷ code.Finish ∷ []) ∷ [])) []))
     ≡ codes "3 out \"hi\\n\"\n3 end finish\n"
-unfolding design digits with_pieces made_in_turn target_digits pieces_of arguments_text front value_below instructions_of codes_of number_of plane_digits map_digits zip_digits all_places scopes_below dotted all_woken all_entered all_followed reads_below groups_text block_below gone
+unfolding design digits with_pieces made_in_turn target_digits pieces_of arguments_text front value_below instructions_of codes_of number_of plane_digits map_digits zip_digits all_positions scopes_below dotted all_woken all_entered all_followed reads_below groups_text block_below gone
 says_hi = refl
 
 -- Module top; initial #2 $display("b"); initial #1 $display("a"); endmodule
 by_time : text_of (moves_of Fifo 100 (opening (design []
     ((code.Wait 2 ∷ code.Show (codes "b") ∷ []) ∷ (code.Wait 1 ∷ code.Show (codes "a") ∷ []) ∷ [])) []))
     ≡ codes "1 out \"a\\n\"\n2 out \"b\\n\"\n2 end none\n"
-unfolding design digits with_pieces made_in_turn target_digits pieces_of arguments_text front value_below instructions_of codes_of number_of plane_digits map_digits zip_digits all_places scopes_below dotted all_woken all_entered all_followed reads_below groups_text block_below gone
+unfolding design digits with_pieces made_in_turn target_digits pieces_of arguments_text front value_below instructions_of codes_of number_of plane_digits map_digits zip_digits all_positions scopes_below dotted all_woken all_entered all_followed reads_below groups_text block_below gone
 by_time = refl
 
 -- Module top; initial begin end endmodule
 nothing_to_do : text_of (moves_of Fifo 100 (opening (design [] ([] ∷ [])) [])) ≡ codes "0 end none\n"
-unfolding design digits with_pieces made_in_turn target_digits pieces_of arguments_text front value_below instructions_of codes_of number_of plane_digits map_digits zip_digits all_places scopes_below dotted all_woken all_entered all_followed reads_below groups_text block_below gone
+unfolding design digits with_pieces made_in_turn target_digits pieces_of arguments_text front value_below instructions_of codes_of number_of plane_digits map_digits zip_digits all_positions scopes_below dotted all_woken all_entered all_followed reads_below groups_text block_below gone
 nothing_to_do = refl
 
 -- It has four labels: pick, the process's end, finish, end.
 four_labels : length (moves_of Fifo 100 (opening (design [] ([] ∷ [])) [])) ≡ 4
-unfolding design digits with_pieces made_in_turn target_digits pieces_of arguments_text front value_below instructions_of codes_of number_of plane_digits map_digits zip_digits all_places scopes_below dotted all_woken all_entered all_followed reads_below groups_text block_below gone
+unfolding design digits with_pieces made_in_turn target_digits pieces_of arguments_text front value_below instructions_of codes_of number_of plane_digits map_digits zip_digits all_positions scopes_below dotted all_woken all_entered all_followed reads_below groups_text block_below gone
 four_labels = refl
 
 -- Module top; initial begin #1; #1; $finish; end endmodule
 ten_labels : length (moves_of Fifo 100 (opening (design [] ((code.Wait 1 ∷ code.Wait 1 ∷ code.Finish ∷ []) ∷ [])) [])) ≡ 10
-unfolding design digits with_pieces made_in_turn target_digits pieces_of arguments_text front value_below instructions_of codes_of number_of plane_digits map_digits zip_digits all_places scopes_below dotted all_woken all_entered all_followed reads_below groups_text block_below gone
+unfolding design digits with_pieces made_in_turn target_digits pieces_of arguments_text front value_below instructions_of codes_of number_of plane_digits map_digits zip_digits all_positions scopes_below dotted all_woken all_entered all_followed reads_below groups_text block_below gone
 ten_labels = refl
 
 finishes_at_two : text_of (moves_of Fifo 100 (opening (design [] ((code.Wait 1 ∷ code.Wait 1 ∷ code.Finish ∷ []) ∷ [])) []))
     ≡ codes "2 end finish\n"
-unfolding design digits with_pieces made_in_turn target_digits pieces_of arguments_text front value_below instructions_of codes_of number_of plane_digits map_digits zip_digits all_places scopes_below dotted all_woken all_entered all_followed reads_below groups_text block_below gone
+unfolding design digits with_pieces made_in_turn target_digits pieces_of arguments_text front value_below instructions_of codes_of number_of plane_digits map_digits zip_digits all_positions scopes_below dotted all_woken all_entered all_followed reads_below groups_text block_below gone
 finishes_at_two = refl
 
 -- A script called a.
@@ -108,7 +108,7 @@ bye : text_of (moves_of Fifo 100 (opening (design [] ([] ∷ [])) (says_bye ∷ 
     ++ codes "0 do c1 print \"bye\" => ok\n"
     ++ codes "0 done 1\n"
     ++ codes "0 end none\n"
-unfolding design digits with_pieces made_in_turn target_digits pieces_of arguments_text front value_below instructions_of codes_of number_of plane_digits map_digits zip_digits all_places scopes_below dotted all_woken all_entered all_followed reads_below groups_text block_below gone says_bye script procedure order registers prints
+unfolding design digits with_pieces made_in_turn target_digits pieces_of arguments_text front value_below instructions_of codes_of number_of plane_digits map_digits zip_digits all_positions scopes_below dotted all_woken all_entered all_followed reads_below groups_text block_below gone says_bye script procedure order registers prints
 bye = refl
 
 -- The first lines, where a startup registers a procedure for the end of compilation.
@@ -158,7 +158,7 @@ goes_on_without : text_of (moves_of Fifo 100 (opening changes_twice (removes_its
     ++ codes "2 do c3 print \"p2\" => ok\n"
     ++ codes "2 done 3\n"
     ++ codes "2 end none\n"
-unfolding design digits with_pieces made_in_turn target_digits pieces_of arguments_text front value_below instructions_of codes_of number_of plane_digits map_digits zip_digits all_places scopes_below dotted all_woken all_entered all_followed reads_below groups_text block_below gone script procedure order set registers finds prints head changes_twice removes_itself
+unfolding design digits with_pieces made_in_turn target_digits pieces_of arguments_text front value_below instructions_of codes_of number_of plane_digits map_digits zip_digits all_positions scopes_below dotted all_woken all_entered all_followed reads_below groups_text block_below gone script procedure order set registers finds prints head changes_twice removes_itself
 goes_on_without = refl
 
 -- App a; var r, one, two, three, x; startup { register cbEndOfCompile null 0 proc init 0; }
@@ -213,5 +213,5 @@ fires_what_is_left : text_of (moves_of Fifo 100 (opening changes_twice (removes_
     ++ codes "2 do c5 print \"p4\" => ok\n"
     ++ codes "2 done 3\n"
     ++ codes "2 end none\n"
-unfolding design digits with_pieces made_in_turn target_digits pieces_of arguments_text front value_below instructions_of codes_of number_of plane_digits map_digits zip_digits all_places scopes_below dotted all_woken all_entered all_followed reads_below groups_text block_below gone script procedure order set registers finds prints head changes_twice removes_another
+unfolding design digits with_pieces made_in_turn target_digits pieces_of arguments_text front value_below instructions_of codes_of number_of plane_digits map_digits zip_digits all_positions scopes_below dotted all_woken all_entered all_followed reads_below groups_text block_below gone script procedure order set registers finds prints head changes_twice removes_another
 fires_what_is_left = refl

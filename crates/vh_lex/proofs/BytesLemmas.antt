@@ -3,15 +3,15 @@ use Rattle.std.proofs.Common.{◌≡◌, ℕ, zero, suc, ◌+◌, ◌≤◌, ◌
 use Rattle.std.specs.List.{prefix_len}
 use Rattle.vh_lex.specs.Bytes.{begins, begins_with}
 
-pub take-front : (n : ℕ) (xs ys : List ℕ) → n ≤ length xs → take n (xs ++ ys) ≡ take n xs
-take-front zero xs ys h = refl
-take-front (suc n) [] ys h = absurd (omega arith)
-take-front (suc n) (x ∷ xs) ys h = ap (λ l. x ∷ l) (take-front n xs ys (omega arith))
+pub take-beginning : (n : ℕ) (xs ys : List ℕ) → n ≤ length xs → take n (xs ++ ys) ≡ take n xs
+take-beginning zero xs ys h = refl
+take-beginning (suc n) [] ys h = absurd (omega arith)
+take-beginning (suc n) (x ∷ xs) ys h = ap (λ l. x ∷ l) (take-beginning n xs ys (omega arith))
 
-pub drop-front : (n : ℕ) (xs ys : List ℕ) → n ≤ length xs → drop n (xs ++ ys) ≡ drop n xs ++ ys
-drop-front zero xs ys h = refl
-drop-front (suc n) [] ys h = absurd (omega arith)
-drop-front (suc n) (x ∷ xs) ys h = drop-front n xs ys (omega arith)
+pub drop-beginning : (n : ℕ) (xs ys : List ℕ) → n ≤ length xs → drop n (xs ++ ys) ≡ drop n xs ++ ys
+drop-beginning zero xs ys h = refl
+drop-beginning (suc n) [] ys h = absurd (omega arith)
+drop-beginning (suc n) (x ∷ xs) ys h = drop-beginning n xs ys (omega arith)
 
 -- A run that ends there
 pub run-same : (p : ℕ → Bool) (xs ys : List ℕ) → prefix_len p (xs ++ ys) ≤ length xs → prefix_len p xs ≡ prefix_len p (xs ++ ys)
@@ -47,9 +47,9 @@ drop-all [] = refl
 drop-all (x ∷ xs) = drop-all xs
 
 -- What stands at the front
-pub begins-front : (p : ℕ → Bool) (xs ys : List ℕ) → begins p xs ≡ true → begins p (xs ++ ys) ≡ true
-begins-front p [] ys e = cc
-begins-front p (x ∷ xs) ys e = e
+pub begins-beginning : (p : ℕ → Bool) (xs ys : List ℕ) → begins p xs ≡ true → begins p (xs ++ ys) ≡ true
+begins-beginning p [] ys e = cc
+begins-beginning p (x ∷ xs) ys e = e
 
 pub begins-same : (p : ℕ → Bool) (xs ys : List ℕ) → 1 ≤ length xs → begins p (xs ++ ys) ≡ begins p xs
 begins-same p [] ys h = absurd (omega arith)
@@ -64,10 +64,10 @@ or-more true b c d h k e = ap (λ x. x || d) (h refl)
 or-more false b true d h k e = refl
 or-more false b false d h k e = k e
 
-pub pair-front : (f s : ℕ) (xs ys : List ℕ) → begins_with f s xs ≡ true → begins_with f s (xs ++ ys) ≡ true
-pair-front f s [] ys e = cc
-pair-front f s (x ∷ xs) ys e = and-more (nat_eq x f) (begins (λ b. nat_eq b s) xs) (begins (λ b. nat_eq b s) (xs ++ ys)) (begins-front (λ b. nat_eq b s) xs ys) e
+pub pair-beginning : (f s : ℕ) (xs ys : List ℕ) → begins_with f s xs ≡ true → begins_with f s (xs ++ ys) ≡ true
+pair-beginning f s [] ys e = cc
+pair-beginning f s (x ∷ xs) ys e = and-more (nat_eq x f) (begins (λ b. nat_eq b s) xs) (begins (λ b. nat_eq b s) (xs ++ ys)) (begins-beginning (λ b. nat_eq b s) xs ys) e
 
-pub not-front : (a b : Bool) → (a ≡ true → b ≡ true) → b ≡ false → a ≡ false
-not-front true b h e = let k = sym (h refl) ∙ e in cc
-not-front false b h e = refl
+pub not-beginning : (a b : Bool) → (a ≡ true → b ≡ true) → b ≡ false → a ≡ false
+not-beginning true b h e = let k = sym (h refl) ∙ e in cc
+not-beginning false b h e = refl

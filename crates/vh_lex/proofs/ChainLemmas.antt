@@ -21,7 +21,7 @@ use Rattle.vh_lex.specs.declared.piece.Part.TheVariants as part
 use Rattle.vh_lex.specs.declared.piece.Piece.{Piece}
 use Rattle.vh_lex.specs.declared.piece.Piece.TheVariants.{Blank, Kept, Fault}
 use Rattle.vh_lex.specs.Bytes.{begins, begins_with, is_line_end, is_name_byte, is_graphic}
-use Rattle.vh_lex.specs.Front.{Named, front, comment_len, use_by, simple_name, escaped_name, name_of, word_name, is_long}
+use Rattle.vh_lex.specs.Beginning.{Named, beginning, comment_len, use_by, simple_name, escaped_name, name_of, word_name, is_long}
 use Rattle.vh_lex.specs.Made.{MacroRows as Rows, Made, macro_of, with_macro}
 use Rattle.vh_lex.specs.MacroTexts.{parts_of, macro_text, macro_len}
 use Rattle.vh_lex.specs.Conditionals.{is_skipped, skips}
@@ -39,7 +39,7 @@ use Rattle.vh_lex.specs.TextLaws.{SpelledHasText, FaultStops}
 use Rattle.vh_lex.proofs.LawsLemmas.{IsKnown, known-files}
 use Rattle.vh_lex.proofs.ConditionalsLemmas.{innermost-last, without-last, with-last, skips-last}
 use Rattle.vh_lex.proofs.MacroLemmas.{Knows, knows-none, knows-with}
-use Rattle.vh_lex.proofs.FrontLemmas.{IsFine, fine-front}
+use Rattle.vh_lex.proofs.BeginningLemmas.{IsFine, fine-beginning}
 use Rattle.vh_lex.proofs.MacroTokensLemmas.{made-gives}
 use Rattle.vh_lex.proofs.GoesLemmas.{names-long, goes-leads}
 use Rattle.vh_lex.proofs.PlacesLemmas.{moved-place}
@@ -157,17 +157,17 @@ reads-true t a e h x = subst (λ u. ReadsTo u a e) (sym h) x
 seeks-true : (t : Bool) (a e : At) → t ≡ true → SeeksTo true a e → SeeksTo t a e
 seeks-true t a e h x = subst (λ u. SeeksTo u a e) (sym h) x
 
-reads-front : {t : Bool} {b e : At} → ReadsTo t b e → (a : At) → ((z : At) → Reads b z → Reads a z) → ReadsTo t a e
-reads-front (read_here r) a go = read_here (go _ r)
-reads-front (in_chosen r i x) a go = in_chosen (go _ r) i x
-reads-front (in_sought r i x) a go = in_sought (go _ r) i x
-reads-front (in_others r i x y) a go = in_others (go _ r) i x y
-reads-front (in_seeks r i x y) a go = in_seeks (go _ r) i x y
+reads-beginning : {t : Bool} {b e : At} → ReadsTo t b e → (a : At) → ((z : At) → Reads b z → Reads a z) → ReadsTo t a e
+reads-beginning (read_here r) a go = read_here (go _ r)
+reads-beginning (in_chosen r i x) a go = in_chosen (go _ r) i x
+reads-beginning (in_sought r i x) a go = in_sought (go _ r) i x
+reads-beginning (in_others r i x y) a go = in_others (go _ r) i x y
+reads-beginning (in_seeks r i x y) a go = in_seeks (go _ r) i x y
 
-skips-front : {b e : At} → SkipsTo b e → (a : At) → ((z : At) → Skips b z → Skips a z) → SkipsTo a e
-skips-front (skip_here r) a go = skip_here (go _ r)
-skips-front (skip_in r i x) a go = skip_in (go _ r) i x
-skips-front (skip_others r i x y) a go = skip_others (go _ r) i x y
+skips-beginning : {b e : At} → SkipsTo b e → (a : At) → ((z : At) → Skips b z → Skips a z) → SkipsTo a e
+skips-beginning (skip_here r) a go = skip_here (go _ r)
+skips-beginning (skip_in r i x) a go = skip_in (go _ r) i x
+skips-beginning (skip_others r i x y) a go = skip_others (go _ r) i x y
 
 reads-into : (t : Bool) (a e : At) (st : List Conditional) → skips (stacked st) ≡ false → ReadsTo t a e → ChainTo t st a e
 reads-into t a e [] f x = x
@@ -190,13 +190,13 @@ skips-into t a e (c ∷ below) f h x = by c.branch (sym (skips-last (stacked bel
     by branch.Past g = inl (h, x)
 
 on-read-to : (t : Bool) (a b e : At) (st : List Conditional) → skips (stacked st) ≡ false → ((z : At) → Reads b z → Reads a z) → ChainTo t st b e → ChainTo t st a e
-on-read-to t a b e [] f go x = reads-front x a go
+on-read-to t a b e [] f go x = reads-beginning x a go
 on-read-to t a b e (c ∷ below) f go x = by c.branch (sym (skips-last (stacked below) c) ∙ f) x
   where
     by : (br : Branch) → is_skipped br ≡ false
         → TextTo t br b e ⊎ (((y : At) × (TextFor br b y × RestTo t c.has_else br y e)) ⊎ ((y : At) × ((d : At) × (TextFor br b y × (RestFor c.has_else br y d × ChainTo t below d e)))))
         → TextTo t br a e ⊎ (((y : At) × (TextFor br a y × RestTo t c.has_else br y e)) ⊎ ((y : At) × ((d : At) × (TextFor br a y × (RestFor c.has_else br y d × ChainTo t below d e)))))
-    by branch.Read g (inl u) = inl (reads-front u a go)
+    by branch.Read g (inl u) = inl (reads-beginning u a go)
     by branch.Read g (inr (inl u)) = inr (inl (u.0, (go u.0 u.1.0, u.1.1)))
     by branch.Read g (inr (inr u)) = inr (inr (u.0, (u.1.0, (go u.0 u.1.1.0, u.1.1.1))))
     by branch.Sought g u = cc
@@ -210,10 +210,10 @@ on-skips-to t a b e (c ∷ below) f go x = by c.branch (sym (skips-last (stacked
         → TextTo t br b e ⊎ (((y : At) × (TextFor br b y × RestTo t c.has_else br y e)) ⊎ ((y : At) × ((d : At) × (TextFor br b y × (RestFor c.has_else br y d × ChainTo t below d e)))))
         → TextTo t br a e ⊎ (((y : At) × (TextFor br a y × RestTo t c.has_else br y e)) ⊎ ((y : At) × ((d : At) × (TextFor br a y × (RestFor c.has_else br y d × ChainTo t below d e)))))
     by branch.Read g u = cc
-    by branch.Sought g (inl u) = inl (u.0, skips-front u.1 a go)
+    by branch.Sought g (inl u) = inl (u.0, skips-beginning u.1 a go)
     by branch.Sought g (inr (inl u)) = inr (inl (u.0, (go u.0 u.1.0, u.1.1)))
     by branch.Sought g (inr (inr u)) = inr (inr (u.0, (u.1.0, (go u.0 u.1.1.0, u.1.1.1))))
-    by branch.Past g (inl u) = inl (u.0, skips-front u.1 a go)
+    by branch.Past g (inl u) = inl (u.0, skips-beginning u.1 a go)
     by branch.Past g (inr (inl u)) = inr (inl (u.0, (go u.0 u.1.0, u.1.1)))
     by branch.Past g (inr (inr u)) = inr (inr (u.0, (u.1.0, (go u.0 u.1.1.0, u.1.1.1))))
 
@@ -316,20 +316,20 @@ piece-name : Piece → List ℕ
 piece-name (Kept (part.Use name) len) = name
 piece-name _ = []
 
-blank-long : (bytes : List ℕ) (len : ℕ) → IsMore bytes → front bytes ≡ Blank len → 1 ≤ len
+blank-long : (bytes : List ℕ) (len : ℕ) → IsMore bytes → beginning bytes ≡ Blank len → 1 ≤ len
 blank-long [] len i e = let h = i.bytes_are in cc
-blank-long (b ∷ bs) len i e = subst (IsFine b) e (fine-front b bs)
+blank-long (b ∷ bs) len i e = subst (IsFine b) e (fine-beginning b bs)
 
 -- A directive's word in text that is read
-word-of : (a : At) (d : Directive) (name : List ℕ) (len : ℕ) → front a.bytes ≡ Kept (part.Use name) len → directive_behind (drop 1 a.bytes) name ≡ Some d → IsWord d a len
+word-of : (a : At) (d : Directive) (name : List ℕ) (len : ℕ) → beginning a.bytes ≡ Kept (part.Use name) len → directive_behind (drop 1 a.bytes) name ≡ Some d → IsWord d a len
 unfolding piece-len piece-name
 word-of a d name len e g = by a.bytes refl e g
   where
-    by : (bytes : List ℕ) → a.bytes ≡ bytes → front bytes ≡ Kept (part.Use name) len → directive_behind (drop 1 bytes) name ≡ Some d → IsWord d a len
+    by : (bytes : List ℕ) → a.bytes ≡ bytes → beginning bytes ≡ Kept (part.Use name) len → directive_behind (drop 1 bytes) name ≡ Some d → IsWord d a len
     by [] x f h = cc
     by (b ∷ bs) x f h =
-        let q : nat_eq b 96 ≡ true = (subst (IsFine b) f (fine-front b bs)).1 in
-        named (begins is_name_start bs) refl (ap (λ y. front (y ∷ bs)) (sym (eq-literal b 96 q)) ∙ f) h q
+        let q : nat_eq b 96 ≡ true = (subst (IsFine b) f (fine-beginning b bs)).1 in
+        named (begins is_name_start bs) refl (ap (λ y. beginning (y ∷ bs)) (sym (eq-literal b 96 q)) ∙ f) h q
       where
         named : (t : Bool) → begins is_name_start bs ≡ t → use_by (name_of bs) ≡ Kept (part.Use name) len → directive_behind bs name ≡ Some d → nat_eq b 96 ≡ true → IsWord d a len
         named true y k h q =
@@ -388,7 +388,7 @@ module _ (a : At) (rows : Rows) (knows : Knows a.macros rows) (fit : Fits a) whe
   abbrev one : Kind → List Token
   one k = record { kind = k; place = place_of a } ∷ []
 
-  token-turns : (st : List Conditional) (p : Part) (k : Kind) (len : ℕ) → skips (stacked st) ≡ false → front a.bytes ≡ Kept p len → 1 ≤ len → token_of a.setting p ≡ Some k
+  token-turns : (st : List Conditional) (p : Part) (k : Kind) (len : ℕ) → skips (stacked st) ≡ false → beginning a.bytes ≡ Kept p len → 1 ≤ len → token_of a.setting p ≡ Some k
       → Turns a st (made_in (s st) len (token_more k (place_of a) (s st).made))
   token-turns st p k len f e h t = by (nat_lt (length a.tokens) 4194304) refl
     where
@@ -399,7 +399,7 @@ module _ (a : At) (rows : Rows) (knows : Knows a.macros rows) (fit : Fits a) whe
           reads-turn st a.macros a.setting (a.tokens ++ one k) a.uses rows len knows h (omega arith, fit.1) f (token p k len e t small)
       by false g = tt
 
-  macro-turns : (st : List Conditional) (name : List ℕ) (len : ℕ) → skips (stacked st) ≡ false → front a.bytes ≡ Kept (part.Use name) len → 1 ≤ len
+  macro-turns : (st : List Conditional) (name : List ℕ) (len : ℕ) → skips (stacked st) ≡ false → beginning a.bytes ≡ Kept (part.Use name) len → 1 ≤ len
       → directive_behind (drop 1 a.bytes) name ≡ None → Turns a st (made_in (s st) len (used_by (expanded 64 (around_of (s st))) (macro_of name rows) (s st).made))
   unfolding expanded
   macro-turns st name len f e h d =
@@ -618,18 +618,18 @@ module _ (a : At) (rows : Rows) (knows : Knows a.macros rows) (fit : Fits a) whe
   directed-turns st directive.Other at w f = tt
 
   -- text that is read
-  name-turns : (st : List Conditional) (name : List ℕ) (len : ℕ) → skips (stacked st) ≡ false → front a.bytes ≡ Kept (part.Use name) len → 1 ≤ len
+  name-turns : (st : List Conditional) (name : List ℕ) (len : ℕ) → skips (stacked st) ≡ false → beginning a.bytes ≡ Kept (part.Use name) len → 1 ≤ len
       → (o : Option Directive) → directive_behind (drop 1 a.bytes) name ≡ o → Turns a st (name_read o name len (drop len a.bytes) (s st))
   name-turns st name len f e h None d = macro-turns st name len f e h d
   name-turns st name len f e h (Some d) g = directed-turns st d len (word-of a d name len e g) f
 
-  part-turns : (st : List Conditional) (p : Part) (len : ℕ) → skips (stacked st) ≡ false → front a.bytes ≡ Kept p len → 1 ≤ len → Turns a st (part_read p len a.bytes (s st))
+  part-turns : (st : List Conditional) (p : Part) (len : ℕ) → skips (stacked st) ≡ false → beginning a.bytes ≡ Kept p len → 1 ≤ len → Turns a st (part_read p len a.bytes (s st))
   part-turns st (part.Token k) len f e h = token-turns st (part.Token k) k len f e h refl
   part-turns st part.Module len f e h = token-turns st part.Module (kind.Module a.setting) len f e h refl
   part-turns st (part.Use name) len f e h = name-turns st name len f e h (directive_behind (drop 1 a.bytes) name) refl
   part-turns st (part.Wrong fault) len f e h = tt
 
-  piece-turns : (st : List Conditional) → IsMore a.bytes → skips (stacked st) ≡ false → (p : Piece) → front a.bytes ≡ p → Turns a st (piece_read p a.bytes (s st))
+  piece-turns : (st : List Conditional) → IsMore a.bytes → skips (stacked st) ≡ false → (p : Piece) → beginning a.bytes ≡ p → Turns a st (piece_read p a.bytes (s st))
   piece-turns st i f (Blank len) e = let h = blank-long a.bytes len i e in reads-turn st a.macros a.setting a.tokens a.uses rows len knows h fit f (blank len h e)
   piece-turns st i f (Kept p len) e = part-turns st p len f e (kept-more a.bytes p len e).1
   piece-turns st i f (Fault fault at) e = tt
@@ -666,9 +666,9 @@ module _ (a : At) (rows : Rows) (knows : Knows a.macros rows) (fit : Fits a) whe
   step-turns : (st : List Conditional) → IsMore a.bytes → Turns a st (step a.bytes (s st))
   step-turns st i = by (skips (stacked st)) refl
     where
-      by : (t : Bool) → skips (stacked st) ≡ t → Turns a st (if t then skipped a.bytes (s st) else piece_read (front a.bytes) a.bytes (s st))
+      by : (t : Bool) → skips (stacked st) ≡ t → Turns a st (if t then skipped a.bytes (s st) else piece_read (beginning a.bytes) a.bytes (s st))
       by true f = skipped-turns st i f (comment_len a.bytes) refl
-      by false f = piece-turns st i f (front a.bytes) refl
+      by false f = piece-turns st i f (beginning a.bytes) refl
 
 -- How many bytes and files are left.
 abbrev left-of : At → ℕ
@@ -775,7 +775,7 @@ text_or_refused files = by (files_read files) refl (known-files nothing_read fil
 record StopsAt (a : At) (rows : Rows) (st : List Conditional) (fault : DesignFault) (place : Place) : Type 0 where
   last : At
   is_skipped : Bool
-  front : ChainTo is_skipped st a last
+  beginning : ChainTo is_skipped st a last
   rows_now : Rows
   stack : List Conditional
   reach : Reach (config-of a rows (stacked st)) (config-of last rows_now stack)
@@ -806,7 +806,7 @@ stop-at-end o a rows st fault place e f g =
     record {
       last = a;
       is_skipped = skips (stacked st);
-      front = stands st a;
+      beginning = stands st a;
       rows_now = rows;
       stack = stacked st;
       reach = here;
@@ -824,7 +824,7 @@ stop-at-file most fault place rest a rows st o f fs e g h fit k i =
     let l = (file-leads o a rows (stacked st) f fs e g k).leads in
     let size : left-of a ≡ 1 + length f.bytes + left-in fs = ap (λ bytes. length bytes + left-in a.files) e ∙ ap (λ files. length {A = ℕ} [] + left-in files) g ∙ omega arith in
     let r = rest (at_start f fs a) l.macros st l.first (omega arith) fit l.knows (sym (ap end_of l.same) ∙ i) in
-    record { last = r.last; is_skipped = r.is_skipped; front = by (skips (stacked st)) refl r.is_skipped r.last r.front; rows_now = r.rows_now; stack = r.stack; reach = reach-join {z = config-of r.last r.rows_now r.stack} l.reach r.reach; is_end = r.is_end; why = r.why }
+    record { last = r.last; is_skipped = r.is_skipped; beginning = by (skips (stacked st)) refl r.is_skipped r.last r.beginning; rows_now = r.rows_now; stack = r.stack; reach = reach-join {z = config-of r.last r.rows_now r.stack} l.reach r.reach; is_end = r.is_end; why = r.why }
   where
     by : (t : Bool) → skips (stacked st) ≡ t → (u : Bool) (last : At) → ChainTo u st (at_start f fs a) last → ChainTo u st a last
     by true x u last t = on-skips-to u a (at_start f fs a) last st x (λ z r. skip_piece (skipped_file f fs e g) r) t
@@ -846,7 +846,7 @@ stop-at-byte most fault place rest a rows st o b bs e h fit k i =
         record {
           last = r.last;
           is_skipped = r.is_skipped;
-          front = t.back_to r.is_skipped r.last r.front;
+          beginning = t.back_to r.is_skipped r.last r.beginning;
           rows_now = r.rows_now;
           stack = r.stack;
           reach = further {z = config-of r.last r.rows_now r.stack} (run-next a b bs rows t.rows (stacked st) (stacked t.open_now) t.macros t.setting t.tokens t.uses went.1 e (x ∙ ap (λ y. Ok (y, went.1)) t.state_is)) r.reach;
@@ -863,7 +863,7 @@ stop-at-byte most fault place rest a rows st o b bs e h fit k i =
         record {
           last = a;
           is_skipped = skips (stacked st);
-          front = stands st a;
+          beginning = stands st a;
           rows_now = rows;
           stack = stacked st;
           reach = here;
@@ -901,7 +901,7 @@ fault_stops files fault place h =
     record {
       last = r.last;
       is_skipped = r.is_skipped;
-      front = r.front;
+      beginning = r.beginning;
       is_furthest = λ t e w.
           let to = reads-to w None [] [] knows-none refl in
           reach-less (reach-end r.reach r.is_end to.leads.reach);

@@ -10,9 +10,9 @@ get-last : (cs : List Conditional) (c : Conditional) → slice_get (cs ++ c ∷ 
 get-last [] c = refl
 get-last (x ∷ cs) c = get-last cs c
 
-take-front : (cs : List Conditional) (c : Conditional) → take (length cs) (cs ++ c ∷ []) ≡ cs
-take-front [] c = refl
-take-front (x ∷ cs) c = ap (λ l. x ∷ l) (take-front cs c)
+take-beginning : (cs : List Conditional) (c : Conditional) → take (length cs) (cs ++ c ∷ []) ≡ cs
+take-beginning [] c = refl
+take-beginning (x ∷ cs) c = ap (λ l. x ∷ l) (take-beginning cs c)
 
 set-last : (cs : List Conditional) (c d : Conditional) → slice_set (cs ++ c ∷ []) (length cs) d ≡ cs ++ d ∷ []
 set-last [] c d = refl
@@ -22,7 +22,7 @@ pub innermost-last : (cs : List Conditional) (c : Conditional) → innermost (cs
 innermost-last cs c = ap (slice_get (cs ++ c ∷ [])) (one-less cs c) ∙ get-last cs c
 
 pub without-last : (cs : List Conditional) (c : Conditional) → without_innermost (cs ++ c ∷ []) ≡ cs
-without-last cs c = ap (λ n. take n (cs ++ c ∷ [])) (one-less cs c) ∙ take-front cs c
+without-last cs c = ap (λ n. take n (cs ++ c ∷ [])) (one-less cs c) ∙ take-beginning cs c
 
 pub with-last : (cs : List Conditional) (c d : Conditional) → with_innermost d (cs ++ c ∷ []) ≡ cs ++ d ∷ []
 with-last cs c d = ap (λ n. slice_set (cs ++ c ∷ []) n d) (one-less cs c) ∙ set-last cs c d

@@ -14,7 +14,7 @@ use Rattle.vh_lex.specs.declared.directive.Directive.TheVariants as directive
 use Rattle.vh_lex.specs.declared.piece.Part.{Part}
 use Rattle.vh_lex.specs.declared.piece.Part.TheVariants as part
 use Rattle.vh_lex.specs.Bytes.{begins, is_name_byte}
-use Rattle.vh_lex.specs.Front.{Named, name_of, is_long}
+use Rattle.vh_lex.specs.Beginning.{Named, name_of, is_long}
 use Rattle.vh_lex.specs.Made.{MacroRows as Rows, Made, with_macro}
 use Rattle.vh_lex.specs.MacroTexts.{parts_of, macro_text, macro_len}
 use Rattle.vh_lex.specs.Conditionals.{skips}

@@ -21,7 +21,7 @@ pub mod ConditionalsLemmas
 -- The code's macros are those of the texts
 pub mod MacroLemmas
 -- What bytes begin with has one byte at least
-pub mod FrontLemmas
+pub mod BeginningLemmas
 -- What a macro's parts come to is what its bytes spell
 pub mod MacroTokensLemmas
 -- A step of the lexer's function, and a piece of a text

@@ -6,7 +6,7 @@ use lib.Pointwise.{pointwise, pointwise_long}
 use Rattle.vh_base.specs.Classes.{is_name_start, is_digit}
 use Rattle.vh_base.specs.declared.faults.DesignFault.TheVariants.{L1, L5, L6}
 use Rattle.vh_lex.specs.declared.keyword.Keyword.{Keyword}
-use Rattle.vh_lex.specs.declared.mark.Mark.{Mark as MarkOf}
+use Rattle.vh_lex.specs.declared.symbol.Symbol.{Symbol as SymbolOf}
 use Rattle.vh_lex.specs.declared.token.Kind.{Kind}
 use Rattle.vh_lex.specs.declared.token.Kind.TheVariants as kind
 use Rattle.vh_lex.specs.declared.piece.Part.{Part}
@@ -15,10 +15,10 @@ use Rattle.vh_lex.specs.declared.piece.Piece.{Piece}
 use Rattle.vh_lex.specs.declared.piece.Piece.TheVariants.{Blank, Kept, Fault}
 use Rattle.vh_lex.specs.Bytes.{begins_with, through, one_more, is_text, is_line_byte, is_graphic, is_name_byte}
 use Rattle.vh_lex.specs.Keywords.{module_word, keyword_of}
-use Rattle.vh_lex.specs.Marks.{mark_rows}
+use Rattle.vh_lex.specs.Symbols.{symbol_rows}
 use Rattle.vh_lex.specs.Texts.{Decoded, decoded, text_len, text_by, text_within, text_of, text_at}
-use Rattle.vh_lex.specs.Front.{Named, comment_len, escaped_name, simple_name, name_of, is_long, named, word_by, word_of, word_at, system_of, system_at, escaped_by, use_by, mark_by, mark_piece, slash_piece}
-use Rattle.vh_lex.proofs.BytesLemmas.{take-front, run-same, pair-front, not-front}
+use Rattle.vh_lex.specs.Beginning.{Named, comment_len, escaped_name, simple_name, name_of, is_long, named, word_by, word_of, word_at, system_of, system_at, escaped_by, use_by, symbol_by, symbol_piece, slash_piece}
+use Rattle.vh_lex.proofs.BytesLemmas.{take-beginning, run-same, pair-beginning, not-beginning}
 
 -- How many bytes a piece has that is kept
 abbrev pub Len : ℕ → Piece → Type 0
@@ -54,7 +54,7 @@ run-kept of lens c xs ys p len e h =
     let long : length (take n (xs ++ ys)) ≡ len = len-is (length (take n (xs ++ ys))) (of (take n (xs ++ ys))) p len (lens (take n (xs ++ ys))) e in
     let size = length-prefix_len c (xs ++ ys) in
     let small : n ≤ length xs = omega arith in
-    ap (λ m. of (take m xs)) (run-same c xs ys small) ∙ ap of (sym (take-front n xs ys small)) ∙ e
+    ap (λ m. of (take m xs)) (run-same c xs ys small) ∙ ap of (sym (take-beginning n xs ys small)) ∙ e
 
 pub word-same : (xs ys : List ℕ) (p : Part) (len : ℕ) → word_at (xs ++ ys) ≡ Kept p len → len ≤ length xs → word_at xs ≡ Kept p len
 word-same xs ys p len e h = run-kept word_of word-len is_name_byte xs ys p len e h
@@ -81,7 +81,7 @@ escaped-same xs ys n e h = by (nat_lt 0 (prefix_len is_graphic (xs ++ ys))) refl
         let small : k ≤ length xs = omega arith in
         ap (λ m. escaped_name m xs) (run-same is_graphic xs ys small)
         ∙ ap (λ t. if t then Some (record { name = take k xs; len = k + 1 }) else None) f
-        ∙ ap (λ w. Some (record { name = w; len = k + 1 })) (sym (take-front k xs ys small)) ∙ g
+        ∙ ap (λ w. Some (record { name = w; len = k + 1 })) (sym (take-beginning k xs ys small)) ∙ g
     by false f g = cc
 
 name-long : (bytes : List ℕ) (n : Named) → name_of bytes ≡ Some n → 1 ≤ n.len
@@ -114,7 +114,7 @@ name-same (x ∷ xs) ys n e h = by (is_name_start x) (nat_eq x 92) e
         let size : k ≡ n.len = ap size-of g in
         let small : k ≤ length (x ∷ xs) = omega arith in
         ap (λ m. Some (record { name = take m (x ∷ xs); len = m })) (run-same is_name_byte (x ∷ xs) ys small)
-        ∙ ap (λ w. Some (record { name = w; len = k })) (sym (take-front k (x ∷ xs) ys small)) ∙ g
+        ∙ ap (λ w. Some (record { name = w; len = k })) (sym (take-beginning k (x ∷ xs) ys small)) ∙ g
     by false true g = escaped-same xs ys n g (omega arith)
     by false false g = g
 
@@ -179,34 +179,34 @@ text-kept xs ys p len e h = by (text_len false (xs ++ ys)) refl e
     by (Some k) f g =
         let size = len-is (k + 2) (text_within (decoded (take k (xs ++ ys))) k) p len (text-length (decoded (take k (xs ++ ys))) k) g in
         let small : k + 1 ≤ length xs = omega arith in
-        ap (λ o. text_of o xs) (text-end false xs ys k f small) ∙ ap (λ w. text_within (decoded w) k) (sym (take-front k xs ys (omega arith))) ∙ g
+        ap (λ o. text_of o xs) (text-end false xs ys k f small) ∙ ap (λ w. text_within (decoded w) k) (sym (take-beginning k xs ys (omega arith))) ∙ g
 
--- Operators and marks
+-- Operators and symbols
 starts-same : (xs ys r : List ℕ) → length r ≤ length xs → starts_with nat_eq (xs ++ ys) r ≡ starts_with nat_eq xs r
-starts-same xs ys r h = ap (pointwise nat_eq r) (take-front (length r) xs ys h)
+starts-same xs ys r h = ap (pointwise nat_eq r) (take-beginning (length r) xs ys h)
 
 starts-short : (xs r : List ℕ) → starts_with nat_eq xs r ≡ true → length r ≤ length xs
 starts-short xs r e = let same = pointwise_long nat_eq r (take (length r) xs) e in let size = length-take (length r) xs in omega arith
 
-mark-found : (rows : List (List ℕ × MarkOf)) (xs ys : List ℕ) (p : Part) (len : ℕ) → mark_by (find (λ row. starts_with nat_eq (xs ++ ys) row.0) rows) ≡ Kept p len → len ≤ length xs
-    → mark_by (find (λ row. starts_with nat_eq xs row.0) rows) ≡ Kept p len
-mark-found [] xs ys p len e h = e
-mark-found (row ∷ rows) xs ys p len e h =
-    by (starts_with nat_eq (xs ++ ys) row.0) refl (starts_with nat_eq xs row.0) refl e (λ g. mark-found rows xs ys p len g h)
+symbol-found : (rows : List (List ℕ × SymbolOf)) (xs ys : List ℕ) (p : Part) (len : ℕ) → symbol_by (find (λ row. starts_with nat_eq (xs ++ ys) row.0) rows) ≡ Kept p len → len ≤ length xs
+    → symbol_by (find (λ row. starts_with nat_eq xs row.0) rows) ≡ Kept p len
+symbol-found [] xs ys p len e h = e
+symbol-found (row ∷ rows) xs ys p len e h =
+    by (starts_with nat_eq (xs ++ ys) row.0) refl (starts_with nat_eq xs row.0) refl e (λ g. symbol-found rows xs ys p len g h)
   where
     by : (t : Bool) → starts_with nat_eq (xs ++ ys) row.0 ≡ t → (u : Bool) → starts_with nat_eq xs row.0 ≡ u
-        → mark_by (cond t (Some row) (find (λ r. starts_with nat_eq (xs ++ ys) r.0) rows)) ≡ Kept p len
-        → (mark_by (find (λ r. starts_with nat_eq (xs ++ ys) r.0) rows) ≡ Kept p len → mark_by (find (λ r. starts_with nat_eq xs r.0) rows) ≡ Kept p len)
-        → mark_by (cond u (Some row) (find (λ r. starts_with nat_eq xs r.0) rows)) ≡ Kept p len
+        → symbol_by (cond t (Some row) (find (λ r. starts_with nat_eq (xs ++ ys) r.0) rows)) ≡ Kept p len
+        → (symbol_by (find (λ r. starts_with nat_eq (xs ++ ys) r.0) rows) ≡ Kept p len → symbol_by (find (λ r. starts_with nat_eq xs r.0) rows) ≡ Kept p len)
+        → symbol_by (cond u (Some row) (find (λ r. starts_with nat_eq xs r.0) rows)) ≡ Kept p len
     by true f true g k go = k
     by true f false g k go =
-        let size : length row.0 ≡ len = len-is (length row.0) (Kept (part.Token (kind.Mark row.1)) (length row.0)) p len refl k in
+        let size : length row.0 ≡ len = len-is (length row.0) (Kept (part.Token (kind.Symbol row.1)) (length row.0)) p len refl k in
         let no = sym f ∙ starts-same xs ys row.0 (omega arith) ∙ g in cc
     by false f true g k go = let no = sym f ∙ starts-same xs ys row.0 (starts-short xs row.0 g) ∙ g in cc
     by false f false g k go = go k
 
-pub mark-kept : (xs ys : List ℕ) (p : Part) (len : ℕ) → mark_piece (xs ++ ys) ≡ Kept p len → len ≤ length xs → mark_piece xs ≡ Kept p len
-mark-kept xs ys p len e h = mark-found mark_rows xs ys p len e h
+pub symbol-kept : (xs ys : List ℕ) (p : Part) (len : ℕ) → symbol_piece (xs ++ ys) ≡ Kept p len → len ≤ length xs → symbol_piece xs ≡ Kept p len
+symbol-kept xs ys p len e h = symbol-found symbol_rows xs ys p len e h
 
 -- A slash that begins no comment
 pub slash-kept : (xs ys : List ℕ) (p : Part) (len : ℕ) → slash_piece (comment_len (xs ++ ys)) (xs ++ ys) ≡ Kept p len → len ≤ length xs → slash_piece (comment_len xs) xs ≡ Kept p len
@@ -219,14 +219,14 @@ slash-kept xs ys p len e h =
     by true f u g o k = cc
     by false f true g (Some n) k = cc
     by false f true g None k =
-        let l : Piece = mark_piece (xs ++ ys) in
+        let l : Piece = symbol_piece (xs ++ ys) in
         let no = sym (ap (λ t. if t then Fault L5 0 else l) g) ∙ k in cc
     by false f false g o k =
-        let no_line = not-front (begins_with 47 47 xs) (begins_with 47 47 (xs ++ ys)) (pair-front 47 47 xs ys) f in
-        let no_block = not-front (begins_with 47 42 xs) (begins_with 47 42 (xs ++ ys)) (pair-front 47 42 xs ys) g in
-        let whole : Piece = mark_piece (xs ++ ys) in
-        let here : Piece = mark_piece xs in
+        let no_line = not-beginning (begins_with 47 47 xs) (begins_with 47 47 (xs ++ ys)) (pair-beginning 47 47 xs ys) f in
+        let no_block = not-beginning (begins_with 47 42 xs) (begins_with 47 42 (xs ++ ys)) (pair-beginning 47 42 xs ys) g in
+        let whole : Piece = symbol_piece (xs ++ ys) in
+        let here : Piece = symbol_piece xs in
         ap (λ t. slash_piece (if t then Some (prefix_len is_line_byte xs) else (if begins_with 47 42 xs then option_map (λ n. n + 2) (through 42 47 false (drop 2 xs)) else None)) xs) no_line
         ∙ ap (λ t. slash_piece (if t then option_map (λ n. n + 2) (through 42 47 false (drop 2 xs)) else None) xs) no_block
         ∙ ap (λ t. if t then Fault L5 0 else here) no_block
-        ∙ mark-kept xs ys p len (sym (ap (λ t. if t then Fault L5 0 else whole) g) ∙ k) h
+        ∙ symbol-kept xs ys p len (sym (ap (λ t. if t then Fault L5 0 else whole) g) ∙ k) h

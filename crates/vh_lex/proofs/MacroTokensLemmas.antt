@@ -11,14 +11,14 @@ use Rattle.vh_lex.specs.declared.piece.Part.{Part}
 use Rattle.vh_lex.specs.declared.piece.Part.TheVariants as part
 use Rattle.vh_lex.specs.declared.piece.Piece.{Piece}
 use Rattle.vh_lex.specs.declared.piece.Piece.TheVariants.{Blank, Kept, Fault}
-use Rattle.vh_lex.specs.Front.{front}
+use Rattle.vh_lex.specs.Beginning.{beginning}
 use Rattle.vh_lex.specs.Made.{MacroRows as Rows, Made}
 use Rattle.vh_lex.specs.MacroTexts.{piece_then, parts_after, parts_of}
 use Rattle.vh_lex.specs.Directives.{directive_of}
 use Rattle.vh_lex.specs.Spelling.{Around, Making, and_then, with_token, used_by, used_within, part_made, parts_made, with_use, expanded}
 use Rattle.vh_lex.specs.MacroTokens.{Macros, token_of, Gives, nothing, blank, token, macro}
 use Rattle.vh_lex.proofs.MacroLemmas.{Knows}
-use Rattle.vh_lex.proofs.FrontLemmas.{IsFine, fine-front}
+use Rattle.vh_lex.proofs.BeginningLemmas.{IsFine, fine-beginning}
 
 -- Skipping bytes is cutting what follows them
 skipped : (skip : ℕ) (bytes : List ℕ) → parts_after skip bytes ≡ parts_of (drop skip bytes)
@@ -35,17 +35,17 @@ drop-nothing : (len : ℕ) → drop {A = ℕ} len [] ≡ []
 drop-nothing zero = refl
 drop-nothing (suc n) = refl
 
-parts-blank : (bytes : List ℕ) (len : ℕ) → front bytes ≡ Blank len → parts_of bytes ≡ parts_of (drop len bytes)
+parts-blank : (bytes : List ℕ) (len : ℕ) → beginning bytes ≡ Blank len → parts_of bytes ≡ parts_of (drop len bytes)
 parts-blank [] len e = ap parts_of (sym (drop-nothing len))
 parts-blank (b ∷ bs) len e =
     ap (λ p. piece_then p (λ skip. parts_after skip bs)) e ∙ skipped (len - 1) bs
-    ∙ ap parts_of (drop-less len b bs (subst (IsFine b) e (fine-front b bs)))
+    ∙ ap parts_of (drop-less len b bs (subst (IsFine b) e (fine-beginning b bs)))
 
-parts-kept : (bytes : List ℕ) (p : Part) (len : ℕ) → front bytes ≡ Kept p len → parts_of bytes ≡ p ∷ parts_of (drop len bytes)
+parts-kept : (bytes : List ℕ) (p : Part) (len : ℕ) → beginning bytes ≡ Kept p len → parts_of bytes ≡ p ∷ parts_of (drop len bytes)
 parts-kept [] p len e = cc
 parts-kept (b ∷ bs) p len e =
     ap (λ q. piece_then q (λ skip. parts_after skip bs)) e
-    ∙ ap (λ ps. p ∷ ps) (skipped (len - 1) bs ∙ ap parts_of (drop-less len b bs (subst (IsFine b) e (fine-front b bs)).0))
+    ∙ ap (λ ps. p ∷ ps) (skipped (len - 1) bs ∙ ap parts_of (drop-less len b bs (subst (IsFine b) e (fine-beginning b bs)).0))
 
 module _ (macros : Macros) (rows : Rows) (setting : Setting) (place : Place) (knows : Knows macros rows) where
   abbrev around : Around
@@ -92,7 +92,7 @@ module _ (macros : Macros) (rows : Rows) (setting : Setting) (place : Place) (kn
   gives-made {bytes = bytes} (macro {levels = levels} {inner = inner} {uses = uses} {first = first} {tokens = tokens} name text len e d x f g) m h k =
       let size = length-append m.tokens (first ++ tokens) in
       let more = length-append first tokens in
-      let front-size = length-append m.tokens first in
+      let beginning-size = length-append m.tokens first in
       let assoc = append_assoc m.tokens first tokens in
       ap (λ ps. parts_made (expanded (suc levels) around) around ps m) (parts-kept bytes (part.Use name) len e)
       ∙ ap (λ o. and_then o (parts_made (expanded (suc levels) around) around (parts_of (drop len bytes))))
@@ -127,11 +127,11 @@ module _ (macros : Macros) (rows : Rows) (setting : Setting) (place : Place) (kn
         uses_fit = subst (λ x. m.uses ≤ 1048576 → x.uses ≤ 1048576) e (λ h. h);
       }
 
-  given-blank : (levels : ℕ) (bytes : List ℕ) (len : ℕ) (m n : Made) → front bytes ≡ Blank len → Given levels (drop len bytes) m n → Given levels bytes m n
+  given-blank : (levels : ℕ) (bytes : List ℕ) (len : ℕ) (m n : Made) → beginning bytes ≡ Blank len → Given levels (drop len bytes) m n → Given levels bytes m n
   given-blank levels bytes len m n e g =
       record { tokens = g.tokens; uses = g.uses; gives = blank len e g.gives; made_is = g.made_is; tokens_fit = g.tokens_fit; uses_fit = g.uses_fit }
 
-  given-token : (levels : ℕ) (bytes : List ℕ) (p : Part) (k : Kind) (len : ℕ) (m n : Made) → front bytes ≡ Kept p len → token_of setting p ≡ Some k → length m.tokens < 4194304
+  given-token : (levels : ℕ) (bytes : List ℕ) (p : Part) (k : Kind) (len : ℕ) (m n : Made) → beginning bytes ≡ Kept p len → token_of setting p ≡ Some k → length m.tokens < 4194304
       → Given levels (drop len bytes) (made (m.tokens ++ record { kind = k; place = place } ∷ []) m.uses) n → Given levels bytes m n
   given-token levels bytes p k len m n e t h g =
       let one : Token = record { kind = k; place = place } in
@@ -145,7 +145,7 @@ module _ (macros : Macros) (rows : Rows) (setting : Setting) (place : Place) (kn
         uses_fit = g.uses_fit;
       }
 
-  given-macro : (levels : ℕ) (bytes name text : List ℕ) (len : ℕ) (m mid n : Made) → front bytes ≡ Kept (part.Use name) len → is_some (directive_of name) ≡ false → macros name ≡ Some text
+  given-macro : (levels : ℕ) (bytes name text : List ℕ) (len : ℕ) (m mid n : Made) → beginning bytes ≡ Kept (part.Use name) len → is_some (directive_of name) ≡ false → macros name ≡ Some text
       → Used levels text m mid → Given levels (drop len bytes) mid n → Given levels bytes m n
   given-macro zero bytes name text len m mid n e d x u g = absurd u
   given-macro (suc levels) bytes name text len m mid n e d x u g =
@@ -166,30 +166,30 @@ module _ (macros : Macros) (rows : Rows) (setting : Setting) (place : Place) (kn
       → (most : ℕ) (bytes : List ℕ) → length bytes ≤ most → (m n : Made) → parts_made inner around (parts_of bytes) m ≡ Ok n → Given levels bytes m n
   parts-give levels inner uses most [] h m n e = given-nothing levels m n (let same : m ≡ n = cc in same)
   parts-give levels inner uses zero (b ∷ bs) h m n e = absurd (omega arith)
-  parts-give levels inner uses (suc most) (b ∷ bs) h m n e = by (front (b ∷ bs)) refl (fine-front b bs) (λ rest f. parts-give levels inner uses most rest f)
+  parts-give levels inner uses (suc most) (b ∷ bs) h m n e = by (beginning (b ∷ bs)) refl (fine-beginning b bs) (λ rest f. parts-give levels inner uses most rest f)
     where
       short : (len : ℕ) → 1 ≤ len → length (drop len (b ∷ bs)) ≤ most
       short len f = rw (length-drop len (b ∷ bs)) (omega arith)
 
-      token-case : (p : Part) (k : Kind) (len : ℕ) → front (b ∷ bs) ≡ Kept p len → token_of setting p ≡ Some k → (t : Bool) → nat_lt (length m.tokens) 4194304 ≡ t
+      token-case : (p : Part) (k : Kind) (len : ℕ) → beginning (b ∷ bs) ≡ Kept p len → token_of setting p ≡ Some k → (t : Bool) → nat_lt (length m.tokens) 4194304 ≡ t
           → and_then (if t then Ok (made (m.tokens ++ record { kind = k; place = place } ∷ []) m.uses) else Err L6) (parts_made inner around (parts_of (drop len (b ∷ bs)))) ≡ Ok n
           → ((mid : Made) → parts_made inner around (parts_of (drop len (b ∷ bs))) mid ≡ Ok n → Given levels (drop len (b ∷ bs)) mid n) → Given levels (b ∷ bs) m n
       token-case p k len f g true t o rest = given-token levels (b ∷ bs) p k len m n f g (grind (arith, nat_tests)) (rest (made (m.tokens ++ record { kind = k; place = place } ∷ []) m.uses) o)
       token-case p k len f g false t o rest = cc
 
-      use-case : (name text : List ℕ) (len : ℕ) → front (b ∷ bs) ≡ Kept (part.Use name) len → is_some (directive_of name) ≡ false → macros name ≡ Some text
+      use-case : (name text : List ℕ) (len : ℕ) → beginning (b ∷ bs) ≡ Kept (part.Use name) len → is_some (directive_of name) ≡ false → macros name ≡ Some text
           → (o : Making) → inner (parts_of text) m ≡ o → and_then o (parts_made inner around (parts_of (drop len (b ∷ bs)))) ≡ Ok n
           → ((mid : Made) → parts_made inner around (parts_of (drop len (b ∷ bs))) mid ≡ Ok n → Given levels (drop len (b ∷ bs)) mid n) → Given levels (b ∷ bs) m n
       use-case name text len f d x (Ok mid) o e rest = given-macro levels (b ∷ bs) name text len m mid n f d x (uses text m mid o) (rest mid e)
       use-case name text len f d x (Err fault) o e rest = cc
 
-      macro-case : (name : List ℕ) (len : ℕ) → front (b ∷ bs) ≡ Kept (part.Use name) len → is_some (directive_of name) ≡ false → (x : Option (List ℕ)) → macros name ≡ x
+      macro-case : (name : List ℕ) (len : ℕ) → beginning (b ∷ bs) ≡ Kept (part.Use name) len → is_some (directive_of name) ≡ false → (x : Option (List ℕ)) → macros name ≡ x
           → and_then (used_by inner (option_map parts_of x) m) (parts_made inner around (parts_of (drop len (b ∷ bs)))) ≡ Ok n
           → ((mid : Made) → parts_made inner around (parts_of (drop len (b ∷ bs))) mid ≡ Ok n → Given levels (drop len (b ∷ bs)) mid n) → Given levels (b ∷ bs) m n
       macro-case name len f d None x e rest = cc
       macro-case name len f d (Some text) x e rest = use-case name text len f d x (inner (parts_of text) m) refl e rest
 
-      name-case : (name : List ℕ) (len : ℕ) → front (b ∷ bs) ≡ Kept (part.Use name) len → (t : Bool) → is_some (directive_of name) ≡ t
+      name-case : (name : List ℕ) (len : ℕ) → beginning (b ∷ bs) ≡ Kept (part.Use name) len → (t : Bool) → is_some (directive_of name) ≡ t
           → and_then (used_within t inner around name m) (parts_made inner around (parts_of (drop len (b ∷ bs)))) ≡ Ok n
           → ((mid : Made) → parts_made inner around (parts_of (drop len (b ∷ bs))) mid ≡ Ok n → Given levels (drop len (b ∷ bs)) mid n) → Given levels (b ∷ bs) m n
       name-case name len f true d e rest = cc
@@ -197,14 +197,14 @@ module _ (macros : Macros) (rows : Rows) (setting : Setting) (place : Place) (kn
           macro-case name len f d (macros name) refl
           (ap (λ o. and_then (used_by inner o m) (parts_made inner around (parts_of (drop len (b ∷ bs))))) (sym (knows name)) ∙ e) rest
 
-      part-case : (p : Part) (len : ℕ) → front (b ∷ bs) ≡ Kept p len → and_then (part_made inner around p m) (parts_made inner around (parts_of (drop len (b ∷ bs)))) ≡ Ok n
+      part-case : (p : Part) (len : ℕ) → beginning (b ∷ bs) ≡ Kept p len → and_then (part_made inner around p m) (parts_made inner around (parts_of (drop len (b ∷ bs)))) ≡ Ok n
           → ((mid : Made) → parts_made inner around (parts_of (drop len (b ∷ bs))) mid ≡ Ok n → Given levels (drop len (b ∷ bs)) mid n) → Given levels (b ∷ bs) m n
       part-case (part.Token k) len f e rest = token-case (part.Token k) k len f refl (nat_lt (length m.tokens) 4194304) refl e rest
       part-case part.Module len f e rest = token-case part.Module (kind.Module setting) len f refl (nat_lt (length m.tokens) 4194304) refl e rest
       part-case (part.Use name) len f e rest = name-case name len f (is_some (directive_of name)) refl e rest
       part-case (part.Wrong fault) len f e rest = cc
 
-      by : (q : Piece) → front (b ∷ bs) ≡ q → IsFine b q
+      by : (q : Piece) → beginning (b ∷ bs) ≡ q → IsFine b q
           → ((rest : List ℕ) → length rest ≤ most → (mid last : Made) → parts_made inner around (parts_of rest) mid ≡ Ok last → Given levels rest mid last) → Given levels (b ∷ bs) m n
       by (Blank len) f fine rest =
           given-blank levels (b ∷ bs) len m n f

@@ -10,41 +10,41 @@ use Rattle.vh_text.specs.Literals.{literal}
 use Rattle.vh_lex.specs.declared.piece.Part.{Part}
 use Rattle.vh_lex.specs.declared.piece.Piece.{Piece}
 use Rattle.vh_lex.specs.declared.piece.Piece.TheVariants.{Kept, Fault}
-use Rattle.vh_lex.specs.Bytes.{begins, is_decimal, is_based_letter, is_question, is_based, is_base_ten, is_base, is_sign_mark, is_exponent, is_plus_or_minus}
+use Rattle.vh_lex.specs.Bytes.{begins, is_decimal, is_based_letter, is_question, is_based, is_base_ten, is_base, is_sign_byte, is_exponent, is_plus_or_minus}
 use Rattle.vh_lex.specs.Numbers.{begins_fraction, begins_exponent, begins_real, base_len_behind, base_len, digits_len, spaced_digits_len, based_len_by, based_len, valued, number_of, number_by, behind_digits, number_at}
-use Rattle.vh_lex.proofs.BytesLemmas.{take-front, drop-front, run-same, run-whole, run-inside, drop-all, begins-front, begins-same, or-more, not-front}
+use Rattle.vh_lex.proofs.BytesLemmas.{take-beginning, drop-beginning, run-same, run-whole, run-inside, drop-all, begins-beginning, begins-same, or-more, not-beginning}
 use Rattle.vh_lex.proofs.LongLemmas.{Len, len-is}
 
 drop-more : (n m : ℕ) (xs : List ℕ) → drop m (drop n xs) ≡ drop (n + m) xs
 drop-more n m xs = drop-drop m n xs
 
 -- A fraction or an exponent
-second-front : (p : ℕ → Bool) (xs ys : List ℕ) → begins p (drop 1 xs) ≡ true → begins p (drop 1 (xs ++ ys)) ≡ true
-second-front p [] ys e = cc
-second-front p (x ∷ xs) ys e = begins-front p xs ys e
+second-beginning : (p : ℕ → Bool) (xs ys : List ℕ) → begins p (drop 1 xs) ≡ true → begins p (drop 1 (xs ++ ys)) ≡ true
+second-beginning p [] ys e = cc
+second-beginning p (x ∷ xs) ys e = begins-beginning p xs ys e
 
-third-front : (p : ℕ → Bool) (xs ys : List ℕ) → begins p (drop 2 xs) ≡ true → begins p (drop 2 (xs ++ ys)) ≡ true
-third-front p [] ys e = cc
-third-front p (x ∷ xs) ys e = second-front p xs ys e
+third-beginning : (p : ℕ → Bool) (xs ys : List ℕ) → begins p (drop 2 xs) ≡ true → begins p (drop 2 (xs ++ ys)) ≡ true
+third-beginning p [] ys e = cc
+third-beginning p (x ∷ xs) ys e = second-beginning p xs ys e
 
-both-front : (a b c d : Bool) → (a ≡ true → c ≡ true) → (b ≡ true → d ≡ true) → (a && b) ≡ true → (c && d) ≡ true
-both-front true b true d h k e = k e
-both-front true b false d h k e = h refl
-both-front false b c d h k e = cc
+both-beginning : (a b c d : Bool) → (a ≡ true → c ≡ true) → (b ≡ true → d ≡ true) → (a && b) ≡ true → (c && d) ≡ true
+both-beginning true b true d h k e = k e
+both-beginning true b false d h k e = h refl
+both-beginning false b c d h k e = cc
 
-real-front : (xs ys : List ℕ) → begins_real xs ≡ true → begins_real (xs ++ ys) ≡ true
-real-front xs ys e =
+real-beginning : (xs ys : List ℕ) → begins_real xs ≡ true → begins_real (xs ++ ys) ≡ true
+real-beginning xs ys e =
     or-more (begins_fraction xs) (begins_exponent xs) (begins_fraction (xs ++ ys)) (begins_exponent (xs ++ ys))
-    (both-front (begins (λ b. nat_eq b 46) xs) (begins is_digit (drop 1 xs)) (begins (λ b. nat_eq b 46) (xs ++ ys)) (begins is_digit (drop 1 (xs ++ ys)))
-    (begins-front (λ b. nat_eq b 46) xs ys) (second-front is_digit xs ys))
-    (both-front (begins is_exponent xs) (begins is_digit (drop 1 xs) || begins is_plus_or_minus (drop 1 xs) && begins is_digit (drop 2 xs))
+    (both-beginning (begins (λ b. nat_eq b 46) xs) (begins is_digit (drop 1 xs)) (begins (λ b. nat_eq b 46) (xs ++ ys)) (begins is_digit (drop 1 (xs ++ ys)))
+    (begins-beginning (λ b. nat_eq b 46) xs ys) (second-beginning is_digit xs ys))
+    (both-beginning (begins is_exponent xs) (begins is_digit (drop 1 xs) || begins is_plus_or_minus (drop 1 xs) && begins is_digit (drop 2 xs))
     (begins is_exponent (xs ++ ys)) (begins is_digit (drop 1 (xs ++ ys)) || begins is_plus_or_minus (drop 1 (xs ++ ys)) && begins is_digit (drop 2 (xs ++ ys)))
-    (begins-front is_exponent xs ys)
+    (begins-beginning is_exponent xs ys)
     (or-more (begins is_digit (drop 1 xs)) (begins is_plus_or_minus (drop 1 xs) && begins is_digit (drop 2 xs))
     (begins is_digit (drop 1 (xs ++ ys))) (begins is_plus_or_minus (drop 1 (xs ++ ys)) && begins is_digit (drop 2 (xs ++ ys)))
-    (second-front is_digit xs ys)
-    (both-front (begins is_plus_or_minus (drop 1 xs)) (begins is_digit (drop 2 xs)) (begins is_plus_or_minus (drop 1 (xs ++ ys))) (begins is_digit (drop 2 (xs ++ ys)))
-    (second-front is_plus_or_minus xs ys) (third-front is_digit xs ys))))
+    (second-beginning is_digit xs ys)
+    (both-beginning (begins is_plus_or_minus (drop 1 xs)) (begins is_digit (drop 2 xs)) (begins is_plus_or_minus (drop 1 (xs ++ ys))) (begins is_digit (drop 2 (xs ++ ys)))
+    (second-beginning is_plus_or_minus xs ys) (third-beginning is_digit xs ys))))
     e
 
 -- A base
@@ -63,13 +63,13 @@ sign-same [] ys h = by (begins is_base ys) h
 sign-same (x ∷ xs) ys h = refl
 
 behind-same : (xs ys : List ℕ) → base_len_behind (xs ++ ys) ≤ length xs + 1 → base_len_behind xs ≡ base_len_behind (xs ++ ys)
-behind-same [] ys h = by (begins is_base ys) (begins is_sign_mark ys && begins is_base (drop 1 ys)) h
+behind-same [] ys h = by (begins is_base ys) (begins is_sign_byte ys && begins is_base (drop 1 ys)) h
   where
     by : (t u : Bool) → two-or t (three u) ≤ length {A = ℕ} [] + 1 → three false ≡ two-or t (three u)
     by true u h = absurd (omega arith)
     by false true h = absurd (omega arith)
     by false false h = refl
-behind-same (x ∷ xs) ys h = by (is_base x) (is_sign_mark x) h
+behind-same (x ∷ xs) ys h = by (is_base x) (is_sign_byte x) h
   where
     by : (t u : Bool) → two-or t (three (u && begins is_base (xs ++ ys))) ≤ suc (length xs) + 1
         → two-or t (three (u && begins is_base xs)) ≡ two-or t (three (u && begins is_base (xs ++ ys)))
@@ -101,7 +101,7 @@ spaced-same : (t : Bool) (xs ys : List ℕ) → spaced_digits_len t (xs ++ ys) �
 spaced-same t xs ys h =
     let n = prefix_len is_space (xs ++ ys) in
     let small : n ≤ length xs = omega arith in
-    let cut = drop-front n xs ys small in
+    let cut = drop-beginning n xs ys small in
     let size = length-drop n xs in
     let inner : digits_len t (drop n xs ++ ys) ≤ length (drop n xs) = let same = ap (digits_len t) cut in omega arith in
     ap (λ m. m + digits_len t (drop m xs)) (run-same is_space xs ys small)
@@ -122,8 +122,8 @@ based-same xs ys h k = by (nat_eq (base_len (xs ++ ys)) 0) refl h k
         let n = base_len (xs ++ ys) in
         let some : 1 ≤ n = more-than n e in
         let small : n ≤ length xs = omega arith in
-        let letter = drop-front (n - 1) xs ys (omega arith) in
-        let cut = drop-front n xs ys small in
+        let letter = drop-beginning (n - 1) xs ys (omega arith) in
+        let cut = drop-beginning n xs ys small in
         let size = length-drop n xs in
         let before = length-drop (n - 1) xs in
         let ten : begins is_base_ten (drop (n - 1) (xs ++ ys)) ≡ begins is_base_ten (drop (n - 1) xs) = ap (begins is_base_ten) letter ∙ begins-same is_base_ten (drop (n - 1) xs) ys (omega arith) in
@@ -150,7 +150,7 @@ no-base xs ys h = by (run-whole is_space xs ys)
     by : (prefix_len is_space xs ≡ prefix_len is_space (xs ++ ys)) ⊎ (prefix_len is_space xs ≡ length xs) → based_len (drop (prefix_len is_space xs) xs) ≡ 0
     by (inl e) =
         none-based (drop (prefix_len is_space xs) xs) ys
-        (ap based_len (sym (drop-front (prefix_len is_space xs) xs ys (run-inside is_space xs))) ∙ ap (λ n. based_len (drop n (xs ++ ys))) e ∙ h)
+        (ap based_len (sym (drop-beginning (prefix_len is_space xs) xs ys (run-inside is_space xs))) ∙ ap (λ n. based_len (drop n (xs ++ ys))) e ∙ h)
     by (inr e) = ap (λ n. based_len (drop n xs)) e ∙ ap based_len (drop-all xs)
 
 valued-len : (o : Result Vector LiteralFault) (sized : Bool) (n : ℕ) → Len n (valued o sized n)
@@ -173,8 +173,8 @@ number-case xs ys p len digits spaces based d s b h false r true f v g e =
     let size : digits + spaces + based ≡ len =
     len-is (digits + spaces + based) (number_of (xs ++ ys) (nat_lt 0 digits) (digits + spaces + based)) p len
     (valued-len (literal (take (digits + spaces + based) (xs ++ ys))) (nat_lt 0 digits) (digits + spaces + based)) e in
-    let cut = drop-front digits xs ys (omega arith) in
-    let far = drop-front (digits + spaces) xs ys (omega arith) in
+    let cut = drop-beginning digits xs ys (omega arith) in
+    let far = drop-beginning (digits + spaces) xs ys (omega arith) in
     let behind = length-drop digits xs in
     let far_behind = length-drop (digits + spaces) xs in
     let some = less based f in
@@ -186,13 +186,13 @@ number-case xs ys p len digits spaces based d s b h false r true f v g e =
     ∙ ap (λ n. behind_digits xs digits n) (run-same is_space (drop digits xs) ys (omega arith) ∙ same_spaces)
     ∙ ap (λ n. number_by xs digits spaces n) (based-same (drop (digits + spaces) xs) ys (omega arith) (omega arith) ∙ same_base)
     ∙ ap (λ t. if t then Fault L4 0 else inner)
-    (not-front (begins_real (drop digits xs)) (begins_real (drop digits xs ++ ys)) (real-front (drop digits xs) ys) (ap begins_real (sym cut) ∙ r))
+    (not-beginning (begins_real (drop digits xs)) (begins_real (drop digits xs ++ ys)) (real-beginning (drop digits xs) ys) (ap begins_real (sym cut) ∙ r))
     ∙ ap (λ u. if u then number_of xs (nat_lt 0 digits) (digits + spaces + based) else last) f
-    ∙ ap (λ w. valued (literal w) (nat_lt 0 digits) (digits + spaces + based)) (sym (take-front (digits + spaces + based) xs ys (omega arith)))
+    ∙ ap (λ w. valued (literal w) (nat_lt 0 digits) (digits + spaces + based)) (sym (take-beginning (digits + spaces + based) xs ys (omega arith)))
     ∙ e
 number-case xs ys p len digits spaces based d s b h false r false f true g e =
     let size : digits ≡ len = len-is digits (number_of (xs ++ ys) false digits) p len (valued-len (literal (take digits (xs ++ ys))) false digits) e in
-    let cut = drop-front digits xs ys (omega arith) in
+    let cut = drop-beginning digits xs ys (omega arith) in
     let nothing = not-less based f in
     let here = prefix_len is_space (drop digits xs) in
     let whole : based_len (drop (prefix_len is_space (drop digits xs ++ ys)) (drop digits xs ++ ys)) ≡ 0 =
@@ -204,9 +204,9 @@ number-case xs ys p len digits spaces based d s b h false r false f true g e =
     ap (λ n. behind_digits xs n (prefix_len is_space (drop n xs))) (run-same is_decimal xs ys (omega arith) ∙ d)
     ∙ ap (λ n. number_by xs digits here n) none
     ∙ ap (λ t. if t then Fault L4 0 else inner)
-    (not-front (begins_real (drop digits xs)) (begins_real (drop digits xs ++ ys)) (real-front (drop digits xs) ys) (ap begins_real (sym cut) ∙ r))
+    (not-beginning (begins_real (drop digits xs)) (begins_real (drop digits xs ++ ys)) (real-beginning (drop digits xs) ys) (ap begins_real (sym cut) ∙ r))
     ∙ ap (λ v. if v then number_of xs false digits else Fault L1 0) g
-    ∙ ap (λ w. valued (literal w) false digits) (sym (take-front digits xs ys (omega arith))) ∙ e
+    ∙ ap (λ w. valued (literal w) false digits) (sym (take-beginning digits xs ys (omega arith))) ∙ e
 number-case xs ys p len digits spaces based d s b h false r false f false g e = cc
 
 pub number-kept : (xs ys : List ℕ) (p : Part) (len : ℕ) → number_at (xs ++ ys) ≡ Kept p len → len ≤ length xs → number_at xs ≡ Kept p len

@@ -5,7 +5,7 @@ use Rattle.vh_lex.specs.declared.token.Kind.{Kind}
 use Rattle.vh_lex.specs.declared.token.Kind.TheVariants as kind
 use Rattle.vh_lex.specs.declared.token.Token.{Token}
 use Rattle.vh_lex.specs.Keywords.{keyword_rows}
-use Rattle.vh_lex.specs.Marks.{mark_rows}
+use Rattle.vh_lex.specs.Symbols.{symbol_rows}
 use Rattle.vh_lex.specs.Directives.{directive_rows}
 use Rattle.vh_lex.specs.Spelling.{expanded}
 use Rattle.vh_lex.specs.Lexed.{File, files_read}
@@ -44,22 +44,22 @@ only bytes tokens others h t = one-list (files_read (text bytes)) tokens others 
 
 -- A name is the longest one, and no byte less
 whole-name : HasText (text (codes "ab")) (name (codes "ab") 1 1 ∷ [])
-unfolding keyword_rows mark_rows directive_rows expanded
+unfolding keyword_rows symbol_rows directive_rows expanded
 whole-name = spelled_has_text (text (codes "ab")) (name (codes "ab") 1 1 ∷ []) (refl, refl)
 
 short-name : HasText (text (codes "ab")) (name (codes "a") 1 1 ∷ name (codes "b") 1 2 ∷ []) → ⊥
-unfolding keyword_rows mark_rows directive_rows expanded
+unfolding keyword_rows symbol_rows directive_rows expanded
 short-name t =
     let e = only (codes "ab") (name (codes "ab") 1 1 ∷ []) (name (codes "a") 1 1 ∷ name (codes "b") 1 2 ∷ []) (refl, refl) t in
     differ 2 1 refl (ap size-of e)
 
 -- A tab is one column
 tabbed : HasText (text (9 ∷ 97 ∷ [])) (name (codes "a") 1 2 ∷ [])
-unfolding keyword_rows mark_rows directive_rows expanded
+unfolding keyword_rows symbol_rows directive_rows expanded
 tabbed = spelled_has_text (text (9 ∷ 97 ∷ [])) (name (codes "a") 1 2 ∷ []) (refl, refl)
 
 tab-of-eight : HasText (text (9 ∷ 97 ∷ [])) (name (codes "a") 1 9 ∷ []) → ⊥
-unfolding keyword_rows mark_rows directive_rows expanded
+unfolding keyword_rows symbol_rows directive_rows expanded
 tab-of-eight t =
     let e = only (9 ∷ 97 ∷ []) (name (codes "a") 1 2 ∷ []) (name (codes "a") 1 9 ∷ []) (refl, refl) t in
     differ 2 9 refl (ap column-of e)
@@ -67,22 +67,22 @@ tab-of-eight t =
 -- The token of a macro stands where the macro is used
 
 at-the-use : HasText (text (codes "`define A x" ++ 10 ∷ codes "`A")) (name (codes "x") 2 1 ∷ [])
-unfolding keyword_rows mark_rows directive_rows expanded
+unfolding keyword_rows symbol_rows directive_rows expanded
 at-the-use = spelled_has_text (text (codes "`define A x" ++ 10 ∷ codes "`A")) (name (codes "x") 2 1 ∷ []) (refl, refl)
 
 at-the-text : HasText (text (codes "`define A x" ++ 10 ∷ codes "`A")) (name (codes "x") 1 11 ∷ []) → ⊥
-unfolding keyword_rows mark_rows directive_rows expanded
+unfolding keyword_rows symbol_rows directive_rows expanded
 at-the-text t =
     let e = only (codes "`define A x" ++ 10 ∷ codes "`A") (name (codes "x") 2 1 ∷ []) (name (codes "x") 1 11 ∷ []) (refl, refl) t in
     differ 2 1 refl (ap line-of e)
 
 -- Of a conditional one text is read
 one-text : HasText (text (codes "`define A" ++ 10 ∷ codes "`ifdef A a `elsif A b `endif")) (name (codes "a") 2 10 ∷ [])
-unfolding keyword_rows mark_rows directive_rows expanded
+unfolding keyword_rows symbol_rows directive_rows expanded
 one-text = spelled_has_text (text (codes "`define A" ++ 10 ∷ codes "`ifdef A a `elsif A b `endif")) (name (codes "a") 2 10 ∷ []) (refl, refl)
 
 two-texts : HasText (text (codes "`define A" ++ 10 ∷ codes "`ifdef A a `elsif A b `endif")) (name (codes "a") 2 10 ∷ name (codes "b") 2 21 ∷ []) → ⊥
-unfolding keyword_rows mark_rows directive_rows expanded
+unfolding keyword_rows symbol_rows directive_rows expanded
 two-texts t =
     let e = only (codes "`define A" ++ 10 ∷ codes "`ifdef A a `elsif A b `endif") (name (codes "a") 2 10 ∷ []) (name (codes "a") 2 10 ∷ name (codes "b") 2 21 ∷ []) (refl, refl) t in
     differ 1 2 refl (ap length e)

@@ -12,7 +12,7 @@ use Rattle.vh_lex.specs.declared.piece.Piece.{Piece}
 use Rattle.vh_lex.specs.declared.piece.Piece.TheVariants as piece
 use Rattle.vh_lex.specs.Conditionals.{skips}
 use Rattle.vh_lex.specs.Directives.{Step}
-use Rattle.vh_lex.specs.Front.{front, word_at}
+use Rattle.vh_lex.specs.Beginning.{beginning, word_at}
 use Rattle.vh_lex.specs.Made.{Made}
 use Rattle.vh_lex.specs.Outcomes.{Makes, Went, stop_of}
 use Rattle.vh_lex.specs.State.{State, moved}
@@ -26,34 +26,34 @@ step-skips bytes s t result e h = subst (λ (o : Step). Went o result t) (sym (i
     is-skipped e = rw e refl
 
 -- What bytes begin with, by their first one
-pub front-blank : (byte : ℕ) (behind bytes : List ℕ) → bytes ≡ byte ∷ behind → is_space byte ≡ true → front bytes ≡ piece.Blank (prefix_len is_space bytes)
-front-blank byte behind bytes same f = rw same (first f)
+pub beginning-blank : (byte : ℕ) (behind bytes : List ℕ) → bytes ≡ byte ∷ behind → is_space byte ≡ true → beginning bytes ≡ piece.Blank (prefix_len is_space bytes)
+beginning-blank byte behind bytes same f = rw same (first f)
   where
-    first : is_space byte ≡ true → front (byte ∷ behind) ≡ piece.Blank (prefix_len is_space (byte ∷ behind))
+    first : is_space byte ≡ true → beginning (byte ∷ behind) ≡ piece.Blank (prefix_len is_space (byte ∷ behind))
     first f = rw f refl
 
-pub front-word : (byte : ℕ) (behind bytes : List ℕ) → bytes ≡ byte ∷ behind → is_space byte ≡ false → is_name_start byte ≡ true → front bytes ≡ word_at bytes
-front-word byte behind bytes same f g = rw same (first f g)
+pub beginning-word : (byte : ℕ) (behind bytes : List ℕ) → bytes ≡ byte ∷ behind → is_space byte ≡ false → is_name_start byte ≡ true → beginning bytes ≡ word_at bytes
+beginning-word byte behind bytes same f g = rw same (first f g)
   where
-    first : is_space byte ≡ false → is_name_start byte ≡ true → front (byte ∷ behind) ≡ word_at (byte ∷ behind)
+    first : is_space byte ≡ false → is_name_start byte ≡ true → beginning (byte ∷ behind) ≡ word_at (byte ∷ behind)
     first f g = rw (f, g) refl
 
 -- In text that is read
-pub step-read : (bytes : List ℕ) (s t : State) (result : Result ℕ StopOf) → skips s.conditionals ≡ false → Went (piece_read (front bytes) bytes s) result t
+pub step-read : (bytes : List ℕ) (s t : State) (result : Result ℕ StopOf) → skips s.conditionals ≡ false → Went (piece_read (beginning bytes) bytes s) result t
     → Went (step bytes s) result t
 step-read bytes s t result e h = subst (λ (o : Step). Went o result t) (sym (is-read e)) h
   where
-    is-read : skips s.conditionals ≡ false → step bytes s ≡ piece_read (front bytes) bytes s
+    is-read : skips s.conditionals ≡ false → step bytes s ≡ piece_read (beginning bytes) bytes s
     is-read e = rw e refl
 
 -- Where this piece stands there
-pub front-read : (bytes : List ℕ) (s t : State) (p : Piece) (result : Result ℕ StopOf) → front bytes ≡ p → Went (piece_read p bytes s) result t
-    → Went (piece_read (front bytes) bytes s) result t
-front-read bytes s t p result f h = subst (λ (q : Piece). Went (piece_read q bytes s) result t) (sym f) h
+pub beginning-read : (bytes : List ℕ) (s t : State) (p : Piece) (result : Result ℕ StopOf) → beginning bytes ≡ p → Went (piece_read p bytes s) result t
+    → Went (piece_read (beginning bytes) bytes s) result t
+beginning-read bytes s t p result f h = subst (λ (q : Piece). Went (piece_read q bytes s) result t) (sym f) h
 
-pub step-piece : (bytes : List ℕ) (s t : State) (p : Piece) (result : Result ℕ StopOf) → skips s.conditionals ≡ false → front bytes ≡ p
+pub step-piece : (bytes : List ℕ) (s t : State) (p : Piece) (result : Result ℕ StopOf) → skips s.conditionals ≡ false → beginning bytes ≡ p
     → Went (piece_read p bytes s) result t → Went (step bytes s) result t
-step-piece bytes s t p result e f h = step-read bytes s t result e (front-read bytes s t p result f h)
+step-piece bytes s t p result e f h = step-read bytes s t result e (beginning-read bytes s t p result f h)
 
 -- Passing over bytes is reading what follows them
 pub passed : (skip : ℕ) (bytes : List ℕ) (s : State) → read_after skip bytes s ≡ read (drop skip bytes) s

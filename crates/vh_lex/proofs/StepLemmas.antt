@@ -12,7 +12,7 @@ use Rattle.vh_lex.specs.declared.piece.Part.{Part}
 use Rattle.vh_lex.specs.declared.piece.Part.TheVariants as part
 use Rattle.vh_lex.specs.declared.piece.Piece.TheVariants.{Blank, Kept}
 use Rattle.vh_lex.specs.Bytes.{begins}
-use Rattle.vh_lex.specs.Front.{Named, front, comment_len, word_name, simple_name}
+use Rattle.vh_lex.specs.Beginning.{Named, beginning, comment_len, word_name, simple_name}
 use Rattle.vh_lex.specs.Made.{MacroRows as Rows}
 use Rattle.vh_lex.specs.Conditionals.{skips}
 use Rattle.vh_lex.specs.State.{State, start_of, moved}
@@ -23,7 +23,7 @@ use Rattle.vh_lex.specs.MacroTokens.{Macros}
 use Rattle.vh_lex.specs.SourceText.{At, place_of, past, at_start, IsWord, is_conditional}
 use Rattle.vh_lex.proofs.PlacesLemmas.{moved-place}
 use Rattle.vh_lex.proofs.MacroLemmas.{Knows}
-use Rattle.vh_lex.proofs.FrontLemmas.{IsFine, fine-front, comment-long}
+use Rattle.vh_lex.proofs.BeginningLemmas.{IsFine, fine-beginning, comment-long}
 use Rattle.vh_lex.proofs.MacroTokensLemmas.{drop-less}
 
 -- The state in which the function is
@@ -150,25 +150,25 @@ pub leads-then : {o : Option Place} {a b c : At} {rows : Rows} {cs cs2 cs3 : Lis
 leads-then l m = record { first = m.first; macros = m.macros; knows = m.knows; same = l.same ∙ m.same; reach = reach-join l.reach m.reach }
 
 -- In text that is read
-pub kept-step : (bytes : List ℕ) (s : State) (p : Part) (len : ℕ) → skips s.conditionals ≡ false → front bytes ≡ Kept p len → step bytes s ≡ part_read p len bytes s
-kept-step bytes s p len e f = ap (λ t. if t then skipped bytes s else piece_read (front bytes) bytes s) e ∙ ap (λ q. piece_read q bytes s) f
+pub kept-step : (bytes : List ℕ) (s : State) (p : Part) (len : ℕ) → skips s.conditionals ≡ false → beginning bytes ≡ Kept p len → step bytes s ≡ part_read p len bytes s
+kept-step bytes s p len e f = ap (λ t. if t then skipped bytes s else piece_read (beginning bytes) bytes s) e ∙ ap (λ q. piece_read q bytes s) f
 
-pub blank-step : (bytes : List ℕ) (s : State) (len : ℕ) → skips s.conditionals ≡ false → front bytes ≡ Blank len → step bytes s ≡ Ok (s, len)
-blank-step bytes s len e f = ap (λ t. if t then skipped bytes s else piece_read (front bytes) bytes s) e ∙ ap (λ q. piece_read q bytes s) f
+pub blank-step : (bytes : List ℕ) (s : State) (len : ℕ) → skips s.conditionals ≡ false → beginning bytes ≡ Blank len → step bytes s ≡ Ok (s, len)
+blank-step bytes s len e f = ap (λ t. if t then skipped bytes s else piece_read (beginning bytes) bytes s) e ∙ ap (λ q. piece_read q bytes s) f
 
 pub skipped-step : (bytes : List ℕ) (s : State) → skips s.conditionals ≡ true → step bytes s ≡ skipped bytes s
-skipped-step bytes s e = ap (λ t. if t then skipped bytes s else piece_read (front bytes) bytes s) e
+skipped-step bytes s e = ap (λ t. if t then skipped bytes s else piece_read (beginning bytes) bytes s) e
 
 pub eq-literal : (b n : ℕ) → nat_eq b n ≡ true → b ≡ n
 eq-literal b n e = grind (arith, nat_tests)
 
 -- A directive's word
-word-front : (bs : List ℕ) (n : Named) (d : Directive) → word_name bs ≡ Some n → directive_of n.name ≡ Some d
-    → (front (96 ∷ bs) ≡ Kept (part.Use n.name) (n.len + 1)) × (directive_behind bs n.name ≡ Some d)
-word-front bs n d e f = by (begins is_name_start bs) refl e
+word-beginning : (bs : List ℕ) (n : Named) (d : Directive) → word_name bs ≡ Some n → directive_of n.name ≡ Some d
+    → (beginning (96 ∷ bs) ≡ Kept (part.Use n.name) (n.len + 1)) × (directive_behind bs n.name ≡ Some d)
+word-beginning bs n d e f = by (begins is_name_start bs) refl e
   where
     by : (t : Bool) → begins is_name_start bs ≡ t → (if t then Some (simple_name bs) else None) ≡ Some n
-        → (front (96 ∷ bs) ≡ Kept (part.Use n.name) (n.len + 1)) × (directive_behind bs n.name ≡ Some d)
+        → (beginning (96 ∷ bs) ≡ Kept (part.Use n.name) (n.len + 1)) × (directive_behind bs n.name ≡ Some d)
     by true g h = let same : simple_name bs ≡ n = cc in (rw g (ap (λ m. Kept (part.Use m.name) (m.len + 1)) same), rw g f)
     by false g h = cc
 
@@ -178,7 +178,7 @@ word-read d a at s w e = by a.bytes w.quote w.word
     by : (bytes : List ℕ) → begins (λ b. nat_eq b 96) bytes ≡ true → word_name (drop 1 bytes) ≡ Some w.name → step bytes s ≡ directed d at (drop at bytes) s
     by [] q g = cc
     by (b ∷ bs) q g =
-        let f = word-front bs w.name d g w.directive in
+        let f = word-beginning bs w.name d g w.directive in
         ap (λ x. step (x ∷ bs) s) (eq-literal b 96 q) ∙ kept-step (96 ∷ bs) s (part.Use w.name.name) (w.name.len + 1) e f.0
         ∙ ap (λ o. name_read o w.name.name (w.name.len + 1) (drop (w.name.len + 1) (96 ∷ bs)) s) f.1
         ∙ ap (λ x. directed d (w.name.len + 1) (drop (w.name.len + 1) (x ∷ bs)) s) (sym (eq-literal b 96 q))
@@ -229,11 +229,11 @@ pub word-more : (bytes : List ℕ) → begins (λ b. nat_eq b 96) bytes ≡ true
 word-more [] e = cc
 word-more (b ∷ bs) e = more b bs (b ∷ bs) refl
 
-pub kept-more : (bytes : List ℕ) (p : Part) (len : ℕ) → front bytes ≡ Kept p len → IsMore bytes × (1 ≤ len)
+pub kept-more : (bytes : List ℕ) (p : Part) (len : ℕ) → beginning bytes ≡ Kept p len → IsMore bytes × (1 ≤ len)
 kept-more [] p len e = cc
-kept-more (b ∷ bs) p len e = (more b bs (b ∷ bs) refl, (subst (IsFine b) e (fine-front b bs)).0)
+kept-more (b ∷ bs) p len e = (more b bs (b ∷ bs) refl, (subst (IsFine b) e (fine-beginning b bs)).0)
 
-pub blank-more : (bytes : List ℕ) (len : ℕ) → 1 ≤ len → front bytes ≡ Blank len → IsMore bytes
+pub blank-more : (bytes : List ℕ) (len : ℕ) → 1 ≤ len → beginning bytes ≡ Blank len → IsMore bytes
 blank-more [] len h e = let same : 0 ≡ len = cc in absurd (omega arith)
 blank-more (b ∷ bs) len h e = more b bs (b ∷ bs) refl
 

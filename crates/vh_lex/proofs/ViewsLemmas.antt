@@ -4,10 +4,10 @@ use Rattle.std.specs.Prelude.{bytes_eq, length}
 use Rattle.std.specs.List.{AllByRecursion, find, starts_with, list_all, list_any}
 use Rattle.std.specs.Option.{option_map}
 use Rattle.std.proofs.lemmas.Bool.Decides.{nat_tests}
-use Rattle.vh_lex.specs.declared.mark.Mark.{Mark}
+use Rattle.vh_lex.specs.declared.symbol.Symbol.{Symbol}
 use Rattle.vh_lex.specs.declared.keyword.Keyword.{Keyword}
 use Rattle.vh_lex.specs.Bytes.{begins}
-use Rattle.vh_lex.specs.Marks.{mark_rows, mark_at}
+use Rattle.vh_lex.specs.Symbols.{symbol_rows, symbol_at}
 use Rattle.vh_lex.specs.Keywords.{keyword_rows, keyword_of}
 use Rattle.vh_lex.specs.Views.{rows_from}
 
@@ -66,19 +66,19 @@ pub begun-first : (b : ℕ) (bs spelling : List ℕ) → nat_lt 0 (length spelli
 begun-first b bs [] n e = cc
 begun-first b bs (x ∷ xs) n e = (both (nat_eq x b) (starts_with nat_eq bs xs) e).0
 
--- So it is with the marks
-pub mark-from : (bytes : List ℕ) (b : ℕ) (bs : List ℕ) (rows : List (List ℕ × Mark)) (found : Option (List ℕ × Mark)) → bytes ≡ b ∷ bs → rows ≡ rows_from b mark_rows
-    → found ≡ find (λ row. starts_with nat_eq bytes row.0) rows → found ≡ mark_at bytes
-unfolding mark_rows
-mark-from bytes b bs rows found e r f =
+-- So it is with the symbols
+pub symbol-from : (bytes : List ℕ) (b : ℕ) (bs : List ℕ) (rows : List (List ℕ × Symbol)) (found : Option (List ℕ × Symbol)) → bytes ≡ b ∷ bs → rows ≡ rows_from b symbol_rows
+    → found ≡ find (λ row. starts_with nat_eq bytes row.0) rows → found ≡ symbol_at bytes
+unfolding symbol_rows
+symbol-from bytes b bs rows found e r f =
     f ∙ ap (λ rs. find (λ row. starts_with nat_eq bytes row.0) rs) r
-    ∙ find-from (λ row. starts_with nat_eq bytes row.0) b mark_rows
+    ∙ find-from (λ row. starts_with nat_eq bytes row.0) b symbol_rows
     (λ row n h. begun-first b bs row.0 n (sym (ap (λ bytes. starts_with nat_eq bytes row.0) e) ∙ h)) refl
 
-pub no-mark : (bytes : List ℕ) → length bytes ≡ 0 → None ≡ mark_at bytes
-unfolding mark_rows
-no-mark [] e = refl
-no-mark (b ∷ bs) e = cc
+pub no-symbol : (bytes : List ℕ) → length bytes ≡ 0 → None ≡ symbol_at bytes
+unfolding symbol_rows
+no-symbol [] e = refl
+no-symbol (b ∷ bs) e = cc
 
 -- And with the reserved words
 pub keyword-from : (bytes : List ℕ) (b : ℕ) (bs : List ℕ) (rows : List (List ℕ × Keyword)) (found : Option Keyword) → bytes ≡ b ∷ bs → rows ≡ rows_from b keyword_rows

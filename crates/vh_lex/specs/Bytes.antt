@@ -55,11 +55,11 @@ abbrev pub is_base : ℕ → Bool
 is_base byte =
     is_base_ten byte || byte == 98 || byte == 66 || byte == 111 || byte == 79 || byte == 104 || byte == 72
 
--- The mark of a signed number, in either case (3.5.1)
-abbrev pub is_sign_mark : ℕ → Bool
-is_sign_mark byte = byte == 115 || byte == 83
+-- The symbol of a signed number, in either case (3.5.1)
+abbrev pub is_sign_byte : ℕ → Bool
+is_sign_byte byte = byte == 115 || byte == 83
 
--- The mark of an exponent, in either case, and its sign (3.5.2)
+-- The symbol of an exponent, in either case, and its sign (3.5.2)
 abbrev pub is_exponent : ℕ → Bool
 is_exponent byte = byte == 101 || byte == 69
 

@@ -4,14 +4,14 @@ pub mod Bytes
 pub mod Classes
 -- The reserved words and their keywords
 pub mod Keywords
--- The operators and marks
-pub mod Marks
+-- The operators and symbols
+pub mod Symbols
 -- The number with which bytes begin
 pub mod Numbers
 -- The string with which bytes begin
 pub mod Texts
 -- What bytes begin with
-pub mod Front
+pub mod Beginning
 -- The macros, and what has been made of the text so far
 pub mod Made
 -- How contracts see the table of macros

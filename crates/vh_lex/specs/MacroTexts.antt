@@ -8,7 +8,7 @@ use Rattle.vh_lex.specs.declared.piece.Piece.TheVariants.{Blank, Kept, Fault}
 use Rattle.vh_lex.specs.declared.macro_text.Mode.{Mode}
 use Rattle.vh_lex.specs.declared.macro_text.Mode.TheVariants.{Plain, Quoted, Comment}
 use Rattle.vh_lex.specs.Bytes.{begins, begins_with, is_line_end, is_line_byte}
-use Rattle.vh_lex.specs.Front.{front}
+use Rattle.vh_lex.specs.Beginning.{beginning}
 
 -- What the bytes behind one stand in, and whether the next of them belongs to this one (a line feed to a carriage return)
 pub record Turn : Type 0 where
@@ -100,7 +100,7 @@ piece_then (Fault fault at) rest = Wrong fault ∷ []
 abbrev pub parts_after : ℕ → List ℕ → List Part
 parts_after skip [] = []
 parts_after (suc skip) (byte ∷ bytes) = parts_after skip bytes
-parts_after zero (byte ∷ bytes) = piece_then (front (byte ∷ bytes)) (λ skip. parts_after skip bytes)
+parts_after zero (byte ∷ bytes) = piece_then (beginning (byte ∷ bytes)) (λ skip. parts_after skip bytes)
 
 -- The parts of a text, up to its first fault: they do not depend on where the text is used
 abbrev pub parts_of : List ℕ → List Part

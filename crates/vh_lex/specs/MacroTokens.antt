@@ -8,7 +8,7 @@ use Rattle.vh_lex.specs.declared.setting.Setting.{Setting}
 use Rattle.vh_lex.specs.declared.piece.Part.{Part}
 use Rattle.vh_lex.specs.declared.piece.Part.TheVariants as part
 use Rattle.vh_lex.specs.declared.piece.Piece.TheVariants.{Blank, Kept}
-use Rattle.vh_lex.specs.Front.{front}
+use Rattle.vh_lex.specs.Beginning.{beginning}
 use Rattle.vh_lex.specs.Directives.{directive_of}
 
 -- The macros are a finite map from names to texts.
@@ -34,15 +34,15 @@ token_of setting (part.Wrong fault) = None
 pub data Gives (macros : Macros) (setting : Setting) (place : Place) : ℕ → List ℕ → List Token → ℕ → Type 0 where
   nothing : {levels : ℕ} → Gives macros setting place levels [] [] 0
   -- white space, a comment or an attribute
-  blank : {levels uses : ℕ} {bytes : List ℕ} {tokens : List Token} (len : ℕ) → front bytes ≡ Blank len
+  blank : {levels uses : ℕ} {bytes : List ℕ} {tokens : List Token} (len : ℕ) → beginning bytes ≡ Blank len
       → Gives macros setting place levels (drop len bytes) tokens uses → Gives macros setting place levels bytes tokens uses
-  token : {levels uses : ℕ} {bytes : List ℕ} {tokens : List Token} (p : Part) (k : Kind) (len : ℕ) → front bytes ≡ Kept p len
+  token : {levels uses : ℕ} {bytes : List ℕ} {tokens : List Token} (p : Part) (k : Kind) (len : ℕ) → beginning bytes ≡ Kept p len
       → token_of setting p ≡ Some k
       → Gives macros setting place levels (drop len bytes) tokens uses
       → Gives macros setting place levels bytes (record { kind = k; place = place } ∷ tokens) uses
   -- a directive's name is no macro in a text
   macro : {levels inner uses : ℕ} {bytes : List ℕ} {first tokens : List Token} (name text : List ℕ) (len : ℕ)
-      → front bytes ≡ Kept (part.Use name) len → is_some (directive_of name) ≡ false → macros name ≡ Some text
+      → beginning bytes ≡ Kept (part.Use name) len → is_some (directive_of name) ≡ false → macros name ≡ Some text
       → Gives macros setting place levels text first inner
       → Gives macros setting place (suc levels) (drop len bytes) tokens uses
       → Gives macros setting place (suc levels) bytes (first ++ tokens) (1 + inner + uses)

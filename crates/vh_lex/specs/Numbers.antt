@@ -9,14 +9,14 @@ use Rattle.vh_lex.specs.declared.token.Kind.TheVariants.{Number}
 use Rattle.vh_lex.specs.declared.piece.Part.TheVariants.{Token}
 use Rattle.vh_lex.specs.declared.piece.Piece.{Piece}
 use Rattle.vh_lex.specs.declared.piece.Piece.TheVariants.{Kept, Fault}
-use Rattle.vh_lex.specs.Bytes.{begins, is_decimal, is_based_letter, is_question, is_based, is_base_ten, is_base, is_sign_mark, is_exponent, is_plus_or_minus}
+use Rattle.vh_lex.specs.Bytes.{begins, is_decimal, is_based_letter, is_question, is_based, is_base_ten, is_base, is_sign_byte, is_exponent, is_plus_or_minus}
 use Rattle.vh_base.specs.Classes.{is_space, is_digit}
 
 -- A point with a digit behind it (3.5.2)
 abbrev pub begins_fraction : List ℕ → Bool
 begins_fraction bytes = begins (λ b. b == 46) bytes && begins is_digit (drop 1 bytes)
 
--- An exponent: its mark, and a digit with or without a sign (3.5.2)
+-- An exponent: its symbol, and a digit with or without a sign (3.5.2)
 abbrev pub begins_exponent : List ℕ → Bool
 begins_exponent bytes =
     begins is_exponent bytes && (begins is_digit (drop 1 bytes) || begins is_plus_or_minus (drop 1 bytes) && begins is_digit (drop 2 bytes))
@@ -25,10 +25,10 @@ begins_exponent bytes =
 abbrev pub begins_real : List ℕ → Bool
 begins_real bytes = begins_fraction bytes || begins_exponent bytes
 
--- How many bytes a base has, with its apostrophe and the mark of a sign; 0 where no base stands (3.5.1)
+-- How many bytes a base has, with its apostrophe and the symbol of a sign; 0 where no base stands (3.5.1)
 abbrev pub base_len_behind : List ℕ → ℕ
 base_len_behind bytes =
-    if begins is_base bytes then 2 else (if begins is_sign_mark bytes && begins is_base (drop 1 bytes) then 3 else 0)
+    if begins is_base bytes then 2 else (if begins is_sign_byte bytes && begins is_base (drop 1 bytes) then 3 else 0)
 
 abbrev pub base_len : List ℕ → ℕ
 base_len bytes = if begins (λ b. b == 39) bytes then base_len_behind (drop 1 bytes) else 0

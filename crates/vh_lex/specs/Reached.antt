@@ -60,6 +60,6 @@ left_of a = length a.bytes + left_in a.files
 pub record Stops (files : List File) (fault : DesignFault) (place : Place) : Type 0 where
   pub last : At
   pub is_skipped : Bool
-  pub front : ReadsTo is_skipped (before files) last
+  pub beginning : ReadsTo is_skipped (before files) last
   pub is_furthest : (t : Bool) (e : At) → ReadsTo t (before files) e → left_of last ≤ left_of e
   pub why : IsStuck is_skipped last place ⊎ IsLeftOpen last fault

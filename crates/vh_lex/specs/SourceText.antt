@@ -13,7 +13,7 @@ use Rattle.vh_lex.specs.declared.piece.Part.{Part}
 use Rattle.vh_lex.specs.declared.piece.Part.TheVariants.{Use}
 use Rattle.vh_lex.specs.declared.piece.Piece.TheVariants.{Blank, Kept}
 use Rattle.vh_lex.specs.Bytes.{begins, begins_with, is_line_end, is_name_byte}
-use Rattle.vh_lex.specs.Front.{Named, front, comment_len, name_of, word_name, is_long}
+use Rattle.vh_lex.specs.Beginning.{Named, beginning, comment_len, name_of, word_name, is_long}
 use Rattle.vh_lex.specs.MacroTexts.{macro_text, macro_len}
 use Rattle.vh_lex.specs.State.{first_setting}
 use Rattle.vh_lex.specs.Directives.{Found, directive_of, directive_behind, gap_len, name_behind, condition, time_behind, slash_behind, net_of, net_word}
@@ -109,11 +109,11 @@ Sets _ at bytes old new len = ⊥
 -- A piece of text that is read, of one byte at least: the longest blank, token or use, or a directive but those of conditionals; or the end of a file
 -- before another one. The limits are those of all files.
 pub data Goes : At → At → Type 0 where
-  blank : {a : At} (len : ℕ) → 1 ≤ len → front a.bytes ≡ Blank len → Goes a (past len a)
-  token : {a : At} (p : Part) (k : Kind) (len : ℕ) → front a.bytes ≡ Kept p len → token_of a.setting p ≡ Some k → length a.tokens + 1 ≤ 4194304
+  blank : {a : At} (len : ℕ) → 1 ≤ len → beginning a.bytes ≡ Blank len → Goes a (past len a)
+  token : {a : At} (p : Part) (k : Kind) (len : ℕ) → beginning a.bytes ≡ Kept p len → token_of a.setting p ≡ Some k → length a.tokens + 1 ≤ 4194304
       → Goes a (past len (with_kind k a))
   -- the tokens of the macro's text stand where the use does; at most 64 uses are open at one time
-  macro : {a : At} (name text : List ℕ) (len inner : ℕ) (tokens : List Token) → front a.bytes ≡ Kept (Use name) len
+  macro : {a : At} (name text : List ℕ) (len inner : ℕ) (tokens : List Token) → beginning a.bytes ≡ Kept (Use name) len
       → directive_behind (drop 1 a.bytes) name ≡ None → a.macros name ≡ Some text → Gives a.macros a.setting (place_of a) 63 text tokens inner
       → length (a.tokens ++ tokens) ≤ 4194304 → a.uses + 1 + inner ≤ 1048576
       → Goes a (past len (record a { tokens = a.tokens ++ tokens; uses = a.uses + 1 + inner }))

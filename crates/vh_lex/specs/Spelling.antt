@@ -12,7 +12,7 @@ use Rattle.vh_lex.specs.declared.piece.Piece.TheVariants as piece
 use Rattle.vh_lex.specs.declared.setting.Setting.{Setting}
 use Rattle.vh_lex.specs.declared.directive.Directive.{Directive}
 use Rattle.vh_lex.specs.Bytes.{begins, begins_with}
-use Rattle.vh_lex.specs.Front.{Named, word_name, comment_len, front}
+use Rattle.vh_lex.specs.Beginning.{Named, word_name, comment_len, beginning}
 use Rattle.vh_lex.specs.Made.{MacroRows, Made, macro_of}
 use Rattle.vh_lex.specs.Conditionals.{skips}
 use Rattle.vh_lex.specs.State.{State, moved}
@@ -123,7 +123,7 @@ skipped bytes s = comment_skipped (comment_len bytes) bytes s
 
 -- What bytes begin with
 abbrev pub step : List ℕ → State → Step
-step bytes s = if skips s.conditionals then skipped bytes s else piece_read (front bytes) bytes s
+step bytes s = if skips s.conditionals then skipped bytes s else piece_read (beginning bytes) bytes s
 
 -- Where a fault stands
 pub record Stop : Type 0 where

@@ -7,7 +7,7 @@ use Rattle.vh_lex.specs.declared.token.Token.{Token}
 use Rattle.vh_lex.specs.declared.piece.Part.{Part}
 use Rattle.vh_lex.specs.declared.piece.Piece.TheVariants.{Kept}
 use Rattle.vh_lex.specs.Bytes.{begins_with}
-use Rattle.vh_lex.specs.Front.{front}
+use Rattle.vh_lex.specs.Beginning.{beginning}
 use Rattle.vh_lex.specs.Lexed.{File, Spells, Refuses}
 use Rattle.vh_lex.specs.SourceText.{At, Goes, Passes, If, Elsif, Else, Endif, HasText}
 use Rattle.vh_lex.specs.Reached.{Stops}
@@ -55,6 +55,6 @@ FaultStops = (files : List File) (fault : DesignFault) (place : Place) → Refus
 -- front of them is one. A `(` before a `*` is left out: `(*)` begins with `(`, and `(*` with nothing.
 abbrev pub Longest : Type 0
 Longest =
-    (bytes more : List ℕ) (p : Part) (len : ℕ) → front (bytes ++ more) ≡ Kept p len → len ≤ length bytes
+    (bytes more : List ℕ) (p : Part) (len : ℕ) → beginning (bytes ++ more) ≡ Kept p len → len ≤ length bytes
     → begins_with 40 42 (bytes ++ more) ≡ false
-    → front bytes ≡ Kept p len
+    → beginning bytes ≡ Kept p len

@@ -7,7 +7,7 @@ use Rattle.vh_lex.specs.declared.name.Named.{Named as HeldNamed}
 use Rattle.vh_lex.specs.declared.macro_text.Next.{Next as HeldNext}
 use Rattle.vh_lex.specs.declared.scale.Found.{Found as HeldFound}
 use Rattle.vh_lex.specs.Directives.{Found}
-use Rattle.vh_lex.specs.Front.{Named}
+use Rattle.vh_lex.specs.Beginning.{Named}
 use Rattle.vh_lex.specs.MacroTexts.{Turn}
 
 -- A row of a table

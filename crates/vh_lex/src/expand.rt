@@ -103,7 +103,7 @@ fn copied_kind(alloc: Global, kind: &Kind) -> Result<Kind, NoMemory>
     match kind {
         Kind::Module(setting) => Ok(Kind::Module(*setting)),
         Kind::Word(keyword) => Ok(Kind::Word(*keyword)),
-        Kind::Mark(mark) => Ok(Kind::Mark(*mark)),
+        Kind::Symbol(symbol) => Ok(Kind::Symbol(*symbol)),
         Kind::Name(name) => Ok(Kind::Name(name.share()?)),
         Kind::SysName(name) => Ok(Kind::SysName(name.share()?)),
         Kind::Text(text) => Ok(Kind::Text(text.share()?)),

@@ -4,7 +4,7 @@ ghost use Rattle.vh_lex.specs.MacroTexts;
 ghost use Rattle.vh_lex.specs.Views.{turn_seen};
 
 use crate::bytes::{Class, after, begins, begins_with, run_len, upto};
-use crate::front::front;
+use crate::beginning::beginning;
 use crate::made::Output;
 use crate::piece::{Part, Piece};
 use std::alloc::Global;
@@ -181,7 +181,7 @@ fn parts_of(alloc: Global, made: &mut Output, text: &[u8]) -> Result<Sequence<Pa
             rest = after(run_len(Class::Space, rest).saturating_sub(1), behind);
             continue;
         }
-        match front(alloc, made, rest)? {
+        match beginning(alloc, made, rest)? {
             Piece::Blank(len) => rest = after(len.saturating_sub(1), behind),
             Piece::Kept(part, len) => {
                 parts.push(part)?;

@@ -4,7 +4,7 @@ ghost use Rattle.vh_lex.specs.Spelling.{with_token, with_use};
 ghost use Rattle.vh_lex.specs.Outcomes.{Makes};
 
 use crate::fault::Halt;
-use crate::mark::Mark;
+use crate::symbol::Symbol;
 use crate::names::Names;
 use crate::token::{Kind, Token};
 use std::alloc::Global;
@@ -59,11 +59,11 @@ impl Output {
         Ok(())
     }
 
-    // A mark more.
-    pub(crate) fn push_mark(&mut self, mark: Mark, place: Place) -> Result<(), Halt>
-        ensures { Makes (with_token (Kind.Mark mark) place self.old) result self.new }
+    // A symbol more.
+    pub(crate) fn push_symbol(&mut self, symbol: Symbol, place: Place) -> Result<(), Halt>
+        ensures { Makes (with_token (Kind.Symbol symbol) place self.old) result self.new }
     {
-        self.push(Kind::Mark(mark), place)
+        self.push(Kind::Symbol(symbol), place)
     }
 
     // The bytes of a name, shared with one that stood before where it is remembered.

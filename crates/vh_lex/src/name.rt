@@ -2,7 +2,7 @@ ghost use Rattle.std.specs.Prelude.{◌≡◌, ◌<◌, ◌≤◌, ◌+◌, leng
 ghost use Rattle.std.specs.List.{prefix_len};
 ghost use Rattle.vh_lex.specs.Bytes.{is_graphic};
 ghost use Rattle.std.specs.Option.{option_map};
-ghost use Rattle.vh_lex.specs.Front;
+ghost use Rattle.vh_lex.specs.Beginning;
 ghost use Rattle.vh_lex.specs.Views.{named_seen};
 
 use crate::bytes::{Class, begins, run_len};
@@ -21,7 +21,7 @@ pub(crate) struct Named<'a> {
 // The name with which the bytes begin: a simple one, or an escaped one without its backslash
 // (IEEE 1364-2005, 3.7 and 3.7.1).
 pub(crate) fn name_of(bytes: &[u8]) -> Option<Named<'_>>
-    ensures value { option_map named_seen result ≡ Front.name_of bytes.now }
+    ensures value { option_map named_seen result ≡ Beginning.name_of bytes.now }
     ensures inside { IfSome result (λ named. named.len ≤ length bytes.now) }
 {
     let Some((first, after)) = bytes.split_first() else {
@@ -38,7 +38,7 @@ pub(crate) fn name_of(bytes: &[u8]) -> Option<Named<'_>>
 
 // The name without a backslash with which the bytes begin, which alone can be a directive's word.
 pub(crate) fn word_name(bytes: &[u8]) -> Option<Named<'_>>
-    ensures value { option_map named_seen result ≡ Front.word_name bytes.now }
+    ensures value { option_map named_seen result ≡ Beginning.word_name bytes.now }
     ensures inside { IfSome result (λ named. named.len ≤ length bytes.now) }
 {
     let Some((first, _)) = bytes.split_first() else {
@@ -52,7 +52,7 @@ pub(crate) fn word_name(bytes: &[u8]) -> Option<Named<'_>>
 
 // The bytes with which a name can go on.
 fn simple_name(bytes: &[u8]) -> Named<'_>
-    ensures value { named_seen result ≡ Front.simple_name bytes.now }
+    ensures value { named_seen result ≡ Beginning.simple_name bytes.now }
     ensures inside { result.len ≤ length bytes.now }
 {
     let len = run_len(Class::Name, bytes);
@@ -65,7 +65,7 @@ fn simple_name(bytes: &[u8]) -> Named<'_>
 // The escaped name whose bytes behind the backslash these are.
 fn escaped_name(bytes: &[u8]) -> Option<Named<'_>>
     requires { length bytes.now < usize.MAX }
-    ensures value { option_map named_seen result ≡ Front.escaped_name
+    ensures value { option_map named_seen result ≡ Beginning.escaped_name
         (prefix_len is_graphic bytes.now) bytes.now }
     ensures inside { IfSome result (λ named. named.len ≤ length bytes.now + 1) }
 {
@@ -81,7 +81,7 @@ fn escaped_name(bytes: &[u8]) -> Option<Named<'_>>
 
 // Whether a name is longer than names may be.
 pub(crate) fn is_long(name: &[u8]) -> bool
-    ensures { result ≡ Front.is_long name.now }
+    ensures { result ≡ Beginning.is_long name.now }
 {
     name.len() > NAME_LIMIT
 }

@@ -65,11 +65,11 @@ fn begins_exponent(bytes: &[u8]) -> bool
     ensures { result ≡ Numbers.begins_exponent bytes.now }
 {
     let behind = after(1, bytes);
-    begins_exponent_mark(bytes)
+    begins_exponent_letter(bytes)
         && (begins_digit(behind) || begins_sign(behind) && begins_digit(after(2, bytes)))
 }
 
-fn begins_exponent_mark(bytes: &[u8]) -> bool
+fn begins_exponent_letter(bytes: &[u8]) -> bool
     ensures { result ≡ Bytes.begins Bytes.is_exponent bytes.now }
 {
     match bytes.first() {

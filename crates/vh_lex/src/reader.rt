@@ -1,7 +1,7 @@
 ghost use Rattle.std.specs.Prelude.{◌≡◌, ◌≤◌, ◌<◌, ◌+◌, ◌^◌, false, length, drop, IfOk, IfSome};
 ghost use Rattle.vh_lex.specs.Conditionals.{skips};
 ghost use Rattle.vh_lex.specs.Directives;
-ghost use Rattle.vh_lex.specs.Front;
+ghost use Rattle.vh_lex.specs.Beginning;
 ghost use Rattle.vh_lex.specs.Inside.{IsLone};
 ghost use Rattle.vh_lex.specs.Lexed;
 ghost use Rattle.vh_lex.specs.Outcomes.{Leaves, Went, Reads, stop_of, fault_of};
@@ -13,11 +13,11 @@ use crate::directed::first_setting;
 use crate::directive::{Directive, directive_behind, directive_of};
 use crate::expand::{Around, expand};
 use crate::fault::{Halt, LexFault, Stop};
-use crate::front::{comment_len, front, lone_mark};
+use crate::beginning::{comment_len, beginning, lone_symbol};
 use crate::keyword::keyword_of;
 use crate::macros::Macros;
 use crate::made::Output;
-use crate::mark::Mark;
+use crate::symbol::Symbol;
 use crate::name::{is_long, word_name};
 use crate::piece::{Part, Piece};
 use crate::place::moved;
@@ -66,8 +66,8 @@ impl Reader {
         let mut rest = bytes;
         while let Some((_, behind)) = rest.split_first() {
             let place = self.place;
-            if let Some(mark) = self.next_mark(rest) {
-                match self.mark_step(mark, rest) {
+            if let Some(symbol) = self.next_symbol(rest) {
+                match self.symbol_step(symbol, rest) {
                     Ok(_) => {
                         self.place.column += 1;
                         rest = behind;
@@ -87,26 +87,26 @@ impl Reader {
         Ok(())
     }
 
-    // The mark of one byte with which the bytes begin, as `lone_mark` sees it, in text that is read.
-    fn next_mark(&self, bytes: &[u8]) -> Option<Mark>
-        ensures { IfSome result (λ mark.
-            (skips self.now.conditionals ≡ false) × IsLone mark bytes.now) }
+    // The symbol of one byte with which the bytes begin, as `lone_symbol` sees it, in text that is read.
+    fn next_symbol(&self, bytes: &[u8]) -> Option<Symbol>
+        ensures { IfSome result (λ symbol.
+            (skips self.now.conditionals ≡ false) × IsLone symbol bytes.now) }
     {
         if self.conditionals.skips() {
             return None;
         }
-        lone_mark(bytes)
+        lone_symbol(bytes)
     }
 
-    // Reads this mark, with which the bytes begin.
-    fn mark_step(&mut self, mark: Mark, _bytes: &[u8]) -> Result<usize, Stop>
+    // Reads this symbol, with which the bytes begin.
+    fn symbol_step(&mut self, symbol: Symbol, _bytes: &[u8]) -> Result<usize, Stop>
         requires read { skips self.old.conditionals ≡ false }
-        requires lone { IsLone mark _bytes.now }
+        requires lone { IsLone symbol _bytes.now }
         ensures went { Went (Spelling.step _bytes.now self.old) result self.new }
         ensures one { IfOk result (λ len. len ≡ 1) }
         ensures place { self.new.place ≡ self.old.place }
     {
-        made(1, self.made.push_mark(mark, self.place))
+        made(1, self.made.push_symbol(symbol, self.place))
     }
 
     // Reads what the bytes begin with; answers how many bytes that is.
@@ -130,10 +130,10 @@ impl Reader {
     // Reads the piece that the bytes begin with.
     #[inline(never)]
     fn piece(&mut self, alloc: Global, bytes: &[u8]) -> Result<usize, Stop>
-        ensures { Went (Spelling.piece_read (Front.front bytes.now) bytes.now self.old) result
+        ensures { Went (Spelling.piece_read (Beginning.beginning bytes.now) bytes.now self.old) result
             self.new }
     {
-        match front(alloc, &mut self.made, bytes)? {
+        match beginning(alloc, &mut self.made, bytes)? {
             Piece::Blank(len) => Ok(len),
             Piece::Kept(part, len) => self.part_read(alloc, part, len, bytes),
             Piece::Fault(fault, at) => Err(Stop::Fault(fault, at)),
@@ -142,7 +142,7 @@ impl Reader {
 
     // Reads a keyword or a name.
     fn word(&mut self, alloc: Global, bytes: &[u8]) -> Result<usize, Stop>
-        ensures { Went (Spelling.piece_read (Front.word_at bytes.now) bytes.now self.old) result
+        ensures { Went (Spelling.piece_read (Beginning.word_at bytes.now) bytes.now self.old) result
             self.new }
     {
         let word = &bytes[..run_len(Class::Name, bytes)];
@@ -235,7 +235,7 @@ impl Reader {
     // A name behind a backquote in skipped text.
     fn use_skipped(&mut self, bytes: &[u8]) -> Result<usize, Stop>
         requires { 1 ≤ length bytes.now }
-        ensures { Went (Spelling.use_skipped (Front.word_name (drop 1 bytes.now)) bytes.now
+        ensures { Went (Spelling.use_skipped (Beginning.word_name (drop 1 bytes.now)) bytes.now
             self.old) result self.new }
     {
         let Some(named) = word_name(after(1, bytes)) else {

@@ -1,5 +1,5 @@
 use crate::keyword::Keyword;
-use crate::mark::Mark;
+use crate::symbol::Symbol;
 use crate::setting::Setting;
 use vh_base::{Boxed, Place};
 use vh_base_shared::SharedBytes;
@@ -20,8 +20,8 @@ pub enum Kind {
     Module(Setting),
     /// Another reserved word.
     Word(Keyword),
-    /// An operator or a mark.
-    Mark(Mark),
+    /// An operator or a symbol.
+    Symbol(Symbol),
     /// A name that is not reserved, without the backslash of an escaped one.
     Name(SharedBytes),
     /// A system name, with its dollar sign.

@@ -1,4 +1,4 @@
--- What holds of links that go through the nodes of a list, when a place is joined to another.
+-- What holds of links that go through the nodes of a list, when a position is joined to another.
 use Rattle.std.proofs.Common.{◌≡◌, ℕ, zero, suc, ◌+◌, ◌-◌, ◌<◌, ◌≤◌, List, [], ◌∷◌, ◌++◌, length, refl, ap, arith, ◌∙◌, sym, true, false}
 use Rattle.std.proofs.lemmas.Bool.{lt-ltb, le-ltb, eq-eqb, ne_eqb}
 use Rattle.vh_links.specs.declared.links.Link.{Link}
@@ -19,7 +19,7 @@ prev-same i j ls ms h = h.prev j ∙ rw (eq-eqb j j refl) refl
 pub prev-other : (i j k : ℕ) (ls ms : List Link) → Joins i j ls ms → (k ≡ j → ⊥) → prev_at ms k ≡ prev_at ls k
 prev-other i j k ls ms h ne = h.prev k ∙ rw (ne_eqb k j ne) refl
 
--- A place is none of the nodes of a list
+-- A position is none of the nodes of a list
 abbrev pub Misses : ℕ → ℕ → List ℕ → Type 0
 Misses A i xs = (x : ℕ) → has x xs ≡ true → A + x ≡ i → ⊥
 
@@ -39,20 +39,20 @@ misses-node A x xs h y k e =
     let there : has x xs ≡ true = sym (ap (λ n. has n xs) same) ∙ k in
     cc
 
--- The place of the last node of a list, or the place before the list
-abbrev pub last_place : ℕ → ℕ → List ℕ → ℕ
-last_place A i [] = i
-last_place A i (x ∷ xs) = last_place A (A + x) xs
+-- The position of the last node of a list, or the position before the list
+abbrev pub last_position : ℕ → ℕ → List ℕ → ℕ
+last_position A i [] = i
+last_position A i (x ∷ xs) = last_position A (A + x) xs
 
-pub last-other : (A i k : ℕ) (xs : List ℕ) → (i ≡ k → ⊥) → Misses A k xs → last_place A i xs ≡ k → ⊥
+pub last-other : (A i k : ℕ) (xs : List ℕ) → (i ≡ k → ⊥) → Misses A k xs → last_position A i xs ≡ k → ⊥
 last-other A i k [] ne h = ne
 last-other A i k (x ∷ xs) ne h = last-other A (A + x) k xs (misses-head A k x xs h) (misses-tail A k x xs h)
 
-pub prev-last : (A : ℕ) (ls : List Link) (i : ℕ) (xs : List ℕ) (j : ℕ) → Goes A ls i xs j → prev_at ls j ≡ last_place A i xs
+pub prev-last : (A : ℕ) (ls : List Link) (i : ℕ) (xs : List ℕ) (j : ℕ) → Goes A ls i xs j → prev_at ls j ≡ last_position A i xs
 prev-last A ls i [] j g = g.1
 prev-last A ls i (x ∷ xs) j g = prev-last A ls (A + x) xs j g.2
 
--- A join of two places beside a list leaves it
+-- A join of two positions beside a list leaves it
 pub goes-on : (A : ℕ) (ls ms : List Link) (i : ℕ) (xs : List ℕ) (j l u : ℕ) → Goes A ls i xs j → Joins l u ls ms
     → (i ≡ l → ⊥) → Misses A l xs → (j ≡ u → ⊥) → Misses A u xs → Goes A ms i xs j
 goes-on A ls ms i [] j l u g h ne ml nu mu = (next-other l u i ls ms h ne ∙ g.0, prev-other l u j ls ms h nu ∙ g.1)
@@ -62,12 +62,12 @@ goes-on A ls ms i (x ∷ xs) j l u g h ne ml nu mu = (
   goes-on A ls ms (A + x) xs j l u g.2 h (misses-head A l x xs ml) (misses-tail A l x xs ml) nu (misses-tail A u x xs mu),
 )
 
--- A join of the last place of a list to another leads the list there
-pub goes-to : (A : ℕ) (ls ms : List Link) (i : ℕ) (xs : List ℕ) (j u : ℕ) → Goes A ls i xs j → Joins (last_place A i xs) u ls ms
+-- A join of the last position of a list to another leads the list there
+pub goes-to : (A : ℕ) (ls ms : List Link) (i : ℕ) (xs : List ℕ) (j u : ℕ) → Goes A ls i xs j → Joins (last_position A i xs) u ls ms
     → Misses A i xs → IsApart xs → Misses A u xs → Goes A ms i xs u
 goes-to A ls ms i [] j u g h mi ap mu = (next-same i u ls ms h, prev-same i u ls ms h)
 goes-to A ls ms i (x ∷ xs) j u g h mi apart mu =
-    let l : ℕ = last_place A (A + x) xs in
+    let l : ℕ = last_position A (A + x) xs in
     let ne : i ≡ l → ⊥ = λ e. last-other A (A + x) i xs (misses-head A i x xs mi) (misses-tail A i x xs mi) (sym e) in (
       next-other l u i ls ms h ne ∙ g.0,
       prev-other l u (A + x) ls ms h (misses-head A u x xs mu) ∙ g.1,

@@ -152,7 +152,7 @@ unfolding IsDistinct
 distinct [] a = tt
 distinct (x ∷ xs) a = (all_other x xs a.0, distinct xs a.1)
 
--- A test of lists at an anchor's place
+-- A test of lists at an anchor's position
 pub any-none : {X : Type 0} (p : X → Bool) (xs : List X) (i : ℕ) (d : X) → list_any p xs ≡ false → p d ≡ false → p (get_or xs i d) ≡ false
 any-none p [] i d h k = k
 any-none p (x ∷ xs) zero d h k = (or_false (p x) (list_any p xs) h).0

@@ -11,7 +11,7 @@ use Rattle.vh_links.specs.declared.links.Link.{Link}
 use Rattle.vh_links.specs.Lists.{Lists, has, is_linked, list_of, with_list, after_add, after_push, after_unlink, after_move, without, behind, next_of}
 use Rattle.vh_links.specs.Views.{next_at, prev_at, nodes_from, lists_in, Goes, IsApart, IsClosed, Holds, Joins, node_of, nowhere}
 use Rattle.vh_links.proofs.ListsLemmas.{has-head, has-right, has-left, has-parts, has-one, not_one, has-cases, has-without, apart-append, apart-left, apart-right, apart-both, apart-without, parted, without-none, without-at, behind-at, distinct, any-none, any-at, find-only, get_or-map, length-mapped, get_or-copies}
-use Rattle.vh_links.proofs.JoinsLemmas.{next-same, prev-same, Misses, misses-anchor, misses-node, misses-head, misses-tail, last_place, last-other, prev-last, goes-on, goes-to, goes-append, goes-split, nodes-on_way}
+use Rattle.vh_links.proofs.JoinsLemmas.{next-same, prev-same, Misses, misses-anchor, misses-node, misses-head, misses-tail, last_position, last-other, prev-last, goes-on, goes-to, goes-append, goes-split, nodes-on_way}
 
 -- What contracts see of links that hold lists
 pub lists_in-is : (A : ℕ) (ls : List Link) (s : Lists) → Holds A ls s → lists_in A ls ≡ s
@@ -27,7 +27,7 @@ lists_in-is A ls s h =
 pub holds-seen : (A : ℕ) (ls : List Link) (s : Lists) → Holds A ls s → Holds A ls (lists_in A ls)
 holds-seen A ls s h = subst (λ (t : Lists). Holds A ls t) (sym (lists_in-is A ls s h)) h
 
--- A join between places leaves links that lead to places
+-- A join between positions leaves links that lead to positions
 pub joined-closed : (i j : ℕ) (ls ms : List Link) → Joins i j ls ms → i < length ls → j < length ls → IsClosed ls → IsClosed ms
 joined-closed i j ls ms h left right all = record {
   next = λ k below.
@@ -64,7 +64,7 @@ by_list P s a xs below p q b =
 pub free-of : (x : ℕ) (s : Lists) → is_linked x s ≡ false → (a : ℕ) → has x (list_of a s) ≡ false
 free-of x s h a = any-none (has x) s.lists a [] h refl
 
--- An anchor is no node's place
+-- An anchor is no node's position
 anchor-node : (A b x : ℕ) → b < A → b ≡ A + x → ⊥
 anchor-node A b x h e = omega (arith, e)
 
@@ -73,9 +73,9 @@ in-other : (A : ℕ) (ls : List Link) (s : Lists) → Holds A ls s → (a b x : 
 in-other A ls s h a b x ne k =
     has-cases (has x (list_of b s) ≡ false) x (list_of b s) (λ e. absurd (ne (h.once b a x e k))) (λ e. e)
 
--- The last place of a list is on no other list's way
+-- The last position of a list is on no other list's way
 last-free : (A a : ℕ) (xs : List ℕ) (b : ℕ) (ys : List ℕ) → a < A → b < A → (b ≡ a → ⊥)
-    → ((x : ℕ) → has x xs ≡ true → has x ys ≡ false) → (b ≡ last_place A a xs → ⊥) × Misses A (last_place A a xs) ys
+    → ((x : ℕ) → has x xs ≡ true → has x ys ≡ false) → (b ≡ last_position A a xs → ⊥) × Misses A (last_position A a xs) ys
 last-free A a xs b ys ha hb ne other = (
   λ e. last-other A a b xs (λ f. ne (sym f)) (misses-anchor A b xs hb) (sym e),
   λ y k e. last-other A a (A + y) xs (λ f. anchor-node A a y ha f)
@@ -92,10 +92,10 @@ pub holds-push : (A : ℕ) (ls ms ns : List Link) (s : Lists) (a x : ℕ) → Ho
 holds-push A ls ms ns s a x h below node unlinked j1 j2 =
     let L : List ℕ = list_of a s in
     let free = free-of x s unlinked in
-    let last : prev_at ls a ≡ last_place A a L = prev-last A ls a L a (h.ring a below) in
-    let j1' : Joins (last_place A a L) (A + x) ls ms = subst (λ n. Joins n (A + x) ls ms) last j1 in
+    let last : prev_at ls a ≡ last_position A a L = prev-last A ls a L a (h.ring a below) in
+    let j1' : Joins (last_position A a L) (A + x) ls ms = subst (λ n. Joins n (A + x) ls ms) last j1 in
     let inner : a < length s.lists = omega (arith, h.count) in
-    let place : A + x < length ls = omega (arith, h.size) in
+    let position : A + x < length ls = omega (arith, h.size) in
     let anchor : a < length ls = omega (arith, h.size) in
     let to_x : Goes A ms a L (A + x) = goes-to A ls ms a L a (A + x) (h.ring a below) j1' (misses-anchor A a L below) (h.apart a) (misses-node A x L (free a)) in
     let on : Goes A ns a L (A + x) =
@@ -105,7 +105,7 @@ holds-push A ls ms ns s a x h below node unlinked j1 j2 =
     λ b ne hb.
     let away = last-free A a L b (list_of b s) below hb ne (λ y k. in-other A ls s h a b y ne k) in
     goes-on A ms ns b (list_of b s) b (A + x) a
-    (goes-on A ls ms b (list_of b s) b (last_place A a L) (A + x) (h.ring b hb) j1' away.0 away.1 (λ e. anchor-node A b x hb e) (misses-node A x (list_of b s) (free b)))
+    (goes-on A ls ms b (list_of b s) b (last_position A a L) (A + x) (h.ring b hb) j1' away.0 away.1 (λ e. anchor-node A b x hb e) (misses-node A x (list_of b s) (free b)))
     j2 (λ e. anchor-node A b x hb e) (misses-node A x (list_of b s) (free b)) ne (misses-anchor A a (list_of b s) below) in
     let was : (b y : ℕ) → has y (list_of b (after_push a x s)) ≡ true → (has y (list_of b s) ≡ true → ⊥) → (b ≡ a) × (y ≡ x) =
     λ b. by_list (λ c zs. (y : ℕ) → has y zs ≡ true → (has y (list_of c s) ≡ true → ⊥) → (c ≡ a) × (y ≡ x)) s a (L ++ x ∷ []) inner
@@ -116,7 +116,7 @@ holds-push A ls ms ns s a x h below node unlinked j1 j2 =
       size = j2.size ∙ j1.size ∙ h.size;
       fits = h.fits;
       closed = joined-closed (A + x) a ms ns j2 (omega (arith, j1.size)) (omega (arith, j1.size))
-          (joined-closed (prev_at ls a) (A + x) ls ms j1 (h.closed.prev a anchor) place h.closed);
+          (joined-closed (prev_at ls a) (A + x) ls ms j1 (h.closed.prev a anchor) position h.closed);
       ring = by_list (λ b zs. b < A → Goes A ns b zs b) s a (L ++ x ∷ []) inner (λ _. own) others;
       inside = λ b y. by_list (λ c zs. has y zs ≡ true → y < s.nodes) s a (L ++ x ∷ []) inner
           (λ k. has-parts (y < s.nodes) y L (x ∷ []) k (λ e. h.inside a y e) (λ e. let same = has-one y x e in omega (arith, same)))
@@ -133,7 +133,7 @@ holds-push A ls ms ns s a x h below node unlinked j1 j2 =
           (λ b ne. h.apart b);
     }
 
--- A node in a list is one of the nodes, and its place one of the links
+-- A node in a list is one of the nodes, and its position one of the links
 pub linked-at : (A : ℕ) (ls : List Link) (s : Lists) → Holds A ls s → (x : ℕ) → is_linked x s ≡ true
     → (a : ℕ) × (a < A) × (has x (list_of a s) ≡ true) × (x < s.nodes) × (A + x < length ls)
 linked-at A ls s h x linked =
@@ -177,22 +177,22 @@ list_of-unlink x s b = get_or-map (without x) s.lists b []
 cut-way : (A : ℕ) (ls ms : List Link) (a x : ℕ) (xs ys : List ℕ) → a < A → IsApart (xs ++ x ∷ ys) → Goes A ls a xs (A + x) → Goes A ls (A + x) ys a
     → Joins (prev_at ls (A + x)) (next_at ls (A + x)) ls ms → Goes A ms a (xs ++ ys) a
 cut-way A ls ms a x xs [] below apart to from j =
-    let last : prev_at ls (A + x) ≡ last_place A a xs = prev-last A ls a xs (A + x) to in
-    let j1 : Joins (last_place A a xs) (next_at ls (A + x)) ls ms = subst (λ n. Joins n (next_at ls (A + x)) ls ms) last j in
-    let j2 : Joins (last_place A a xs) a ls ms = subst (λ n. Joins (last_place A a xs) n ls ms) from.0 j1 in
+    let last : prev_at ls (A + x) ≡ last_position A a xs = prev-last A ls a xs (A + x) to in
+    let j1 : Joins (last_position A a xs) (next_at ls (A + x)) ls ms = subst (λ n. Joins n (next_at ls (A + x)) ls ms) last j in
+    let j2 : Joins (last_position A a xs) a ls ms = subst (λ n. Joins (last_position A a xs) n ls ms) from.0 j1 in
     subst (λ (zs : List ℕ). Goes A ms a zs a) (sym (append-nil xs))
     (goes-to A ls ms a xs (A + x) a to j2 (misses-anchor A a xs below) (apart-left xs (x ∷ []) apart) (misses-anchor A a xs below))
 cut-way A ls ms a x xs (y ∷ ys) below apart to from j =
-    let last : prev_at ls (A + x) ≡ last_place A a xs = prev-last A ls a xs (A + x) to in
-    let j1 : Joins (last_place A a xs) (next_at ls (A + x)) ls ms = subst (λ n. Joins n (next_at ls (A + x)) ls ms) last j in
-    let j2 : Joins (last_place A a xs) (A + y) ls ms = subst (λ n. Joins (last_place A a xs) n ls ms) from.0 j1 in
+    let last : prev_at ls (A + x) ≡ last_position A a xs = prev-last A ls a xs (A + x) to in
+    let j1 : Joins (last_position A a xs) (next_at ls (A + x)) ls ms = subst (λ n. Joins n (next_at ls (A + x)) ls ms) last j in
+    let j2 : Joins (last_position A a xs) (A + y) ls ms = subst (λ n. Joins (last_position A a xs) n ls ms) from.0 j1 in
     let rest = apart-right xs (x ∷ y ∷ ys) apart in
     let both = apart-both xs (x ∷ y ∷ ys) apart in
     let front-y : has y xs ≡ false =
     has-cases (has y xs ≡ false) y xs (λ e. let no = both y e in let there : has y (x ∷ y ∷ ys) ≡ true = has-right y (x ∷ []) (y ∷ ys) (has-head y ys) in cc) (λ e. e) in
     let back : (z : ℕ) → has z xs ≡ true → has z (y ∷ ys) ≡ false =
     λ z e. has-cases (has z (y ∷ ys) ≡ false) z (y ∷ ys) (λ k. let no = both z e in let there : has z (x ∷ y ∷ ys) ≡ true = has-right z (x ∷ []) (y ∷ ys) k in cc) (λ k. k) in
-    let far : (k : ℕ) → has k (y ∷ ys) ≡ true → last_place A a xs ≡ A + k → ⊥ =
+    let far : (k : ℕ) → has k (y ∷ ys) ≡ true → last_position A a xs ≡ A + k → ⊥ =
     λ k there e. last-other A a (A + k) xs (λ f. anchor-node A a k below f)
     (λ z in_front f.
     let same : z ≡ k = omega (arith, f) in
@@ -200,10 +200,10 @@ cut-way A ls ms a x xs (y ∷ ys) below apart to from j =
     cc) e in
     goes-append A ms a xs y ys a
     (goes-to A ls ms a xs (A + x) (A + y) to j2 (misses-anchor A a xs below) (apart-left xs (x ∷ y ∷ ys) apart) (misses-node A y xs front-y))
-    (goes-on A ls ms (A + y) ys a (last_place A a xs) (A + y) from.2 j2 (λ e. far y (has-head y ys) (sym e))
+    (goes-on A ls ms (A + y) ys a (last_position A a xs) (A + y) from.2 j2 (λ e. far y (has-head y ys) (sym e))
     (λ k there e. far k (has-right k (y ∷ []) ys there) (sym e)) (λ e. anchor-node A a y below e) (misses-node A y ys rest.1.0))
 
--- The place behind a node is on no other list's way
+-- The position behind a node is on no other list's way
 next-away : (A : ℕ) (ls : List Link) (s : Lists) → Holds A ls s → (a x : ℕ) (ys : List ℕ) (b : ℕ) → a < A → b < A → (b ≡ a → ⊥)
     → Goes A ls (A + x) ys a → ((y : ℕ) → has y ys ≡ true → has y (list_of a s) ≡ true)
     → (b ≡ next_at ls (A + x) → ⊥) × Misses A (next_at ls (A + x)) (list_of b s)
@@ -224,7 +224,7 @@ pub holds-unlink : (A : ℕ) (ls ms : List Link) (s : Lists) (x a : ℕ) → Hol
 holds-unlink A ls ms s x a h below there j =
     let p = parts-of A ls s h x a below there in
     let node = h.inside a x there in
-    let place : A + x < length ls = omega (arith, node, h.size) in
+    let position : A + x < length ls = omega (arith, node, h.size) in
     let apart : IsApart (p.front ++ x ∷ p.back) = subst (λ (zs : List ℕ). IsApart zs) p.list (h.apart a) in
     let own : Goes A ms a (without x (list_of a s)) a =
     subst (λ (zs : List ℕ). Goes A ms a zs a) (sym (ap (without x) p.list ∙ without-at x p.front p.back p.not_front p.not_back))
@@ -234,7 +234,7 @@ holds-unlink A ls ms s x a h below there j =
     let others : (b : ℕ) → (b ≡ a → ⊥) → b < A → Goes A ms b (without x (list_of b s)) b =
     λ b ne hb.
     let free : has x (list_of b s) ≡ false = in-other A ls s h a b x ne there in
-    let last : prev_at ls (A + x) ≡ last_place A a p.front = prev-last A ls a p.front (A + x) p.to in
+    let last : prev_at ls (A + x) ≡ last_position A a p.front = prev-last A ls a p.front (A + x) p.to in
     let away = last-free A a p.front b (list_of b s) below hb ne (λ y k. in-other A ls s h a b y ne (front-in y k)) in
     let next-free = next-away A ls s h a x p.back b below hb ne p.from (λ y k. ap (has y) p.list ∙ has-right y p.front (x ∷ p.back) (has-right y (x ∷ []) p.back k)) in
     subst (λ (zs : List ℕ). Goes A ms b zs b) (sym (without-none x (list_of b s) free))
@@ -244,7 +244,7 @@ holds-unlink A ls ms s x a h below there j =
       count = length-mapped (without x) s.lists ∙ h.count;
       size = j.size ∙ h.size;
       fits = h.fits;
-      closed = joined-closed (prev_at ls (A + x)) (next_at ls (A + x)) ls ms j (h.closed.prev (A + x) place) (h.closed.next (A + x) place) h.closed;
+      closed = joined-closed (prev_at ls (A + x)) (next_at ls (A + x)) ls ms j (h.closed.prev (A + x) position) (h.closed.next (A + x) position) h.closed;
       ring = λ b hb. subst (λ (zs : List ℕ). Goes A ms b zs b) (sym (list_of-unlink x s b))
           (elim (eqb_tells b a) [
             | inl e ↦ subst (λ n. Goes A ms n (without x (list_of n s)) n) (sym e.1) own
@@ -291,7 +291,7 @@ holds-new A ls size own =
       apart = λ a. subst (λ (zs : List ℕ). IsApart zs) (sym (none a)) tt;
     }
 
--- One place more
+-- One position more
 pub at-before : (ls : List Link) (l : Link) (k : ℕ) → k < length ls → (next_at (ls ++ l ∷ []) k ≡ next_at ls k) × (prev_at (ls ++ l ∷ []) k ≡ prev_at ls k)
 at-before [] l k h = absurd (omega arith)
 at-before (m ∷ ls) l zero h = (refl, refl)
@@ -311,9 +311,9 @@ goes-longer A ls l i (x ∷ xs) j hi hj all g =
       goes-longer A ls l (A + x) xs j hx hj (λ y k. all y (has-right y (x ∷ []) xs k)) g.2,
     )
 
-place-next : (ls : List Link) (l : Link) → ((i : ℕ) → i < length ls → next_at ls i < length ls) → l.next ≡ length ls
+position-next : (ls : List Link) (l : Link) → ((i : ℕ) → i < length ls → next_at ls i < length ls) → l.next ≡ length ls
     → (i : ℕ) → i < length (ls ++ l ∷ []) → length (ls ++ l ∷ []) ≡ length ls + 1 → next_at (ls ++ l ∷ []) i < length (ls ++ l ∷ [])
-place-next ls l all e i below more =
+position-next ls l all e i below more =
     elim (eqb_tells i (length ls)) [
       | inl at ↦ let is = ap (next_at (ls ++ l ∷ [])) at.1 ∙ (at-end ls l).0 ∙ e in omega (arith, is, more)
       | inr n ↦
@@ -323,9 +323,9 @@ place-next ls l all e i below more =
           omega (arith, is, all i before, more)
     ]
 
-place-prev : (ls : List Link) (l : Link) → ((i : ℕ) → i < length ls → prev_at ls i < length ls) → l.prev ≡ length ls
+position-prev : (ls : List Link) (l : Link) → ((i : ℕ) → i < length ls → prev_at ls i < length ls) → l.prev ≡ length ls
     → (i : ℕ) → i < length (ls ++ l ∷ []) → length (ls ++ l ∷ []) ≡ length ls + 1 → prev_at (ls ++ l ∷ []) i < length (ls ++ l ∷ [])
-place-prev ls l all e i below more =
+position-prev ls l all e i below more =
     elim (eqb_tells i (length ls)) [
       | inl at ↦ let is = ap (prev_at (ls ++ l ∷ [])) at.1 ∙ (at-end ls l).1 ∙ e in omega (arith, is, more)
       | inr n ↦
@@ -345,8 +345,8 @@ holds-add A ls s h room =
       size = omega (arith, more, h.size);
       fits = omega (arith, room);
       closed = record {
-        next = λ i below. place-next ls l h.closed.next refl i below more;
-        prev = λ i below. place-prev ls l h.closed.prev refl i below more;
+        next = λ i below. position-next ls l h.closed.next refl i below more;
+        prev = λ i below. position-prev ls l h.closed.prev refl i below more;
       };
       ring = λ a below.
           let hi : a < length ls = omega (arith, h.size) in
@@ -390,21 +390,21 @@ move-ways A ls m1 m2 m3 s f t (y ∷ ys) h is hf ht ne some j1 j2 j3 =
     let mine : (x : ℕ) → has x (y ∷ ys) ≡ true → has x (list_of f s) ≡ true = λ x k. ap (has x) is ∙ k in
     let not_t : (x : ℕ) → has x (y ∷ ys) ≡ true → has x Lt ≡ false = λ x k. in-other A ls s h f t x (λ e. ne (sym e)) (mine x k) in
     let not_f : (x : ℕ) → has x Lt ≡ true → has x (y ∷ ys) ≡ false = λ x k. sym (ap (has x) is) ∙ in-other A ls s h t f x ne k in
-    let lt : prev_at ls t ≡ last_place A t Lt = prev-last A ls t Lt t (h.ring t ht) in
-    let lf : prev_at ls f ≡ last_place A (A + y) ys = prev-last A ls f (y ∷ ys) f g in
-    let k1 : Joins (last_place A t Lt) (A + y) ls m1 = subst (λ n. Joins (last_place A t Lt) n ls m1) g.0 (subst (λ n. Joins n (next_at ls f) ls m1) lt j1) in
-    let k2 : Joins (last_place A (A + y) ys) t m1 m2 = subst (λ n. Joins n t m1 m2) lf j2 in
+    let lt : prev_at ls t ≡ last_position A t Lt = prev-last A ls t Lt t (h.ring t ht) in
+    let lf : prev_at ls f ≡ last_position A (A + y) ys = prev-last A ls f (y ∷ ys) f g in
+    let k1 : Joins (last_position A t Lt) (A + y) ls m1 = subst (λ n. Joins (last_position A t Lt) n ls m1) g.0 (subst (λ n. Joins n (next_at ls f) ls m1) lt j1) in
+    let k2 : Joins (last_position A (A + y) ys) t m1 m2 = subst (λ n. Joins n t m1 m2) lf j2 in
     let y-not_t : Misses A (A + y) Lt = misses-node A y Lt (not_t y (has-head y ys)) in
     let y-once : Misses A (A + y) ys = misses-node A y ys apart.0 in
     let from-t = last-free A t Lt f (y ∷ ys) ht hf ne not_f in
     let from-f = last-free A f (y ∷ ys) t Lt hf ht (λ e. ne (sym e)) not_t in
     let t1 : Goes A m1 t Lt (A + y) = goes-to A ls m1 t Lt t (A + y) (h.ring t ht) k1 (misses-anchor A t Lt ht) (h.apart t) y-not_t in
     let f1 : Goes A m1 (A + y) ys f =
-    goes-on A ls m1 (A + y) ys f (last_place A t Lt) (A + y) g.2 k1 (misses-head A (last_place A t Lt) y ys from-t.1) (misses-tail A (last_place A t Lt) y ys from-t.1)
+    goes-on A ls m1 (A + y) ys f (last_position A t Lt) (A + y) g.2 k1 (misses-head A (last_position A t Lt) y ys from-t.1) (misses-tail A (last_position A t Lt) y ys from-t.1)
     (λ e. anchor-node A f y hf e) y-once in
     let f2 : Goes A m2 (A + y) ys t = goes-to A m1 m2 (A + y) ys f t f1 k2 y-once apart.1 (misses-anchor A t ys ht) in
     let t2 : Goes A m2 t Lt (A + y) =
-    goes-on A m1 m2 t Lt (A + y) (last_place A (A + y) ys) t t1 k2 from-f.0 from-f.1 (λ e. anchor-node A t y ht (sym e)) (misses-anchor A t Lt ht) in
+    goes-on A m1 m2 t Lt (A + y) (last_position A (A + y) ys) t t1 k2 from-f.0 from-f.1 (λ e. anchor-node A t y ht (sym e)) (misses-anchor A t Lt ht) in
     let t3 : Goes A m3 t Lt (A + y) =
     goes-on A m2 m3 t Lt (A + y) f f t2 j3 (λ e. ne (sym e)) (misses-anchor A f Lt hf) (λ e. anchor-node A f y hf (sym e)) (misses-anchor A f Lt hf) in
     let f3 : Goes A m3 (A + y) ys t =
@@ -417,8 +417,8 @@ move-ways A ls m1 m2 m3 s f t (y ∷ ys) h is hf ht ne some j1 j2 j3 =
           let away-t = last-free A t Lt b Lb ht hb nt (λ x k. in-other A ls s h t b x nt k) in
           let away-f = last-free A f (y ∷ ys) b Lb hf hb nf (λ x k. in-other A ls s h f b x nf (mine x k)) in
           let y-not_b : Misses A (A + y) Lb = misses-node A y Lb (in-other A ls s h f b y nf (mine y (has-head y ys))) in
-          let b1 = goes-on A ls m1 b Lb b (last_place A t Lt) (A + y) (h.ring b hb) k1 away-t.0 away-t.1 (λ e. anchor-node A b y hb e) y-not_b in
-          let b2 = goes-on A m1 m2 b Lb b (last_place A (A + y) ys) t b1 k2 away-f.0 away-f.1 nt (misses-anchor A t Lb ht) in
+          let b1 = goes-on A ls m1 b Lb b (last_position A t Lt) (A + y) (h.ring b hb) k1 away-t.0 away-t.1 (λ e. anchor-node A b y hb e) y-not_b in
+          let b2 = goes-on A m1 m2 b Lb b (last_position A (A + y) ys) t b1 k2 away-f.0 away-f.1 nt (misses-anchor A t Lb ht) in
           goes-on A m2 m3 b Lb b f f b2 j3 nf (misses-anchor A f Lb hf) nf (misses-anchor A f Lb hf);
     }
 
@@ -478,6 +478,6 @@ get_or-same [] i l m h = absurd (omega arith)
 get_or-same (x ∷ ls) zero l m h = refl
 get_or-same (x ∷ ls) (suc i) l m h = get_or-same ls i l m (omega arith)
 
--- What the code reads at a place
+-- What the code reads at a position
 pub read-at : (ls : List Link) (i : ℕ) (l : Link) → i < length ls → l ≡ get_or ls i l → l ≡ get_or ls i nowhere
 read-at ls i l below e = e ∙ get_or-same ls i l nowhere below

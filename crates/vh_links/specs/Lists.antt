@@ -20,7 +20,7 @@ is_linked x s = list_any (has x) s.lists
 abbrev pub list_of : ℕ → Lists → List ℕ
 list_of a s = slice_index_or s.lists a []
 
--- The lists with another one in an anchor's place
+-- The lists with another one in an anchor's position
 abbrev pub with_list : ℕ → List ℕ → Lists → Lists
 with_list a xs s = record { lists = slice_set s.lists a xs; nodes = s.nodes }
 

@@ -7,7 +7,7 @@ use std::alloc::Global;
 use std::marker::Model;
 use vh_base::NoMemory;
 
-// The places before and behind one.
+// The positions before and behind one.
 #[derive(Clone, Copy, Drop)]
 struct Link {
     prev: usize,
@@ -50,12 +50,12 @@ impl Links {
         ensures added { IfOk result (λ _. self.new ≡ after_add self.old) }
         ensures kept { OnErr result (self.new ≡ self.old) }
     {
-        let place = self.links.len();
+        let position = self.links.len();
         self.links.push(Link {
-            prev: place,
-            next: place,
+            prev: position,
+            next: position,
         })?;
-        Ok((place - self.anchors) as u32)
+        Ok((position - self.anchors) as u32)
     }
 
     /// Appends a node that is in no list.
@@ -66,10 +66,10 @@ impl Links {
         ensures { self.new ≡ after_push anchor node self.old }
     {
         let anchor = anchor as usize;
-        let place = self.anchors + node as usize;
+        let position = self.anchors + node as usize;
         let last = self.links[anchor].prev;
-        join(&mut self.links, last, place);
-        join(&mut self.links, place, anchor);
+        join(&mut self.links, last, position);
+        join(&mut self.links, position, anchor);
     }
 
     /// Takes a node out of its list.
@@ -77,8 +77,8 @@ impl Links {
         requires { is_linked node self.old ≡ true }
         ensures { self.new ≡ after_unlink node self.old }
     {
-        let place = self.anchors + node as usize;
-        let link = self.links[place];
+        let position = self.anchors + node as usize;
+        let link = self.links[position];
         join(&mut self.links, link.prev, link.next);
     }
 
@@ -113,12 +113,12 @@ impl Links {
         requires { is_linked node self.now ≡ true }
         ensures { result ≡ next_of node self.now }
     {
-        let place = self.anchors + node as usize;
-        node_at(self.anchors, self.links[place].next)
+        let position = self.anchors + node as usize;
+        node_at(self.anchors, self.links[position].next)
     }
 }
 
-// A ring of its own for each of these places.
+// A ring of its own for each of these positions.
 fn rings(alloc: Global, count: usize) -> Result<Vec<Link>, NoMemory>
     ensures { IfOk result (λ ls. AreRings count ls.items) }
 {
@@ -129,7 +129,7 @@ fn rings(alloc: Global, count: usize) -> Result<Vec<Link>, NoMemory>
     Ok(links)
 }
 
-// Links a place to another, in both ways.
+// Links a position to another, in both ways.
 fn join(links: &mut Vec<Link>, i: usize, j: usize)
     requires left { i < length links.old.items }
     requires right { j < length links.old.items }
@@ -139,14 +139,14 @@ fn join(links: &mut Vec<Link>, i: usize, j: usize)
     links[j].prev = i;
 }
 
-// The node at a place; `None` where an anchor stands there.
-fn node_at(anchors: usize, place: usize) -> Option<u32>
-    requires { place < anchors + 2 ^ 32 }
-    ensures { result ≡ node_of anchors place }
+// The node at a position; `None` where an anchor stands there.
+fn node_at(anchors: usize, position: usize) -> Option<u32>
+    requires { position < anchors + 2 ^ 32 }
+    ensures { result ≡ node_of anchors position }
 {
-    if place < anchors {
+    if position < anchors {
         None
     } else {
-        Some((place - anchors) as u32)
+        Some((position - anchors) as u32)
     }
 }

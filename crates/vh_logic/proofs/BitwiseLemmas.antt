@@ -14,7 +14,7 @@ pub second-below : (w a b v c d : ℕ) (s t : Bool) (x y : Vector) → Vector-of
     → width_of x ≡ width_of y → c < 2 ^ v → d < 2 ^ v → (c < 2 ^ w) × (d < 2 ^ w)
 second-below w a b v c d s t x y e g l h k = rw (← widths-planes w a b v c d s t x y e g l) (h, k)
 
--- An operator on digits is the table of what the code's words make of the four bits at a place, if all sixteen rows agree
+-- An operator on digits is the table of what the code's words make of the four bits at a position, if all sixteen rows agree
 pub zip_by_table : (f : Digit → Digit → Digit) (table : ℕ → ℕ → ℕ → ℕ → Digit)
     → same_4 (λ p q r u. f (digit_of p q) (digit_of r u)) table ≡ true
     → (w a b v c d m n : ℕ) (s t : Bool) (x y : Vector)

@@ -13,23 +13,23 @@ use Rattle.vh_logic.specs.declared.digits.Digit.{Digit}
 use Rattle.vh_logic.specs.declared.digits.Digit.TheVariants.{Zero, One, X}
 use Rattle.vh_logic.specs.Digit.{may_equal, test_digit}
 use Rattle.vh_logic.specs.Compare.{equality, ordering}
-use Rattle.vh_logic.specs.Vector.{Vector, width_of, all_places}
+use Rattle.vh_logic.specs.Vector.{Vector, width_of, all_positions}
 use Rattle.vh_logic.specs.Number.{all_known, twos_complement, integer_at}
 use Rattle.vh_logic.specs.Planes.{digit_of, digits_of}
 use Rattle.vh_logic.proofs.PlanesLemmas.{digit_at, Vector-of, bounds}
 use Rattle.vh_logic.proofs.Tables.{test_by_4}
-use Rattle.vh_logic.proofs.TestLemmas.{all_places-digits_of}
+use Rattle.vh_logic.proofs.TestLemmas.{all_positions-digits_of}
 use Rattle.vh_logic.proofs.NumberLemmas.{all_known-digits_of, or_zero, known_integer, unknown_integer}
 use Rattle.vh_logic.proofs.ArithmeticLemmas.{widths-planes}
 
--- A test of each place of two vectors, by a plane that marks the places where it fails
-pub all_places-vectors : (f : Digit → Digit → Bool) (w a b v c d m : ℕ) (s t : Bool) (x y : Vector)
+-- A test of each position of two vectors, by a plane that marks the positions where it fails
+pub all_positions-vectors : (f : Digit → Digit → Bool) (w a b v c d m : ℕ) (s t : Bool) (x y : Vector)
     → Vector-of w a b s ≡ x → Vector-of v c d t ≡ y → width_of x ≡ width_of y → m < 2 ^ w
     → ((i : ℕ) → i < w → f (digit_at a b i) (digit_at c d i) ≡ eqb (bit_at m i) 0)
-    → all_places f x.digits y.digits ≡ eqb m 0
-all_places-vectors f w a b v c d m s t x y e g l below h =
+    → all_positions f x.digits y.digits ≡ eqb m 0
+all_positions-vectors f w a b v c d m s t x y e g l below h =
     let same = widths-planes w a b v c d s t x y e g l in
-    let all : all_places f (digits_of w a b) (digits_of v c d) ≡ eqb m 0 = rw same (all_places-digits_of f w a b c d m below h) in
+    let all : all_positions f (digits_of w a b) (digits_of v c d) ≡ eqb m 0 = rw same (all_positions-digits_of f w a b c d m below h) in
     rw (← e, ← g) all
 
 pub both_known : (w a b v c d : ℕ) (s t : Bool) (x y : Vector)
@@ -79,7 +79,7 @@ high_low h a c p q r = grind (arith, ints, nat_tests)
 high_high : (h a c : ℕ) → h ≤ a → a < 2 * h → h ≤ c → c < 2 * h → int_lt (neg_ℤ (pos (2 * h - a))) (neg_ℤ (pos (2 * h - c))) ≡ ltb (a - h) (c - h)
 high_high h a c p q r s = grind (arith, ints, nat_tests)
 
--- `a == b`: a plane marks the places that hold 0 against 1, and another those with an x or z
+-- `a == b`: a plane marks the positions that hold 0 against 1, and another those with an x or z
 abbrev pub differing : ℕ → ℕ → ℕ → ℕ → ℕ
 differing a b c d = bit_xor (bit_or (bit_xor a c) (bit_or b d)) (bit_or b d)
 
@@ -91,8 +91,8 @@ equality-vectors w a b v c d s t x y e g l ha hb hc hd =
     let same = widths-planes w a b v c d s t x y e g l in
     let hc' : c < 2 ^ w = rw (← same) hc in
     let hd' : d < 2 ^ w = rw (← same) hd in
-    let may : all_places may_equal x.digits y.digits ≡ eqb (differing a b c d) 0 =
-    all_places-vectors may_equal w a b v c d (differing a b c d) s t x y e g l (search (rules, bounds))
+    let may : all_positions may_equal x.digits y.digits ≡ eqb (differing a b c d) 0 =
+    all_positions-vectors may_equal w a b v c d (differing a b c d) s t x y e g l (search (rules, bounds))
     (λ i within. simp (bit_at_or, bit_at_xor) (test_by_4
     (λ x y z t. may_equal (digit_of x y) (digit_of z t))
     (λ x y z t. eqb ((max ((x + z) % 2) (max y t) + max y t) % 2) 0)

@@ -1,4 +1,4 @@
--- Shifts and parts: where a place of the result comes from, in the lists of digits and in the planes.
+-- Shifts and parts: where a position of the result comes from, in the lists of digits and in the planes.
 use Rattle.std.proofs.Common.{◌≡◌, ℕ, ◌+◌, ◌-◌, ◌*◌, ◌/◌, ◌%◌, ◌^◌, ◌<◌, ◌≤◌, min, List, ◌++◌, length, get_or, take, drop, replicate, refl, ap, arith, ◌∙◌, sym, Bool, false, Some, None, inl, inr, length-append, length-drop, eqb}
 use Rattle.std.specs.Prelude.{bit_and, bit_or, bit_xor}
 use Rattle.std.specs.Int.{bit_at}
@@ -15,7 +15,7 @@ use Rattle.vh_logic.specs.Number.{known_number, binary}
 use Rattle.vh_logic.specs.Shift.{moved_up, moved_down, shifted_right, shifted_right_signed}
 use Rattle.vh_logic.specs.Planes.{digits_of}
 use Rattle.vh_logic.specs.PlanesBack.{length-digits_of}
-use Rattle.vh_logic.proofs.PlanesLemmas.{digit_at, digits_of-places, get_or-digits_of, Vector-of, digits_with, ones_below}
+use Rattle.vh_logic.proofs.PlanesLemmas.{digit_at, digits_of-positions, get_or-digits_of, Vector-of, digits_with, ones_below}
 use Rattle.vh_logic.proofs.NumberLemmas.{known_number-planes, digits_of-binary}
 use Rattle.vh_logic.proofs.ArithmeticLemmas.{width-planes}
 
@@ -34,7 +34,7 @@ bit_at-shl_high : (a n i : ℕ) → n ≤ i → bit_at (a * 2 ^ n) i ≡ bit_at 
 bit_at-shl_high a n i h =
     let e : a * 2 ^ n + 0 ≡ a * 2 ^ n = omega arith in ap (λ m. bit_at m i) (sym e) ∙ bit_at_cat_high a n 0 i (pow_pos n) h
 
--- ---- places of moved digits
+-- ---- positions of moved digits
 get_or-moved_up_low : (ds : List Digit) (n i : ℕ) (d : Digit) → i < length ds → i < n → get_or (moved_up ds n) i d ≡ Zero
 get_or-moved_up_low ds n i d h k =
     get_or-take (length ds) (replicate n Zero ++ ds) i d h
@@ -74,7 +74,7 @@ pub digits_of-moved_up : (w a b n m k : ℕ)
     → digits_of w m k ≡ moved_up (digits_of w a b) n
 digits_of-moved_up w a b n m k low high =
     let size : length (digits_of w a b) ≡ w = length-digits_of w a b in
-    digits_of-places w m k (moved_up (digits_of w a b) n) Zero (length-moved_up (digits_of w a b) n ∙ size)
+    digits_of-positions w m k (moved_up (digits_of w a b) n) Zero (length-moved_up (digits_of w a b) n ∙ size)
     (λ i h. elim (cases_lt i n) [
       | inl l ↦ get_or-moved_up_low (digits_of w a b) n i Zero (omega arith) l ∙ sym (low i h l)
       | inr l ↦ get_or-moved_up_high (digits_of w a b) n i Zero (omega arith) l ∙ get_or-digits_of w a b (i - n) Zero (omega arith) ∙ sym (high i h l)
@@ -86,19 +86,19 @@ pub digits_of-moved_down : (fill : Digit) (w a b n m k : ℕ)
     → digits_of w m k ≡ moved_down fill (digits_of w a b) n
 digits_of-moved_down fill w a b n m k low high =
     let size : length (digits_of w a b) ≡ w = length-digits_of w a b in
-    digits_of-places w m k (moved_down fill (digits_of w a b) n) Zero (length-moved_down fill (digits_of w a b) n ∙ size)
+    digits_of-positions w m k (moved_down fill (digits_of w a b) n) Zero (length-moved_down fill (digits_of w a b) n ∙ size)
     (λ i h. elim (cases_lt (n + i) w) [
       | inl l ↦
           get_or-moved_down_low fill (digits_of w a b) n i Zero (omega arith) (omega arith) ∙ get_or-digits_of w a b (n + i) Zero l ∙ sym (low i h l)
       | inr l ↦ get_or-moved_down_high fill (digits_of w a b) n i Zero (omega arith) (omega arith) ∙ sym (high i h l)
     ])
 
--- The number of places
-pub places_known : (w a b : ℕ) (s : Bool) (x : Vector) → Vector-of w a b s ≡ x → a < 2 ^ w → b ≡ 0 → known_number x.digits ≡ Some a
-places_known w a b s x e h z = rw (← e, z) (known_number-planes w a 0 h (pow_pos w))
+-- The number of positions
+pub positions_known : (w a b : ℕ) (s : Bool) (x : Vector) → Vector-of w a b s ≡ x → a < 2 ^ w → b ≡ 0 → known_number x.digits ≡ Some a
+positions_known w a b s x e h z = rw (← e, z) (known_number-planes w a 0 h (pow_pos w))
 
-pub places_unknown : (w a b : ℕ) (s : Bool) (x : Vector) → Vector-of w a b s ≡ x → a < 2 ^ w → b < 2 ^ w → (b ≡ 0 → ⊥) → known_number x.digits ≡ None
-places_unknown w a b s x e h k n = rw (← e) (known_number-planes w a b h k ∙ cond-false (eqb b 0) _ _ (ne_eqb b 0 n))
+pub positions_unknown : (w a b : ℕ) (s : Bool) (x : Vector) → Vector-of w a b s ≡ x → a < 2 ^ w → b < 2 ^ w → (b ≡ 0 → ⊥) → known_number x.digits ≡ None
+positions_unknown w a b s x e h k n = rw (← e) (known_number-planes w a b h k ∙ cond-false (eqb b 0) _ _ (ne_eqb b 0 n))
 
 -- ---- the code's shifts
 shl_bit : (w p a n i : ℕ) → w ≤ p → i < w → bit_at (bit_and (a * 2 ^ n % 2 ^ p) (2 ^ w - 1)) i ≡ bit_at (a * 2 ^ n) i
@@ -221,7 +221,7 @@ concat_below v a w b ha hb = rw (pow-add 2 v w) (omega (arith, mul-le-mul_right 
 pub digits_of-concat : (v a b w c d : ℕ) → c < 2 ^ w → d < 2 ^ w
     → digits_of (v + w) (a * 2 ^ w + c) (b * 2 ^ w + d) ≡ digits_of w c d ++ digits_of v a b
 digits_of-concat v a b w c d hc hd =
-    digits_of-places (v + w) _ _ (digits_of w c d ++ digits_of v a b) Zero
+    digits_of-positions (v + w) _ _ (digits_of w c d ++ digits_of v a b) Zero
     (omega (arith, length-append (digits_of w c d) (digits_of v a b), length-digits_of w c d, length-digits_of v a b))
     (λ i h. elim (cases_lt i w) [
       | inl l ↦
@@ -236,7 +236,7 @@ digits_of-concat v a b w c d hc hd =
 -- ---- a part of a vector
 pub digits_of-part : (w a b low v : ℕ) → low + v ≤ w → digits_of v (a / 2 ^ low) (b / 2 ^ low) ≡ take v (drop low (digits_of w a b))
 digits_of-part w a b low v le =
-    digits_of-places v _ _ (take v (drop low (digits_of w a b))) Zero
+    digits_of-positions v _ _ (take v (drop low (digits_of w a b))) Zero
     (length-take v (drop low (digits_of w a b)) ∙ omega (arith, length-drop low (digits_of w a b), length-digits_of w a b))
     (λ i h.
     get_or-take v (drop low (digits_of w a b)) i Zero h ∙ get_or-drop low (digits_of w a b) i Zero
@@ -281,7 +281,7 @@ digits_of-replaced w a b v c d low hc hd le =
     let size : length (digits_of w a b) ≡ w = length-digits_of w a b in
     let part : length (digits_of v c d) ≡ v = length-digits_of v c d in
     let front : length (take low (digits_of w a b)) ≡ low = length-take low (digits_of w a b) ∙ omega arith in
-    digits_of-places w _ _ (take low (digits_of w a b) ++ (digits_of v c d ++ drop (low + length (digits_of v c d)) (digits_of w a b))) Zero
+    digits_of-positions w _ _ (take low (digits_of w a b) ++ (digits_of v c d ++ drop (low + length (digits_of v c d)) (digits_of w a b))) Zero
     (omega (
       arith,
       length-append (take low (digits_of w a b)) (digits_of v c d ++ drop (low + length (digits_of v c d)) (digits_of w a b)),
@@ -315,7 +315,7 @@ digits_of-extended : (w a b v m p : ℕ) (fill : Digit)
     → ((i : ℕ) → i < v → w ≤ i → digit_at m p i ≡ fill)
     → digits_of v m p ≡ take v (digits_of w a b ++ replicate v fill)
 digits_of-extended w a b v m p fill low high =
-    digits_of-places v m p (take v (digits_of w a b ++ replicate v fill)) Zero
+    digits_of-positions v m p (take v (digits_of w a b ++ replicate v fill)) Zero
     (length-take v (digits_of w a b ++ replicate v fill) ∙ omega (arith, length-append (digits_of w a b) (replicate v fill), length-replicate v fill))
     (λ i h. get_or-take v (digits_of w a b ++ replicate v fill) i Zero h ∙ elim (cases_lt i w) [
       | inl l ↦

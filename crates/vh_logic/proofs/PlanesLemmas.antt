@@ -89,16 +89,16 @@ pub map_digits-vector : (f : Digit → Digit) (w a b m n : ℕ) (s : Bool) (x : 
 map_digits-vector f w a b m n s x e h =
     rw (← e) (ap (λ ds. record { digits = ds; signed = s }) (sym (map_digits-digits_of f w a b m n h)))
 
--- A list is the digits of two planes if each of its places is
-pub digits_of-places : (w m n : ℕ) (xs : List Digit) (d : Digit) → length xs ≡ w
+-- A list is the digits of two planes if each of its positions is
+pub digits_of-positions : (w m n : ℕ) (xs : List Digit) (d : Digit) → length xs ≡ w
     → ((i : ℕ) → i < w → get_or xs i d ≡ digit_at m n i) → digits_of w m n ≡ xs
 unfolding digits_of
-digits_of-places zero m n [] d l h = refl
-digits_of-places zero m n (x ∷ xs) d l h = absurd (omega arith)
-digits_of-places (suc w) m n [] d l h = absurd (omega arith)
-digits_of-places (suc w) m n (x ∷ xs) d l h =
+digits_of-positions zero m n [] d l h = refl
+digits_of-positions zero m n (x ∷ xs) d l h = absurd (omega arith)
+digits_of-positions (suc w) m n [] d l h = absurd (omega arith)
+digits_of-positions (suc w) m n (x ∷ xs) d l h =
     let first = h 0 (omega arith) in
-    let rest = digits_of-places w (m / 2) (n / 2) xs d (omega arith)
+    let rest = digits_of-positions w (m / 2) (n / 2) xs d (omega arith)
     (λ i below. rw (digit_at-suc m n i) at (h (suc i) (omega arith))) in
     let first' = rw (digit_at-zero m n) at first in
     cc
@@ -125,17 +125,17 @@ bit_clear a i h = let n : bit_at a i ≡ 1 → ⊥ = λ e. h (shr_and_one a i �
 -- Bits above the width do not count
 pub digits_of-same : (w a b c d : ℕ) → ((i : ℕ) → i < w → digit_at a b i ≡ digit_at c d i) → digits_of w a b ≡ digits_of w c d
 digits_of-same w a b c d h =
-    digits_of-places w a b (digits_of w c d) Zero (length-digits_of w c d)
+    digits_of-positions w a b (digits_of w c d) Zero (length-digits_of w c d)
     (λ i below. get_or-digits_of w c d i Zero below ∙ sym (h i below))
 
 pub digits_of-mask : (w a b : ℕ) → digits_of w (bit_and a (2 ^ w - 1)) (bit_and b (2 ^ w - 1)) ≡ digits_of w a b
 digits_of-mask w a b =
     digits_of-same w _ _ _ _ (λ i below. simp (bit_at_and, bit_at_ones) (rw (min_one a i, min_one b i) refl))
 
--- The same digit at each place
+-- The same digit at each position
 pub digits_of-filled : (w m n : ℕ) (d : Digit) → ((i : ℕ) → i < w → digit_at m n i ≡ d) → digits_of w m n ≡ replicate w d
 digits_of-filled w m n d h =
-    digits_of-places w m n (replicate w d) d (length-replicate w d) (λ i below. get_or-replicate w i d d below ∙ sym (h i below))
+    digits_of-positions w m n (replicate w d) d (length-replicate w d) (λ i below. get_or-replicate w i d d below ∙ sym (h i below))
 
 pub digits_of-zeros : (w : ℕ) → digits_of w 0 0 ≡ replicate w Zero
 digits_of-zeros w = digits_of-filled w 0 0 Zero (λ i below. rw bit_at-zero refl)

@@ -1,4 +1,4 @@
--- How a test of the digits of vectors follows from a plane that marks the places where it fails.
+-- How a test of the digits of vectors follows from a plane that marks the positions where it fails.
 use Rattle.std.proofs.Common.{◌≡◌, ℕ, zero, suc, ◌+◌, ◌-◌, ◌*◌, ◌/◌, ◌%◌, ◌^◌, ◌<◌, max, eqb, refl, ap, arith, ◌∙◌, sym, Bool, true, false, ◌&&◌, ◌||◌, not, cond, rules}
 use Rattle.std.specs.Prelude.{bit_or, bit_xor, count_ones}
 use Rattle.std.specs.Int.Bits.{xor_self, xor_zero_l, xor_zero_r, xor_assoc}
@@ -12,7 +12,7 @@ use Rattle.std.proofs.lemmas.Bool.Decides.{nat_tests}
 use Rattle.vh_logic.specs.declared.digits.Digit.{Digit}
 use Rattle.vh_logic.specs.declared.digits.Digit.TheVariants.{Zero, One, X}
 use Rattle.vh_logic.specs.Digit.{digit_and, digit_or, digit_xor, is_one, is_zero}
-use Rattle.vh_logic.specs.Vector.{all_places}
+use Rattle.vh_logic.specs.Vector.{all_positions}
 use Rattle.vh_logic.specs.Reduce.{reduced, truth_of}
 use Rattle.vh_logic.specs.Planes.{digit_of, digits_of}
 use Rattle.vh_logic.specs.PlanesBack.{half_below, by_bit}
@@ -48,14 +48,14 @@ list_any-digits_of f (suc w) a b m below h =
     not_halves : (m : ℕ) → (not (eqb (m % 2) 0) || not (eqb (m / 2) 0)) ≡ not (eqb m 0)
     not_halves m = grind (arith, nat_tests)
 
-pub all_places-digits_of : (f : Digit → Digit → Bool) (w a b c d m : ℕ) → m < 2 ^ w
+pub all_positions-digits_of : (f : Digit → Digit → Bool) (w a b c d m : ℕ) → m < 2 ^ w
     → ((i : ℕ) → i < w → f (digit_at a b i) (digit_at c d i) ≡ eqb (bit_at m i) 0)
-    → all_places f (digits_of w a b) (digits_of w c d) ≡ eqb m 0
-unfolding digits_of all_places
-all_places-digits_of f zero a b c d m below h = let e : 0 ≡ m = omega arith in ap (λ n. eqb n 0) e
-all_places-digits_of f (suc w) a b c d m below h =
+    → all_positions f (digits_of w a b) (digits_of w c d) ≡ eqb m 0
+unfolding digits_of all_positions
+all_positions-digits_of f zero a b c d m below h = let e : 0 ≡ m = omega arith in ap (λ n. eqb n 0) e
+all_positions-digits_of f (suc w) a b c d m below h =
     let first = rw (digit_at-zero a b, digit_at-zero c d, bit_at_lowest m) at (h 0 (omega arith)) in
-    let rest = all_places-digits_of f w (a / 2) (b / 2) (c / 2) (d / 2) (m / 2) (half_below w m below)
+    let rest = all_positions-digits_of f w (a / 2) (b / 2) (c / 2) (d / 2) (m / 2) (half_below w m below)
     (λ i within. rw (digit_at-suc a b i, digit_at-suc c d i, bit_at-suc m i) at (h (suc i) (omega arith))) in
     rw (first, rest) (eqb-halves m)
 

@@ -36,7 +36,7 @@ abbrev pub test_digit : Bool → Digit
 test_digit true = One
 test_digit false = Zero
 
--- `~`: 0 and 1 change places, all else is x (5.1.10)
+-- `~`: 0 and 1 change positions, all else is x (5.1.10)
 abbrev pub digit_not : Digit → Digit
 digit_not Zero = One
 digit_not One = Zero
@@ -69,7 +69,7 @@ digit_xor _ _ = X
 abbrev pub digit_xnor : Digit → Digit → Digit
 digit_xnor d e = digit_not (digit_xor d e)
 
--- What two branches of `?:` under an unknown condition make of a place: 0 or 1 where both have it, else x (5.1.13)
+-- What two branches of `?:` under an unknown condition make of a position: 0 or 1 where both have it, else x (5.1.13)
 abbrev pub digit_merge : Digit → Digit → Digit
 digit_merge Zero Zero = Zero
 digit_merge One One = One

@@ -8,7 +8,7 @@ use Rattle.vh_logic.specs.declared.digits.Digit.TheVariants.{Zero, One, X, Z}
 use Rattle.vh_logic.specs.Digit.{is_known}
 use Rattle.vh_logic.specs.Vector.{Vector, width_of}
 
--- What a known digit counts at the lowest place (IEEE 1364-2005, 4.3)
+-- What a known digit counts at the lowest position (IEEE 1364-2005, 4.3)
 abbrev pub digit_value : Digit → ℕ
 digit_value Zero = 0
 digit_value One = 1

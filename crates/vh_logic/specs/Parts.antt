@@ -8,11 +8,11 @@ use Rattle.vh_logic.specs.Vector.{Vector, width_of, highest}
 abbrev pub concatenation : Vector → Vector → Vector
 concatenation high low = record { digits = low.digits ++ high.digits; signed = false }
 
--- The part of `w` digits from place `low` on (5.2.1)
+-- The part of `w` digits from position `low` on (5.2.1)
 abbrev pub part_of : Vector → ℕ → ℕ → Vector
 part_of a low w = record { digits = take w (drop low a.digits); signed = false }
 
--- A vector with the digits from place `low` on replaced by those of `part` (5.2.1)
+-- A vector with the digits from position `low` on replaced by those of `part` (5.2.1)
 abbrev pub replaced : Vector → ℕ → Vector → Vector
 replaced a low part =
     record { digits = take low a.digits ++ (part.digits ++ drop (low + width_of part) a.digits); signed = a.signed }

@@ -5,22 +5,22 @@ use Rattle.vh_logic.specs.declared.digits.Digit.TheVariants.{Zero, X}
 use Rattle.vh_logic.specs.Vector.{Vector, highest}
 use Rattle.vh_logic.specs.Number.{known_number}
 
--- The digits moved up by n places, with zeros below (IEEE 1364-2005, 5.1.12)
+-- The digits moved up by n positions, with zeros below (IEEE 1364-2005, 5.1.12)
 abbrev pub moved_up : List Digit → ℕ → List Digit
 moved_up ds n = take (length ds) (replicate n Zero ++ ds)
 
--- The digits moved down by n places, with `fill` above (5.1.12)
+-- The digits moved down by n positions, with `fill` above (5.1.12)
 abbrev pub moved_down : Digit → List Digit → ℕ → List Digit
 moved_down fill ds n = take (length ds) (drop n ds ++ replicate (length ds) fill)
 
--- The digits moved by a number of places, all x where that number is not known (5.1.12)
+-- The digits moved by a number of positions, all x where that number is not known (5.1.12)
 abbrev pub moved_by : (List Digit → ℕ → List Digit) → List Digit → Option ℕ → List Digit
 moved_by move ds None = replicate (length ds) X
 moved_by move ds (Some n) = move ds n
 
--- A vector whose digits are moved by a number of places (5.1.12)
+-- A vector whose digits are moved by a number of positions (5.1.12)
 abbrev pub moved : (List Digit → ℕ → List Digit) → Vector → Option ℕ → Vector
-moved move a places = record { digits = moved_by move a.digits places; signed = a.signed }
+moved move a positions = record { digits = moved_by move a.digits positions; signed = a.signed }
 
 -- `a << b` and `a <<< b` (5.1.12)
 abbrev pub shifted_left : Vector → Vector → Vector

@@ -5,7 +5,7 @@ ghost use Rattle.vh_logic.specs.Compare.{equality, case_equality, casez_equality
 use crate::digits::{Digit, from_test};
 use crate::vector::Vec4;
 
-/// `a == b`: 0 where some place has 0 against 1, else x where a digit is x or z, else 1
+/// `a == b`: 0 where some position has 0 against 1, else x where a digit is x or z, else 1
 /// (IEEE 1364-2005, 5.1.8).
 pub fn equal(a: &Vec4, b: &Vec4) -> Digit
     requires { width_of a.now ≡ width_of b.now }
@@ -21,7 +21,7 @@ pub fn equal(a: &Vec4, b: &Vec4) -> Digit
     }
 }
 
-/// `a === b`: 1 where each place has the same digit, else 0 (IEEE 1364-2005, 5.1.8).
+/// `a === b`: 1 where each position has the same digit, else 0 (IEEE 1364-2005, 5.1.8).
 pub fn case_equal(a: &Vec4, b: &Vec4) -> Digit
     requires { width_of a.now ≡ width_of b.now }
     ensures { result ≡ case_equality a.now b.now }
@@ -30,7 +30,7 @@ pub fn case_equal(a: &Vec4, b: &Vec4) -> Digit
     from_test(differing == 0)
 }
 
-/// Whether `casez` takes `b` for `a`: 1 where each place has the same digit, or a z on either
+/// Whether `casez` takes `b` for `a`: 1 where each position has the same digit, or a z on either
 /// side, else 0 (IEEE 1364-2005, 9.5.1).
 pub fn casez_equal(a: &Vec4, b: &Vec4) -> Digit
     requires { width_of a.now ≡ width_of b.now }
@@ -41,7 +41,7 @@ pub fn casez_equal(a: &Vec4, b: &Vec4) -> Digit
     from_test((differing | ignored) ^ ignored == 0)
 }
 
-/// Whether `casex` takes `b` for `a`: 1 where each place has the same digit, or an x or z on
+/// Whether `casex` takes `b` for `a`: 1 where each position has the same digit, or an x or z on
 /// either side, else 0 (IEEE 1364-2005, 9.5.1).
 pub fn casex_equal(a: &Vec4, b: &Vec4) -> Digit
     requires { width_of a.now ≡ width_of b.now }

@@ -1,7 +1,7 @@
 ghost use Rattle.std.specs.Prelude.{◌≡◌};
 ghost use Rattle.vh_logic.specs.Digit.{test_digit};
 
-/// One place of a vector (IEEE 1364-2005, 4.1).
+/// One position of a vector (IEEE 1364-2005, 4.1).
 #[derive(Clone, Copy, Debug, PartialEq, Eq)]
 pub enum Digit {
     /// 0, false.

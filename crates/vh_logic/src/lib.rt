@@ -9,7 +9,7 @@
 //! width. That widths agree, or that a part is inside, is the caller's condition. Nothing here
 //! takes memory or refuses.
 //!
-//! The greatest width is written in one place, as [`MAX_WIDTH`], [`Plane`] and [`NATURAL_WIDTHS`].
+//! The greatest width is written in one position, as [`MAX_WIDTH`], [`Plane`] and [`NATURAL_WIDTHS`].
 //! All else here and in the crates above is over these three.
 //!
 //! It stands on std alone.

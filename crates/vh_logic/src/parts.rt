@@ -19,7 +19,7 @@ pub fn concat(high: &Vec4, low: &Vec4) -> Vec4
     }
 }
 
-/// The `width` digits of `a` from place `low` on, unsigned (IEEE 1364-2005, 5.2.1).
+/// The `width` digits of `a` from position `low` on, unsigned (IEEE 1364-2005, 5.2.1).
 pub fn select(a: &Vec4, low: u32, width: u32) -> Vec4
     requires least { 1 ≤ width }
     requires inside { low + width ≤ width_of a.now }
@@ -29,7 +29,7 @@ pub fn select(a: &Vec4, low: u32, width: u32) -> Vec4
     Vec4::from_planes(width, a.aval >> low, a.bval >> low, false)
 }
 
-/// `a` with its digits from place `low` on replaced by those of `part` (IEEE 1364-2005, 5.2.1).
+/// `a` with its digits from position `low` on replaced by those of `part` (IEEE 1364-2005, 5.2.1).
 pub fn replace(a: &Vec4, low: u32, part: &Vec4) -> Vec4
     requires { low + width_of part.now ≤ width_of a.now }
     ensures value { result ≡ replaced a.now low part.now }

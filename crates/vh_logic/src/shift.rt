@@ -60,9 +60,9 @@ pub fn sshr(a: &Vec4, b: &Vec4) -> Vec4
     if !a.signed {
         return shr(a, b);
     }
-    let places = b.aval.min(a.width as Plane - 1);
-    let aval = moved_down(a.aval, a.width, places);
-    let bval = moved_down(a.bval, a.width, places);
+    let positions = b.aval.min(a.width as Plane - 1);
+    let aval = moved_down(a.aval, a.width, positions);
+    let bval = moved_down(a.bval, a.width, positions);
     Vec4 {
         aval,
         bval,
@@ -71,20 +71,20 @@ pub fn sshr(a: &Vec4, b: &Vec4) -> Vec4
     }
 }
 
-// A plane moved down by some places, with its highest bit above.
-fn moved_down(plane: Plane, width: u32, places: Plane) -> Plane
+// A plane moved down by some positions, with its highest bit above.
+fn moved_down(plane: Plane, width: u32, positions: Plane) -> Plane
     requires least { 1 ≤ width }
     requires most { width ≤ MAX_WIDTH }
     requires fits { plane < 2 ^ width }
-    requires inside { places < width }
+    requires inside { positions < width }
     ensures fits { result < 2 ^ width }
     ensures bits { (i : ℕ) → i < width →
-        bit_at result i ≡ bit_at plane (min (i + places) (width - 1)) }
+        bit_at result i ≡ bit_at plane (min (i + positions) (width - 1)) }
 {
-    let moved = plane >> places;
+    let moved = plane >> positions;
     if plane >> (width - 1) == 1 {
         let all = mask(width);
-        moved | (all ^ (all >> places))
+        moved | (all ^ (all >> positions))
     } else {
         moved
     }

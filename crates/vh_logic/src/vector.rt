@@ -65,7 +65,7 @@ pub fn mask(width: u32) -> Plane
 }
 
 impl Vec4 {
-    /// The same digit at each place.
+    /// The same digit at each position.
     pub fn filled(width: u32, digit: Digit, signed: bool) -> Vec4
         requires low { 1 ≤ width }
         requires high { width ≤ MAX_WIDTH }
@@ -134,7 +134,7 @@ impl Vec4 {
         self.signed
     }
 
-    /// The digit at place `i`, of which 0 is the lowest.
+    /// The digit at position `i`, of which 0 is the lowest.
     pub fn digit(&self, i: u32) -> Digit
         requires { i < width_of self.now }
         ensures { slice_get self.now.digits i ≡ Some result }

@@ -1,4 +1,4 @@
--- What a statement is lowered to counts its labels, each of which goes on behind itself; so its code goes on at its own
+-- What a statement is lowered to counts its instructions, each of which goes on behind itself; so its code goes on at its own
 -- places.
 use Rattle.std.proofs.Common.{◌≡◌, ℕ, zero, suc, ◌+◌, ◌-◌, Bool, true, false, ◌&&◌, if◌then◌else◌, List, [], ◌∷◌, ◌++◌, length, Option, None, Some, Result, Ok, Err, refl}
 use Rattle.std.specs.Bool.{⊤}
@@ -30,7 +30,7 @@ use Rattle.vh_ast.specs.declared.stmt.LoopWord.{LoopWord}
 use Rattle.vh_ast.specs.declared.stmt.LoopWord.TheVariants as loops
 use Rattle.vh_ast.specs.declared.token.Id.{Id}
 use Rattle.vh_ast.specs.Expressions.{ExprTree, NameTree}
-use Rattle.vh_ast.specs.Statements.{DelayTree, EventTree, any_event, named_event, listed_events, LvTree, SetTree, SimpleTree, empty, assign, trigger, disable, force, release, task_call, system_call, LabelsTree, values, default, StmtTree, stmt, StmtFormTree, simple_stmt, delay_stmt, event_stmt, wait_stmt, if_stmt, case_stmt, for_stmt, loop_stmt, forever_stmt, block_stmt, ElseTree, no_else, else_stmt, Citems, no_citem, one_citem, Stmts, no_stmt, one_stmt}
+use Rattle.vh_ast.specs.Statements.{DelayTree, EventTree, any_event, named_event, listed_events, LvTree, SetTree, SimpleTree, empty, assign, trigger, disable, force, release, task_call, system_call, MatchedTree, values, default, StmtTree, stmt, StmtFormTree, simple_stmt, delay_stmt, event_stmt, wait_stmt, if_stmt, case_stmt, for_stmt, loop_stmt, forever_stmt, block_stmt, ElseTree, no_else, else_stmt, Citems, no_citem, one_citem, Stmts, no_stmt, one_stmt}
 use Rattle.vh_bind.specs.declared.scope.Mode.TheVariants as mode
 use Rattle.vh_bind.specs.Constants.{bound}
 use Rattle.vh_bind.specs.Steps.{Fault, Nodes, Step}
@@ -45,17 +45,17 @@ use Rattle.vh_lower_flow.specs.declared.code_kind.CodeKind.TheVariants as of
 use Rattle.vh_lower_flow.specs.declared.flow.Gate.{Gate}
 use Rattle.vh_lower_flow.specs.declared.flow.Gate.TheVariants as gate
 use Rattle.vh_lower_flow.specs.Trees.{FlowTree, ItemTree, flows, case_items}
-use Rattle.vh_lower_flow.specs.Places.{is_closed, is_plain, IsMeasured, AllMeasured, ItemsMeasured}
-use Rattle.vh_lower_flow.proofs.PlacesLemmas.{code-closed}
+use Rattle.vh_lower_flow.specs.Positions.{is_closed, is_plain, IsMeasured, AllMeasured, ItemsMeasured}
+use Rattle.vh_lower_flow.proofs.PositionsLemmas.{code-closed}
 use Rattle.vh_lower.specs.declared.heads.ForHead.{ForHead}
-use Rattle.vh_lower.specs.declared.heads.Front.{Front}
+use Rattle.vh_lower.specs.declared.heads.Timing.{Timing}
 use Rattle.vh_lower.specs.declared.heads.Head.{Head}
-use Rattle.vh_lower.specs.Labels.{label, further, from_first, labels, in_row, nothing, gated, gated_further, again, delayed, behind_label}
-use Rattle.vh_lower.specs.Labels as rows
+use Rattle.vh_lower.specs.Instructions.{instruction, further, from_first, instructions, in_row, nothing, gated, gated_further, again, delayed, behind_operations}
+use Rattle.vh_lower.specs.Instructions as rows
 use Rattle.vh_lower.specs.declared.fault.LowerFault.{LowerFault}
 use Rattle.vh_lower.specs.Making.{Added, Making, Makes, and_then, performed, called_in, calls_between, with_stmt}
-use Rattle.vh_lower.specs.Statements.{Cases, Calling, value_of, targets_of, delay_of, output_of, set_parts, set_of, delayed_parts, scheduled_parts, scheduled_later, assign_labels, object_of, whole_object, task_of, force_kinds, release_kinds, with_input, with_output, with_argument, with_arguments, no_call, task_labels, arguments_of_show, show_labels, ending_labels, other_labels, system_labels, simple_kind, simple_labels, is_null, simple_flow, values_of, or_nothing, case_flow, while_flow, repeat_flow, loop_flow, for_flow, for_turns, joined, named_block, block_number, block_scope, block_flow, inside_of, headed, delay_front, wait_front, event_front, waited_terms, for_head, behind_front, event_flow, item_with, if_kind, loop_kind, no_cases, stmt_flow, form_flow, else_flow, stmts_flow, items_flow, lowered}
-use Rattle.vh_lower.specs.Processes.{plain_labels, plain_code, initial_labels, initial_code, drive_at, drive_behind, drive_labels, drive_code}
+use Rattle.vh_lower.specs.Statements.{Cases, Calling, value_of, targets_of, delay_of, output_of, set_parts, set_of, delayed_parts, scheduled_parts, scheduled_later, assign_operations, object_of, whole_object, task_of, force_kinds, release_kinds, with_input, with_output, with_argument, with_arguments, no_call, task_operations, arguments_of_show, show_operations, ending_operations, other_operations, system_operations, simple_kind, simple_operations, is_null, simple_flow, values_of, or_nothing, case_flow, while_flow, repeat_flow, loop_flow, for_flow, for_turns, joined, named_block, block_number, block_scope, block_flow, inside_of, headed, delay_timing, wait_timing, event_timing, waited_terms, for_head, behind_timing, event_flow, item_with, if_kind, loop_kind, no_cases, stmt_flow, form_flow, else_flow, stmts_flow, items_flow, lowered}
+use Rattle.vh_lower.specs.Processes.{plain_instructions, plain_code, initial_operations, initial_code, drive_at, drive_behind, drive_operations, drive_code}
 
 -- What holds of what a step gives.
 abbrev Outcome : Type 0 → Type 0
@@ -94,7 +94,7 @@ second-of : (a b : Bool) → (a && b) ≡ true → b ≡ true
 second-of true b h = h
 second-of false b h = cc
 
--- Labels that go on behind themselves.
+-- Matched that go on behind themselves.
 abbrev Plain : List Operation → Type 0
 Plain os = list_all is_plain os ≡ true
 
@@ -106,11 +106,11 @@ plain-both (o ∷ os) ps h k =
 plain-push : (os : List Operation) (o : Operation) → Plain os → is_plain o ≡ true → Plain (os ++ o ∷ [])
 plain-push os o h k = plain-both os (o ∷ []) h (both k refl)
 
--- A label behind some, and one behind these and others.
-two-plain : (front behind : List Operation) (first last : Operation) → Plain front → Plain behind → is_plain first ≡ true
-    → is_plain last ≡ true → Plain (rows.with_label (rows.with_label front first ++ behind) last)
-two-plain front behind first last h k l m =
-    plain-push (rows.with_label front first ++ behind) last (plain-both (rows.with_label front first) behind (plain-push front first h l) k) m
+-- An instruction behind some, and one behind these and others.
+two-plain : (before behind : List Operation) (first last : Operation) → Plain before → Plain behind → is_plain first ≡ true
+    → is_plain last ≡ true → Plain (rows.with_operation (rows.with_operation before first ++ behind) last)
+two-plain before behind first last h k l m =
+    plain-push (rows.with_operation before first ++ behind) last (plain-both (rows.with_operation before first) behind (plain-push before first h l) k) m
 
 -- The calls that expressions make: a begin, an end, or both.
 one-plain : (b : Bool) (o : Operation) → is_plain o ≡ true → Plain (if b then o ∷ [] else [])
@@ -128,7 +128,7 @@ calls-in-plain w ns e (kind.Logic first rest) = refl
 calls-in-plain w ns e (kind.Choice condition a b) = refl
 calls-in-plain w ns e (kind.Join first rest) = refl
 calls-in-plain w ns e (kind.Repeat count part) = refl
-calls-in-plain w ns e (kind.Marked part signed) = refl
+calls-in-plain w ns e (kind.WithSign part signed) = refl
 calls-in-plain w ns e (kind.Time unit) = refl
 calls-in-plain w ns e (kind.Call function result arguments) =
     let all = arguments_of w function in
@@ -197,7 +197,7 @@ later-plain w lv d value a =
     next Behind Plain (value_of w x.1 value c) _ (value-plain w x.1 value c hx) (λ v e hv. plain-push v.1 _ hv refl)))
 
 assign-plain : (w : Surroundings) (lv : LvTree) (word : AssignWord) (d : Option DelayTree) (value : ExprTree) (a : Added)
-    → Holds Plain (assign_labels w lv word d value a)
+    → Holds Plain (assign_operations w lv word d value a)
 assign-plain w lv assigns.Blocking None value a = set-plain w lv value a
 assign-plain w lv assigns.Blocking (Some d) value a = delayed-plain w lv d value a
 assign-plain w lv assigns.Nonblocking None value a = scheduled-plain w lv value a
@@ -205,12 +205,12 @@ assign-plain w lv assigns.Nonblocking (Some d) value a = later-plain w lv d valu
 
 -- Calls of tasks.
 abbrev CallPlain : Calling → Type 0
-CallPlain c = Plain c.front × Plain c.behind
+CallPlain c = Plain c.before × Plain c.behind
 
 input-plain : (w : Surroundings) (c : Calling) (variable : ℕ) (e : ExprTree) (a : Added) → CallPlain c
     → Holds CallPlain (with_input w c variable e a)
 input-plain w c variable e a h =
-    next Behind CallPlain (value_of w c.front e a) _ (value-plain w c.front e a h.0) (λ v b hv. (hv, h.1))
+    next Behind CallPlain (value_of w c.before e a) _ (value-plain w c.before e a h.0) (λ v b hv. (hv, h.1))
 
 call-output-plain : (w : Surroundings) (c : Calling) (variable : ℕ) (e : ExprTree) (a : Added) → CallPlain c
     → Holds CallPlain (with_output w c variable e a)
@@ -232,36 +232,36 @@ arguments-plain w c (b ∷ bs) (e ∷ es) a h =
     next CallPlain CallPlain (with_argument w c b.direction b.variable e a) _ (argument-plain w c b.direction b.variable e a h)
     (λ d x hd. arguments-plain w d bs es x hd)
 
-task-plain : (w : Surroundings) (n : NameTree) (es : List ExprTree) (a : Added) → Holds Plain (task_labels w n es a)
+task-plain : (w : Surroundings) (n : NameTree) (es : List ExprTree) (a : Added) → Holds Plain (task_operations w n es a)
 task-plain w n es a =
     next Any Plain (task_of w n (length es) a) _ (any (task_of w n (length es) a)) (λ t b ht.
     next CallPlain Plain (with_arguments w no_call (arguments_of w t) es b) _ (arguments-plain w no_call (arguments_of w t) es b (refl, refl))
-    (λ c x hc. two-plain c.front c.behind (op.Enter t c.inputs) (op.Leave (record { outputs = c.outputs; result = None })) hc.0 hc.1 refl refl))
+    (λ c x hc. two-plain c.before c.behind (op.Enter t c.inputs) (op.Leave (record { outputs = c.outputs; result = None })) hc.0 hc.1 refl refl))
 
 -- System tasks.
 shown-plain : (w : Surroundings) (place : Place) (es : List (Option ExprTree)) (task : ShowTask) (a : Added)
-    → Holds Plain (show_labels w place es task a)
+    → Holds Plain (show_operations w place es task a)
 shown-plain w place es task a =
     chosen Plain (arguments_fit 0 es) _ _ a
     (next Behind Plain (arguments_of_show w [] es a) _ (performed-plain w [] (arguments_bound w.scope 0 [] es) a refl)
     (λ v b hv. plain-push v.1 (op.Single (single.Show (length b.shows))) hv refl))
     tt
 
-ending-plain : (place : Place) (es : List (Option ExprTree)) (s : Single) (a : Added) → Holds Plain (ending_labels place es s a)
+ending-plain : (place : Place) (es : List (Option ExprTree)) (s : Single) (a : Added) → Holds Plain (ending_operations place es s a)
 ending-plain place es s a = chosen Plain (takes_number es) _ _ a refl tt
 
-other-plain : (id : Id) (es : List (Option ExprTree)) (a : Added) → Holds Plain (other_labels id es a)
+other-plain : (id : Id) (es : List (Option ExprTree)) (a : Added) → Holds Plain (other_operations id es a)
 other-plain id es a =
     chosen Plain (bytes_eq id.name (codes "$finish")) _ _ a (ending-plain id.place es single.Finish a)
     (chosen Plain (bytes_eq id.name (codes "$stop")) _ _ a (ending-plain id.place es single.Stop a) tt)
 
 system-plain : (w : Surroundings) (id : Id) (es : List (Option ExprTree)) (task : Option ShowTask) (a : Added)
-    → Holds Plain (system_labels w id es task a)
+    → Holds Plain (system_operations w id es task a)
 system-plain w id es None a = other-plain id es a
 system-plain w id es (Some task) a = shown-plain w id.place es task a
 
 -- A statement in which none stands.
-simple-plain : (w : Surroundings) (s : SimpleTree) (a : Added) → Holds Plain (simple_labels w s a)
+simple-plain : (w : Surroundings) (s : SimpleTree) (a : Added) → Holds Plain (simple_operations w s a)
 simple-plain w empty a = refl
 simple-plain w (assign lv word delay value) a = assign-plain w lv word delay value a
 simple-plain w (trigger n) a =
@@ -276,7 +276,7 @@ simple-plain w (release word lv) a =
 simple-plain w (task_call n es) a = task-plain w n es a
 simple-plain w (system_call id es) a = system-plain w id es (show_task id.name) a
 
--- Trees that count their labels, in a row.
+-- Trees that count their instructions, in a row.
 abbrev Rows : List FlowTree → Type 0
 Rows fs = AllMeasured (flows fs)
 
@@ -303,11 +303,11 @@ first-measured n [] h = tt
 first-measured n (o ∷ os) h =
     ((refl, first-of (is_plain o) (list_all is_plain os) h), further-measured n os (second-of (is_plain o) (list_all is_plain os) h))
 
-labels-measured : (n : ℕ) (os : List Operation) → Plain os → IsMeasured (labels n os)
-labels-measured n os h = row-measured (from_first n os) (first-measured n os h)
+instructions-measured : (n : ℕ) (os : List Operation) → Plain os → IsMeasured (instructions n os)
+instructions-measured n os h = row-measured (from_first n os) (first-measured n os h)
 
-behind-measured : (n : ℕ) (os : List Operation) (f : FlowTree) → Plain os → IsMeasured f → IsMeasured (behind_label n os f)
-behind-measured n os f h k = (refl, (labels-measured n os h, (k, tt)))
+behind-measured : (n : ℕ) (os : List Operation) (f : FlowTree) → Plain os → IsMeasured f → IsMeasured (behind_operations n os f)
+behind-measured n os f h k = (refl, (instructions-measured n os h, (k, tt)))
 
 gated-measured : (n : ℕ) (calls : List Operation) (g : Gate) (a b : FlowTree) → Plain calls → IsMeasured a → IsMeasured b
     → IsMeasured (gated n calls g a b)
@@ -325,8 +325,8 @@ again-measured n calls g body h k = (refl, row-measured _ (rows-both body (furth
 record HeadPlain (h : Head) : Type 0 where
   calls : Plain h.calls
 
-record FrontPlain (p : Front) : Type 0 where
-  labels : Plain p.labels
+record FrontPlain (p : Timing) : Type 0 where
+  instructions : Plain p.instructions
 
 record ForPlain (h : ForHead) : Type 0 where
   start : Plain h.start
@@ -338,21 +338,21 @@ head-plain kind w place e a =
     let b = with_stmt kind w place a in
     next Behind HeadPlain (value_of w [] e b) _ (value-plain w [] e b refl) (λ v c hv. record { calls = hv })
 
-delay-front-plain : (w : Surroundings) (place : Place) (d : DelayTree) (a : Added) → Holds FrontPlain (delay_front w place d a)
-delay-front-plain w place d a =
+delay-timing-plain : (w : Surroundings) (place : Place) (d : DelayTree) (a : Added) → Holds FrontPlain (delay_timing w place d a)
+delay-timing-plain w place d a =
     let b = with_stmt of_kind.DelayControl w place a in
     next Behind FrontPlain (delay_of w [] d b) _ (delay-plain w [] d b refl)
-    (λ x c hx. record { labels = plain-push x.1 (op.Pause (pause.Wait x.0)) hx refl })
+    (λ x c hx. record { instructions = plain-push x.1 (op.Pause (pause.Wait x.0)) hx refl })
 
-wait-front-plain : (w : Surroundings) (place : Place) (e : ExprTree) (a : Added) → Holds FrontPlain (wait_front w place e a)
-wait-front-plain w place e a =
+wait-timing-plain : (w : Surroundings) (place : Place) (e : ExprTree) (a : Added) → Holds FrontPlain (wait_timing w place e a)
+wait-timing-plain w place e a =
     next HeadPlain FrontPlain (headed of_kind.Wait w place e a) _ (head-plain of_kind.Wait w place e a)
-    (λ x c hx. record { labels = plain-push x.calls (op.Pause (pause.WaitFor x.test (length c.waits))) hx.calls refl })
+    (λ x c hx. record { instructions = plain-push x.calls (op.Pause (pause.WaitFor x.test (length c.waits))) hx.calls refl })
 
-event-front-plain : (w : Surroundings) (place : Place) (e : EventTree) (a : Added) → Holds FrontPlain (event_front w place e a)
-event-front-plain w place e a =
+event-timing-plain : (w : Surroundings) (place : Place) (e : EventTree) (a : Added) → Holds FrontPlain (event_timing w place e a)
+event-timing-plain w place e a =
     let b = with_stmt of_kind.EventControl w place a in
-    next Any FrontPlain (waited_terms w e b) _ (any (waited_terms w e b)) (λ ts c hts. record { labels = refl })
+    next Any FrontPlain (waited_terms w e b) _ (any (waited_terms w e b)) (λ ts c hts. record { instructions = refl })
 
 for-plain : (w : Surroundings) (place : Place) (start : SetTree) (e : ExprTree) (step : SetTree) (a : Added)
     → Holds ForPlain (for_head w place start e step a)
@@ -383,7 +383,7 @@ for-measured h body p m =
     let all = again-measured h.number h.calls (gate.Test h.test) (body ∷ further h.number h.step) p.calls
     (m, further-measured h.number h.step p.step) in
     let test = gated-further-measured h.number h.calls (gate.Test h.test) turns nothing p.calls all nothing-measured in
-    (refl, (labels-measured h.number h.start p.start, (test, tt)))
+    (refl, (instructions-measured h.number h.start p.start, (test, tt)))
 
 joined-measured : (word : BlockWord) (n : ℕ) (fs : List FlowTree) → Rows fs → IsMeasured (joined word n fs)
 joined-measured blocks.Begin n fs h = row-measured fs h
@@ -397,7 +397,7 @@ simple-measured : (w : Surroundings) (place : Place) (s : SimpleTree) (a : Added
 simple-measured w place s a =
     let b = with_stmt (simple_kind s) w place a in
     chosen IsMeasured (is_null s) _ _ a nothing-measured
-    (next Plain IsMeasured (simple_labels w s b) _ (simple-plain w s b) (λ os c hos. labels-measured (length a.stmts) os hos))
+    (next Plain IsMeasured (simple_operations w s b) _ (simple-plain w s b) (λ os c hos. instructions-measured (length a.stmts) os hos))
 
 -- A `case` so far.
 record CasesMeasured (c : Cases) : Type 0 where
@@ -425,7 +425,7 @@ values-plain w ids calls [] a h = h
 values-plain w ids calls (e ∷ es) a h =
     next Behind Behind (value_of w calls e a) _ (value-plain w calls e a h) (λ v b hv. values-plain w (ids ++ v.0 ∷ []) v.1 es b hv)
 
-item-measured : (w : Surroundings) (c : Cases) (all : LabelsTree) (body : Making FlowTree) (a : Added) → CasesMeasured c
+item-measured : (w : Surroundings) (c : Cases) (all : MatchedTree) (body : Making FlowTree) (a : Added) → CasesMeasured c
     → ((b : Added) → Holds IsMeasured (body b)) → Holds CasesMeasured (item_with w c all body a)
 item-measured w c (values es) body a m inside =
     next Behind CasesMeasured (values_of w [] c.calls es a) _ (values-plain w [] c.calls es a m.calls) (λ v b hv.
@@ -441,12 +441,12 @@ item-measured w c default body a m inside =
       default = rows-push c.default f m.default hf;
     })
 
-behind-front-measured : (w : Surroundings) (p : Making Front) (body : Making FlowTree) (a : Added) → Holds FrontPlain (p a)
+behind-timing-measured : (w : Surroundings) (p : Making Timing) (body : Making FlowTree) (a : Added) → Holds FrontPlain (p a)
     → ((b : Added) → Holds IsMeasured (body b))
-    → Holds IsMeasured (and_then (p a) (λ x. λ b. and_then (body b) (λ f. λ c. Ok (behind_front x f, c))))
-behind-front-measured w p body a h inside =
+    → Holds IsMeasured (and_then (p a) (λ x. λ b. and_then (body b) (λ f. λ c. Ok (behind_timing x f, c))))
+behind-timing-measured w p body a h inside =
     next FrontPlain IsMeasured (p a) _ h (λ x b hx.
-    next IsMeasured IsMeasured (body b) _ (inside b) (λ f c hf. behind-measured x.number x.labels f hx.labels hf))
+    next IsMeasured IsMeasured (body b) _ (inside b) (λ f c hf. behind-measured x.number x.instructions f hx.instructions hf))
 
 event-measured : (w : Surroundings) (place : Place) (e : EventTree) (body : Making FlowTree) (a : Added)
     → ((b : Added) → Holds IsMeasured (body b)) → Holds IsMeasured (event_flow w place e body a)
@@ -455,9 +455,9 @@ event-measured w place any_event body a inside =
     next IsMeasured IsMeasured (body b) _ (inside b) (λ f d hf.
     behind-measured (length a.stmts) (op.Pause (pause.Await (length d.waits)) ∷ []) f refl hf)
 event-measured w place (named_event n) body a inside =
-    behind-front-measured w (event_front w place (named_event n)) body a (event-front-plain w place (named_event n) a) inside
+    behind-timing-measured w (event_timing w place (named_event n)) body a (event-timing-plain w place (named_event n) a) inside
 event-measured w place (listed_events es) body a inside =
-    behind-front-measured w (event_front w place (listed_events es)) body a (event-front-plain w place (listed_events es) a) inside
+    behind-timing-measured w (event_timing w place (listed_events es)) body a (event-timing-plain w place (listed_events es) a) inside
 
 block-flow-measured : (w : Surroundings) (place : Place) (word : BlockWord) (id : Option Id) (all : Surroundings → Making (List FlowTree)) (a : Added)
     → ((u : Surroundings) (b : Added) → Holds Rows (all u b)) → Holds IsMeasured (block_flow w place word id all a)
@@ -474,10 +474,10 @@ mutual
   form-measured : (form : StmtFormTree) (w : Surroundings) (place : Place) (a : Added) → Holds IsMeasured (form_flow w place form a)
   form-measured (simple_stmt s) w place a = simple-measured w place s a
   form-measured (delay_stmt d body) w place a =
-      behind-front-measured w (delay_front w place d) (stmt_flow w body) a (delay-front-plain w place d a) (λ b. stmt-measured body w b)
+      behind-timing-measured w (delay_timing w place d) (stmt_flow w body) a (delay-timing-plain w place d a) (λ b. stmt-measured body w b)
   form-measured (event_stmt e body) w place a = event-measured w place e (stmt_flow w body) a (λ b. stmt-measured body w b)
   form-measured (wait_stmt e body) w place a =
-      behind-front-measured w (wait_front w place e) (stmt_flow w body) a (wait-front-plain w place e a) (λ b. stmt-measured body w b)
+      behind-timing-measured w (wait_timing w place e) (stmt_flow w body) a (wait-timing-plain w place e a) (λ b. stmt-measured body w b)
   form-measured (if_stmt e holds fails) w place a =
       next HeadPlain IsMeasured (headed (if_kind fails) w place e a) _ (head-plain (if_kind fails) w place e a) (λ h b hh.
       next IsMeasured IsMeasured (stmt_flow w holds b) _ (stmt-measured holds w b) (λ f c hf.
@@ -539,17 +539,17 @@ pub lowered-closed : (kind : CodeKind) (w : Surroundings) (s : StmtTree) (a : Ad
 lowered-closed kind w s a r b is = answered (lowered kind w s a) r b (statement-closed kind w s a) is
 
 -- The same of the codes that no statement makes.
-plain-measured : (os : List Operation) → Plain os → Rows (plain_labels os)
+plain-measured : (os : List Operation) → Plain os → Rows (plain_instructions os)
 plain-measured [] h = tt
 plain-measured (o ∷ os) h =
     ((refl, first-of (is_plain o) (list_all is_plain os) h), plain-measured os (second-of (is_plain o) (list_all is_plain os) h))
 
 plain-closed : (kind : CodeKind) (os : List Operation) → Plain os → ClosedCode (plain_code kind os)
-plain-closed kind os h = code-closed kind (in_row (plain_labels os)) (row-measured (plain_labels os) (plain-measured os h))
+plain-closed kind os h = code-closed kind (in_row (plain_instructions os)) (row-measured (plain_instructions os) (plain-measured os h))
 
 value-closed : (w : Surroundings) (o : ℕ) (e : ExprTree) (a : Added) → Holds ClosedCode (initial_code w o e a)
 value-closed w o e a =
-    next Plain ClosedCode (initial_labels w o e a) _
+    next Plain ClosedCode (initial_operations w o e a) _
     (next Behind Plain (value_of w [] e a) _ (value-plain w [] e a refl) (λ v b hv. plain-push v.1 _ hv refl))
     (λ os b hos. plain-closed of.Value os hos)
 
@@ -564,7 +564,7 @@ drive-behind-plain w drivers before delay e a h =
     (λ v c hv. plain-push v.1 (drive_at drivers v.0 delay (length c.waits)) hv refl)
 
 drive-plain : (w : Surroundings) (drivers : List ℕ) (d : Option DelayTree) (e : ExprTree) (a : Added)
-    → Holds Plain (drive_labels w drivers d e a)
+    → Holds Plain (drive_operations w drivers d e a)
 drive-plain w drivers None e a = drive-behind-plain w drivers [] None e a refl
 drive-plain w drivers (Some d) e a =
     next Behind Plain (delay_of w [] d a) _ (delay-plain w [] d a refl) (λ x b hx. drive-behind-plain w drivers x.1 (Some x.0) e b hx)
@@ -572,7 +572,7 @@ drive-plain w drivers (Some d) e a =
 assignment-closed : (w : Surroundings) (drivers : List ℕ) (d : Option DelayTree) (e : ExprTree) (a : Added)
     → Holds ClosedCode (drive_code w drivers d e a)
 assignment-closed w drivers d e a =
-    next Plain ClosedCode (drive_labels w drivers d e a) _ (drive-plain w drivers d e a) (λ os b hos. plain-closed of.Assign os hos)
+    next Plain ClosedCode (drive_operations w drivers d e a) _ (drive-plain w drivers d e a) (λ os b hos. plain-closed of.Assign os hos)
 
 pub drive-closed : (w : Surroundings) (drivers : List ℕ) (d : Option DelayTree) (e : ExprTree) (a : Added) (r : Result Code LowerFault)
     (b : Added) → Makes (drive_code w drivers d e a) r b → IfOk r ClosedCode

@@ -49,7 +49,7 @@ found (Ok (Some x)) = pure x
 abbrev pub looking : {A : Type 0} → (Nodes → Result (Option A) Fault) → Making A
 looking f = λ a. found (f a.exprs) a
 
--- What is added to the expressions, behind some labels: the calls of functions in what is added are labels too.
+-- What is added to the expressions, behind some instructions: the calls of functions in what is added are instructions too.
 abbrev pub with_exprs : Nodes → Added → Added
 with_exprs ns a = record a { exprs = ns }
 
@@ -92,8 +92,8 @@ abbrev pub reading_from : ℕ → Making ℕ
 reading_from from = λ a. with_wait (reads_of a.exprs (length a.exprs - from) from) a
 
 -- How many expressions there are.
-abbrev pub mark : Making ℕ
-mark = λ a. Ok (length a.exprs, a)
+abbrev pub exprs_so_far : Making ℕ
+exprs_so_far = λ a. Ok (length a.exprs, a)
 
 -- It is what a step answers, and what it leaves. (Want of memory is free.)
 abbrev pub Makes : {A : Type 0} → Result (A × Added) (Option Fault) → Result A LowerFault → Added → Type 0

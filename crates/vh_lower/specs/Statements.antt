@@ -1,5 +1,5 @@
 -- What each statement is lowered to, a row for each. Faults are found in the order of the text. (IEEE 1364-2005,
--- clause 9; the labels are own)
+-- clause 9; the instructions are own)
 use Rattle.std.specs.Prelude.{ℕ, List, [], ◌∷◌, ◌++◌, ◌==◌, ◌&&◌, length, Bool, true, false, if◌then◌else◌, Option, Some, None, Ok, Err, bytes_eq, codes}
 use Rattle.std.specs.Option.{option_and_then}
 use Rattle.vh_base.specs.declared.faults.DesignFault.{DesignFault}
@@ -46,7 +46,7 @@ use Rattle.vh_ast.specs.declared.stmt.ReleaseWord.{ReleaseWord}
 use Rattle.vh_ast.specs.declared.stmt.ReleaseWord.TheVariants as releases
 use Rattle.vh_ast.specs.declared.token.Id.{Id}
 use Rattle.vh_ast.specs.Expressions.{ExprTree, NameTree, start_of, SelTree, no_sel, index_sel, both_sel, part_sel}
-use Rattle.vh_ast.specs.Statements.{DelayTree, EventTree, any_event, named_event, listed_events, LvTree, LvPartTree, opened, target, closed, SetTree, SimpleTree, empty, assign, trigger, disable, force, release, task_call, system_call, LabelsTree, values, default, StmtTree, stmt, StmtFormTree, simple_stmt, delay_stmt, event_stmt, wait_stmt, if_stmt, case_stmt, for_stmt, loop_stmt, forever_stmt, block_stmt, ElseTree, no_else, else_stmt, Citems, no_citem, one_citem, Stmts, no_stmt, one_stmt}
+use Rattle.vh_ast.specs.Statements.{DelayTree, EventTree, any_event, named_event, listed_events, LvTree, LvPartTree, opened, target, closed, SetTree, SimpleTree, empty, assign, trigger, disable, force, release, task_call, system_call, MatchedTree, values, default, StmtTree, stmt, StmtFormTree, simple_stmt, delay_stmt, event_stmt, wait_stmt, if_stmt, case_stmt, for_stmt, loop_stmt, forever_stmt, block_stmt, ElseTree, no_else, else_stmt, Citems, no_citem, one_citem, Stmts, no_stmt, one_stmt}
 use Rattle.vh_bind.specs.declared.readable.Readable.{Readable}
 use Rattle.vh_bind.specs.declared.readable.Readable.TheVariants as read
 use Rattle.vh_bind.specs.declared.scope.Mode.TheVariants as mode
@@ -63,15 +63,15 @@ use Rattle.vh_bind_stmt.specs.Targets.{targets_bound, output_bound}
 use Rattle.vh_lower_flow.specs.declared.code_kind.CodeKind.{CodeKind}
 use Rattle.vh_lower_flow.specs.declared.flow.CaseHead.{CaseHead}
 use Rattle.vh_lower_flow.specs.declared.flow.Gate.{Gate}
-use Rattle.vh_lower_flow.specs.declared.flow.Mark.{Mark}
+use Rattle.vh_lower_flow.specs.declared.flow.Origin.{Origin}
 use Rattle.vh_lower_flow.specs.declared.flow.Gate.TheVariants as gate
 use Rattle.vh_lower_flow.specs.Trees.{FlowTree, ItemTree, case_items, case_of, block, fork, flows, sized}
 use Rattle.vh_lower_flow.specs.Laid.{code_of}
 use Rattle.vh_lower.specs.declared.heads.ForHead.{ForHead}
-use Rattle.vh_lower.specs.declared.heads.Front.{Front}
+use Rattle.vh_lower.specs.declared.heads.Timing.{Timing}
 use Rattle.vh_lower.specs.declared.heads.Head.{Head}
-use Rattle.vh_lower.specs.Labels.{marked, labels, in_row, nothing, further, from_first, gated, gated_further, again, is_empty, with_label, delayed, behind_label}
-use Rattle.vh_lower.specs.Making.{Making, ◌>>=◌, pure, refused, looking, found, performed, numbered, with_wait, with_show, reading_from, mark, scope_of}
+use Rattle.vh_lower.specs.Instructions.{origin_of, instructions, in_row, nothing, further, from_first, gated, gated_further, again, is_empty, with_operation, delayed, behind_operations}
+use Rattle.vh_lower.specs.Making.{Making, ◌>>=◌, pure, refused, looking, found, performed, numbered, with_wait, with_show, reading_from, exprs_so_far, scope_of}
 
 -- A value, and the targets of an assignment, with the calls that they make behind others.
 abbrev pub value_of : Surroundings → List Operation → ExprTree → Making (ℕ × List Operation)
@@ -86,9 +86,9 @@ delay_of w before d = performed w before (delay_bound w.scope d)
 abbrev pub output_of : Surroundings → List Operation → ExprTree → Making (List Selected × List Operation)
 output_of w before e = performed w before (output_bound w.scope e)
 
--- An assignment without a delay, as a row of labels.
+-- An assignment without a delay, as a row of instructions.
 abbrev pub set_parts : Surroundings → LvTree → ExprTree → Making (List Operation)
-set_parts w lv value = targets_of w [] lv >>= (λ t. value_of w t.1 value >>= (λ v. pure (with_label v.1 (op.Assign v.0 t.0))))
+set_parts w lv value = targets_of w [] lv >>= (λ t. value_of w t.1 value >>= (λ v. pure (with_operation v.1 (op.Assign v.0 t.0))))
 
 abbrev pub set_of : Surroundings → SetTree → Making (List Operation)
 set_of w set = set_parts w set.target set.value
@@ -105,19 +105,19 @@ schedule_at targets value delay = op.Schedule (record { targets = targets; value
 
 abbrev pub scheduled_parts : Surroundings → LvTree → ExprTree → Making (List Operation)
 scheduled_parts w lv value =
-    targets_of w [] lv >>= (λ t. value_of w t.1 value >>= (λ v. pure (with_label v.1 (schedule_at t.0 v.0 None))))
+    targets_of w [] lv >>= (λ t. value_of w t.1 value >>= (λ v. pure (with_operation v.1 (schedule_at t.0 v.0 None))))
 
 abbrev pub scheduled_later : Surroundings → LvTree → DelayTree → ExprTree → Making (List Operation)
 scheduled_later w lv d value =
     targets_of w [] lv >>= (λ t. delay_of w t.1 d >>= (λ x. value_of w x.1 value >>= (λ v.
-    pure (with_label v.1 (schedule_at t.0 v.0 (Some x.0))))))
+    pure (with_operation v.1 (schedule_at t.0 v.0 (Some x.0))))))
 
 -- An assignment, a row for each form. (9.2)
-abbrev pub assign_labels : Surroundings → LvTree → AssignWord → Option DelayTree → ExprTree → Making (List Operation)
-assign_labels w lv assigns.Blocking None value = set_parts w lv value
-assign_labels w lv assigns.Blocking (Some d) value = delayed_parts w lv d value
-assign_labels w lv assigns.Nonblocking None value = scheduled_parts w lv value
-assign_labels w lv assigns.Nonblocking (Some d) value = scheduled_later w lv d value
+abbrev pub assign_operations : Surroundings → LvTree → AssignWord → Option DelayTree → ExprTree → Making (List Operation)
+assign_operations w lv assigns.Blocking None value = set_parts w lv value
+assign_operations w lv assigns.Blocking (Some d) value = delayed_parts w lv d value
+assign_operations w lv assigns.Nonblocking None value = scheduled_parts w lv value
+assign_operations w lv assigns.Nonblocking (Some d) value = scheduled_later w lv d value
 
 -- The object that a name stands for, or else N1.
 abbrev pub meant_object : Place → Option ℕ → Outcome (Option ℕ)
@@ -204,17 +204,17 @@ abbrev pub task_of : Surroundings → NameTree → ℕ → Making ℕ
 task_of w n count =
     named_object w true n >>= tested w N1 (start_of n) is_task >>= task_counted w (start_of n) count
 
--- The call of a task so far: the labels before its begin and before its end, and what these write.
+-- The call of a task so far: the instructions before its begin and before its end, and what these write.
 pub record Calling : Type 0 where
-  pub front : List Operation
+  pub before : List Operation
   pub behind : List Operation
   pub inputs : List Input
   pub outputs : List Output
 
 abbrev pub with_input : Surroundings → Calling → ℕ → ExprTree → Making Calling
 with_input w c variable e =
-    value_of w c.front e >>= (λ v. pure (record c {
-      front = v.1;
+    value_of w c.before e >>= (λ v. pure (record c {
+      before = v.1;
       inputs = c.inputs ++ record { variable = variable; value = v.0 } ∷ [];
     }))
 
@@ -238,17 +238,17 @@ with_arguments w c (b ∷ bs) (e ∷ es) =
     with_argument w c b.direction b.variable e >>= (λ d. with_arguments w d bs es)
 
 abbrev pub no_call : Calling
-no_call = record { front = []; behind = []; inputs = []; outputs = [] }
+no_call = record { before = []; behind = []; inputs = []; outputs = [] }
 
--- Its labels: its begin, which writes the inputs, and its end, which writes the outputs. (10.2.2)
-abbrev pub call_labels : ℕ → Calling → List Operation
-call_labels task c =
-    with_label (with_label c.front (op.Enter task c.inputs) ++ c.behind)
+-- Its instructions: its begin, which writes the inputs, and its end, which writes the outputs. (10.2.2)
+abbrev pub call_operations : ℕ → Calling → List Operation
+call_operations task c =
+    with_operation (with_operation c.before (op.Enter task c.inputs) ++ c.behind)
     (op.Leave (record { outputs = c.outputs; result = None }))
 
-abbrev pub task_labels : Surroundings → NameTree → List ExprTree → Making (List Operation)
-task_labels w n es =
-    task_of w n (length es) >>= (λ t. with_arguments w no_call (arguments_of w t) es >>= (λ c. pure (call_labels t c)))
+abbrev pub task_operations : Surroundings → NameTree → List ExprTree → Making (List Operation)
+task_operations w n es =
+    task_of w n (length es) >>= (λ t. with_arguments w no_call (arguments_of w t) es >>= (λ c. pure (call_operations t c)))
 
 -- A system task: a display call, `$finish` or `$stop`; those of applications come with their table. (17.1 and 17.4)
 abbrev pub one_single : Single → Making (List Operation)
@@ -257,40 +257,40 @@ one_single s = pure (op.Single s ∷ [])
 abbrev pub arguments_of_show : Surroundings → List Operation → List (Option ExprTree) → Making (List ShowArg × List Operation)
 arguments_of_show w before es = performed w before (arguments_bound w.scope 0 [] es)
 
-abbrev pub show_labels : Surroundings → Place → List (Option ExprTree) → ShowTask → Making (List Operation)
-show_labels w place es task =
+abbrev pub show_operations : Surroundings → Place → List (Option ExprTree) → ShowTask → Making (List Operation)
+show_operations w place es task =
     if arguments_fit 0 es then
     arguments_of_show w [] es >>= (λ v.
     with_show (record { task = task; scope = scope_of w; unit = w.scope.unit; args = v.0 }) >>= (λ s.
-    pure (with_label v.1 (op.Single (single.Show s)))))
+    pure (with_operation v.1 (op.Single (single.Show s)))))
     else refused N10 place
 
-abbrev pub ending_labels : Place → List (Option ExprTree) → Single → Making (List Operation)
-ending_labels place es s = if takes_number es then one_single s else refused N10 place
+abbrev pub ending_operations : Place → List (Option ExprTree) → Single → Making (List Operation)
+ending_operations place es s = if takes_number es then one_single s else refused N10 place
 
-abbrev pub other_labels : Id → List (Option ExprTree) → Making (List Operation)
-other_labels id es =
-    if bytes_eq id.name (codes "$finish") then ending_labels id.place es single.Finish
-    else (if bytes_eq id.name (codes "$stop") then ending_labels id.place es single.Stop else refused N10 id.place)
+abbrev pub other_operations : Id → List (Option ExprTree) → Making (List Operation)
+other_operations id es =
+    if bytes_eq id.name (codes "$finish") then ending_operations id.place es single.Finish
+    else (if bytes_eq id.name (codes "$stop") then ending_operations id.place es single.Stop else refused N10 id.place)
 
-abbrev pub system_labels : Surroundings → Id → List (Option ExprTree) → Option ShowTask → Making (List Operation)
-system_labels w id es None = other_labels id es
-system_labels w id es (Some task) = show_labels w id.place es task
+abbrev pub system_operations : Surroundings → Id → List (Option ExprTree) → Option ShowTask → Making (List Operation)
+system_operations w id es None = other_operations id es
+system_operations w id es (Some task) = show_operations w id.place es task
 
 -- `->`, `disable`, and the statements of clause 9.3.
-abbrev pub trigger_labels : Surroundings → NameTree → Making (List Operation)
-trigger_labels w n = object_of w n is_event >>= (λ o. one_single (single.Trigger o))
+abbrev pub trigger_operations : Surroundings → NameTree → Making (List Operation)
+trigger_operations w n = object_of w n is_event >>= (λ o. one_single (single.Trigger o))
 
-abbrev pub disable_labels : Surroundings → NameTree → Making (List Operation)
-disable_labels w n = object_of w n is_disable_target >>= (λ o. one_single (single.Disable o))
+abbrev pub disable_operations : Surroundings → NameTree → Making (List Operation)
+disable_operations w n = object_of w n is_disable_target >>= (λ o. one_single (single.Disable o))
 
-abbrev pub force_labels : Surroundings → ForceWord → SetTree → Making (List Operation)
-force_labels w word set =
+abbrev pub force_operations : Surroundings → ForceWord → SetTree → Making (List Operation)
+force_operations w word set =
     whole_object w set.target (force_kinds word) >>= (λ o.
-    value_of w [] set.value >>= (λ v. pure (with_label v.1 (op.Single (force_single word o v.0)))))
+    value_of w [] set.value >>= (λ v. pure (with_operation v.1 (op.Single (force_single word o v.0)))))
 
-abbrev pub release_labels : Surroundings → ReleaseWord → LvTree → Making (List Operation)
-release_labels w word lv = whole_object w lv (release_kinds word) >>= (λ o. one_single (release_single word o))
+abbrev pub release_operations : Surroundings → ReleaseWord → LvTree → Making (List Operation)
+release_operations w word lv = whole_object w lv (release_kinds word) >>= (λ o. one_single (release_single word o))
 
 -- The null statement has no row.
 abbrev pub is_null : SimpleTree → Bool
@@ -303,7 +303,7 @@ is_null (release word lv) = false
 is_null (task_call n es) = false
 is_null (system_call id es) = false
 
--- A statement in which none stands: what it is, and its labels, a row for each.
+-- A statement in which none stands: what it is, and its instructions, a row for each.
 abbrev pub simple_kind : SimpleTree → StmtKind
 simple_kind empty = a.Assignment
 simple_kind (assign lv word delay value) = a.Assignment
@@ -314,22 +314,22 @@ simple_kind (release word lv) = release_stmt word
 simple_kind (task_call n es) = a.TaskCall
 simple_kind (system_call id es) = a.SysTaskCall
 
-abbrev pub simple_labels : Surroundings → SimpleTree → Making (List Operation)
-simple_labels w empty = pure []
-simple_labels w (assign lv word delay value) = assign_labels w lv word delay value
-simple_labels w (trigger n) = trigger_labels w n
-simple_labels w (disable n) = disable_labels w n
-simple_labels w (force word set) = force_labels w word set
-simple_labels w (release word lv) = release_labels w word lv
-simple_labels w (task_call n es) = task_labels w n es
-simple_labels w (system_call id es) = system_labels w id es (show_task id.name)
+abbrev pub simple_operations : Surroundings → SimpleTree → Making (List Operation)
+simple_operations w empty = pure []
+simple_operations w (assign lv word delay value) = assign_operations w lv word delay value
+simple_operations w (trigger n) = trigger_operations w n
+simple_operations w (disable n) = disable_operations w n
+simple_operations w (force word set) = force_operations w word set
+simple_operations w (release word lv) = release_operations w word lv
+simple_operations w (task_call n es) = task_operations w n es
+simple_operations w (system_call id es) = system_operations w id es (show_task id.name)
 
-abbrev pub numbered_labels : Surroundings → Place → SimpleTree → Making FlowTree
-numbered_labels w place s =
-    numbered (simple_kind s) w place >>= (λ n. simple_labels w s >>= (λ os. pure (labels n os)))
+abbrev pub numbered_instructions : Surroundings → Place → SimpleTree → Making FlowTree
+numbered_instructions w place s =
+    numbered (simple_kind s) w place >>= (λ n. simple_operations w s >>= (λ os. pure (instructions n os)))
 
 abbrev pub simple_flow : Surroundings → Place → SimpleTree → Making FlowTree
-simple_flow w place s = if is_null s then pure nothing else numbered_labels w place s
+simple_flow w place s = if is_null s then pure nothing else numbered_instructions w place s
 
 -- A block's own scope, which stands in the one around it. (9.8.3)
 abbrev pub inside : Surroundings → ℕ → Surroundings
@@ -388,12 +388,12 @@ with_default c body = record c { default = c.default ++ body ∷ [] }
 abbrev pub no_cases : List Operation → Cases
 no_cases calls = record { calls = calls; matched = []; items = []; default = [] }
 
-abbrev pub case_with : CaseHead → Mark → List ItemTree → FlowTree → FlowTree
+abbrev pub case_with : CaseHead → Origin → List ItemTree → FlowTree → FlowTree
 case_with h m items other = sized (case_of h m (case_items items) other)
 
 abbrev pub case_tree : ℕ → CaseHead → Cases → FlowTree
 case_tree n h c =
-    in_row (from_first n c.calls ++ case_with h (marked n (is_empty c.calls)) c.items (or_nothing c.default) ∷ [])
+    in_row (from_first n c.calls ++ case_with h (origin_of n (is_empty c.calls)) c.items (or_nothing c.default) ∷ [])
 
 abbrev pub case_flow : CaseWord → Head → Cases → Making FlowTree
 case_flow word h c = λ ad. Ok (case_tree h.number (case_head word h.test c.matched ad.exprs) c, ad)
@@ -420,7 +420,7 @@ for_turns n calls g step body = again n calls g (body ∷ further n step)
 
 abbrev pub for_flow : ForHead → FlowTree → FlowTree
 for_flow h body =
-    in_row (labels h.number h.start
+    in_row (instructions h.number h.start
     ∷ gated_further h.number h.calls (gate.Test h.test)
     (for_turns h.number h.calls (gate.Test h.test) h.step body) nothing ∷ [])
 
@@ -430,7 +430,7 @@ forever_flow n body = gated n [] gate.Turn (again n [] gate.Turn (body ∷ [])) 
 -- A block of some statements, a row for each word. (9.8)
 abbrev pub joined : BlockWord → ℕ → List FlowTree → FlowTree
 joined blocks.Begin n fs = in_row fs
-joined blocks.Fork n fs = sized (fork (marked n true) (flows fs))
+joined blocks.Fork n fs = sized (fork (origin_of n true) (flows fs))
 
 abbrev pub named_block : Option ℕ → FlowTree → FlowTree
 named_block None f = f
@@ -469,30 +469,30 @@ listed_terms s (listed_events es) = all_terms s [] es
 abbrev pub waited_terms : Surroundings → EventTree → Making (List Term)
 waited_terms w e = looking (λ ns. listed_terms (here w.scope ns) e)
 
--- A statement's number, with the test of it and the calls that this makes; with the labels that stand before the
+-- A statement's number, with the test of it and the calls that this makes; with the instructions that stand before the
 -- statement in it; and what a `for` has before its body. (9.6)
 abbrev pub headed : StmtKind → Surroundings → Place → ExprTree → Making Head
 headed kind w place e =
     numbered kind w place >>= (λ n. value_of w [] e >>= (λ c.
     pure (record { number = n; calls = c.1; test = c.0 })))
 
-abbrev pub front_of : ℕ → List Operation → Front
-front_of n os = record { number = n; labels = os }
+abbrev pub timing_of : ℕ → List Operation → Timing
+timing_of n os = record { number = n; instructions = os }
 
-abbrev pub delay_front : Surroundings → Place → DelayTree → Making Front
-delay_front w place d =
+abbrev pub delay_timing : Surroundings → Place → DelayTree → Making Timing
+delay_timing w place d =
     numbered a.DelayControl w place >>= (λ n. delay_of w [] d >>= (λ x.
-    pure (front_of n (with_label x.1 (op.Pause (pause.Wait x.0))))))
+    pure (timing_of n (with_operation x.1 (op.Pause (pause.Wait x.0))))))
 
-abbrev pub wait_front : Surroundings → Place → ExprTree → Making Front
-wait_front w place e =
-    mark >>= (λ from. headed a.Wait w place e >>= (λ h. reading_from from >>= (λ t.
-    pure (front_of h.number (with_label h.calls (op.Pause (pause.WaitFor h.test t)))))))
+abbrev pub wait_timing : Surroundings → Place → ExprTree → Making Timing
+wait_timing w place e =
+    exprs_so_far >>= (λ from. headed a.Wait w place e >>= (λ h. reading_from from >>= (λ t.
+    pure (timing_of h.number (with_operation h.calls (op.Pause (pause.WaitFor h.test t)))))))
 
-abbrev pub event_front : Surroundings → Place → EventTree → Making Front
-event_front w place e =
+abbrev pub event_timing : Surroundings → Place → EventTree → Making Timing
+event_timing w place e =
     numbered a.EventControl w place >>= (λ n. waited_terms w e >>= (λ ts. with_wait ts >>= (λ t.
-    pure (front_of n (op.Pause (pause.Await t) ∷ [])))))
+    pure (timing_of n (op.Pause (pause.Await t) ∷ [])))))
 
 abbrev pub for_head : Surroundings → Place → SetTree → ExprTree → SetTree → Making ForHead
 for_head w place start e step =
@@ -502,24 +502,24 @@ for_head w place start e step =
 abbrev pub if_flow : Head → FlowTree → FlowTree → FlowTree
 if_flow h holds fails = gated h.number h.calls (gate.Test h.test) holds fails
 
-abbrev pub behind_front : Front → FlowTree → FlowTree
-behind_front p body = behind_label p.number p.labels body
+abbrev pub behind_timing : Timing → FlowTree → FlowTree
+behind_timing p body = behind_operations p.number p.instructions body
 
 -- `@*` waits for what its statement reads; event controls in it add nothing to this. (9.7.5)
 abbrev pub any_flow : ℕ → ℕ → FlowTree → FlowTree
-any_flow n t body = behind_label n (op.Pause (pause.Await t) ∷ []) body
+any_flow n t body = behind_operations n (op.Pause (pause.Await t) ∷ []) body
 
 abbrev pub event_flow : Surroundings → Place → EventTree → Making FlowTree → Making FlowTree
 event_flow w place any_event body =
-    numbered a.EventControl w place >>= (λ n. mark >>= (λ from. body >>= (λ f. reading_from from >>= (λ t.
+    numbered a.EventControl w place >>= (λ n. exprs_so_far >>= (λ from. body >>= (λ f. reading_from from >>= (λ t.
     pure (any_flow n t f)))))
 event_flow w place (named_event n) body =
-    event_front w place (named_event n) >>= (λ p. body >>= (λ f. pure (behind_front p f)))
+    event_timing w place (named_event n) >>= (λ p. body >>= (λ f. pure (behind_timing p f)))
 event_flow w place (listed_events es) body =
-    event_front w place (listed_events es) >>= (λ p. body >>= (λ f. pure (behind_front p f)))
+    event_timing w place (listed_events es) >>= (λ p. body >>= (λ f. pure (behind_timing p f)))
 
 -- One statement of a `case` more, which is lowered so. (9.5)
-abbrev pub item_with : Surroundings → Cases → LabelsTree → Making FlowTree → Making Cases
+abbrev pub item_with : Surroundings → Cases → MatchedTree → Making FlowTree → Making Cases
 item_with w c (values es) body =
     values_of w [] c.calls es >>= (λ v. body >>= (λ f. pure (with_item c v.0 v.1 f)))
 item_with w c default body = body >>= (λ f. pure (with_default c f))
@@ -533,10 +533,10 @@ abbrev mutual
   pub form_flow : Surroundings → Place → StmtFormTree → Making FlowTree
   form_flow w place (simple_stmt s) = simple_flow w place s
   form_flow w place (delay_stmt d body) =
-      delay_front w place d >>= (λ p. stmt_flow w body >>= (λ f. pure (behind_front p f)))
+      delay_timing w place d >>= (λ p. stmt_flow w body >>= (λ f. pure (behind_timing p f)))
   form_flow w place (event_stmt e body) = event_flow w place e (stmt_flow w body)
   form_flow w place (wait_stmt e body) =
-      wait_front w place e >>= (λ p. stmt_flow w body >>= (λ f. pure (behind_front p f)))
+      wait_timing w place e >>= (λ p. stmt_flow w body >>= (λ f. pure (behind_timing p f)))
   form_flow w place (if_stmt e holds fails) =
       headed (if_kind fails) w place e >>= (λ h. stmt_flow w holds >>= (λ f. else_flow w fails >>= (λ g.
       pure (if_flow h f g))))

@@ -35,7 +35,7 @@ flows_seen fs = map flow_tree fs
 -- The call of a task so far.
 abbrev pub calling_seen : task.Calling → Calling
 calling_seen c = record {
-  front = c.front.items;
+  before = c.before.items;
   behind = c.behind.items;
   inputs = c.inputs.items;
   outputs = c.outputs.items;
@@ -57,7 +57,7 @@ MakesTo see outcome (Err (faults.Refused fault place)) a = outcome ≡ Err (Some
 MakesTo see outcome (Err faults.PassedOver) a = outcome ≡ Err None
 MakesTo see outcome (Err faults.NoMemory) a = Unit {0}
 
--- The same with the labels behind which it stands.
+-- The same with the instructions behind which it stands.
 abbrev pub Performs : {A : Type 0} → Result ((A × List Operation) × Added) (Option Fault) → List Operation
     → Result A LowerFault → Added → Type 0
 Performs outcome os result a = MakesTo (λ x. (x, os)) outcome result a

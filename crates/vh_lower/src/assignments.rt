@@ -1,14 +1,14 @@
 ghost use Rattle.std.specs.Prelude.{◌≡◌, IfOk};
 ghost use Rattle.std.specs.Option.{option_map};
 ghost use Rattle.vh_ast.specs.Views.{delay_tree, expr_tree, lv_tree, set_tree};
-ghost use Rattle.vh_lower.specs.Labels.{with_label, delayed_in};
+ghost use Rattle.vh_lower.specs.Instructions.{with_operation, delayed_in};
 ghost use Rattle.vh_lower.specs.Making.{Makes};
-ghost use Rattle.vh_lower.specs.Statements.{set_parts, set_of, schedule_at, delayed_parts, scheduled_parts, scheduled_later, assign_labels};
+ghost use Rattle.vh_lower.specs.Statements.{set_parts, set_of, schedule_at, delayed_parts, scheduled_parts, scheduled_later, assign_operations};
 ghost use Rattle.vh_lower.specs.Views.{Stands, Adds};
 
 use crate::added::Maker;
 use crate::fault::Lowered;
-use crate::labels::Operations;
+use crate::instructions::Operations;
 use crate::making::{delay_of, targets_of, value_of};
 use sqlite_items::Boxed as TreeBox;
 use std::alloc::Global;
@@ -17,12 +17,12 @@ use vh_base::{Boxed, ExprId, NoMemory, Sequence};
 use vh_bind_stmt::targets_width;
 use vh_design_code::{Delay as Wait, Operation, Schedule, Targets};
 
-// A label behind others.
-pub(crate) fn with_label(
+// An instruction behind others.
+pub(crate) fn with_operation(
     mut operations: Vec<Operation>,
     operation: Operation,
 ) -> Result<Operations, NoMemory>
-    ensures { IfOk result (λ os. os ≡ with_label operations.items operation) }
+    ensures { IfOk result (λ os. os ≡ with_operation operations.items operation) }
 {
     operations.push(operation)?;
     Ok(Sequence::new(operations))
@@ -45,9 +45,9 @@ fn schedule_at(
     Ok(Operation::Schedule(Boxed::new(alloc, schedule)?))
 }
 
-// The labels of a blocking assignment with a delay.
+// The instructions of a blocking assignment with a delay.
 fn delayed(
-    mut front: Vec<Operation>,
+    mut before: Vec<Operation>,
     mut calls: Vec<Operation>,
     value: ExprId,
     width: u32,
@@ -55,15 +55,15 @@ fn delayed(
     targets: Targets,
 ) -> Result<Operations, NoMemory>
     ensures { IfOk result
-        (λ os. os ≡ delayed_in front.items calls.items value width delay targets) }
+        (λ os. os ≡ delayed_in before.items calls.items value width delay targets) }
 {
-    front.push(Operation::Hold {
+    before.push(Operation::Hold {
         value,
         width,
         delay,
     })?;
-    front.append(&mut calls)?;
-    with_label(front, Operation::Store(targets))
+    before.append(&mut calls)?;
+    with_operation(before, Operation::Store(targets))
 }
 
 // A blocking assignment without a delay.
@@ -75,7 +75,7 @@ fn set_parts(maker: &mut Maker, target: &Lv, value: &Expr) -> Lowered<Operations
     let mut operations = Vec::new(maker.alloc);
     let targets = targets_of(maker, &mut operations, target)?;
     let value = value_of(maker, &mut operations, value)?;
-    Ok(with_label(operations, Operation::Assign { value, targets })?)
+    Ok(with_operation(operations, Operation::Assign { value, targets })?)
 }
 
 // The same in a `for`.
@@ -113,7 +113,7 @@ fn scheduled_parts(maker: &mut Maker, target: &Lv, value: &Expr) -> Lowered<Oper
     let targets = targets_of(maker, &mut operations, target)?;
     let value = value_of(maker, &mut operations, value)?;
     let schedule = schedule_at(maker.alloc, targets, value, None)?;
-    Ok(with_label(operations, schedule)?)
+    Ok(with_operation(operations, schedule)?)
 }
 
 // A nonblocking assignment with a delay.
@@ -134,11 +134,11 @@ fn scheduled_later(
     let delay = delay_of(maker, &mut operations, delay)?;
     let value = value_of(maker, &mut operations, value)?;
     let schedule = schedule_at(maker.alloc, targets, value, Some(delay))?;
-    Ok(with_label(operations, schedule)?)
+    Ok(with_operation(operations, schedule)?)
 }
 
 // An assignment, a row for each form (IEEE 1364-2005, 9.2).
-pub(crate) fn assign_labels(
+pub(crate) fn assign_operations(
     maker: &mut Maker,
     target: &Lv,
     word: AssignWord,
@@ -148,7 +148,7 @@ pub(crate) fn assign_labels(
     requires stands { Stands maker.old }
     ensures { Adds
         (λ s a. Makes
-        (assign_labels s (lv_tree target.now) word (option_map delay_tree delay.now)
+        (assign_operations s (lv_tree target.now) word (option_map delay_tree delay.now)
         (expr_tree value.now) a))
         maker.old result maker.new }
 {

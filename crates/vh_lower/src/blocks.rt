@@ -8,7 +8,7 @@ ghost use Rattle.vh_lower.specs.Views.{flows_seen, Finds, IsSame, added_of, arou
 
 use crate::added::Maker;
 use crate::fault::{LowerFault, Lowered};
-use crate::labels::in_row;
+use crate::instructions::in_row;
 use crate::making::{numbered, scope_of};
 use crate::objects::meant_object;
 use sqlite_items::{Boxed, Items};
@@ -19,7 +19,7 @@ use vh_bind::ElabFault;
 use vh_bind_stmt::{Surroundings, object_of};
 use vh_design_code::StmtKind;
 use vh_design_nodes::is_named_block_at;
-use vh_lower_flow::{Flow, FlowForm, Mark};
+use vh_lower_flow::{Flow, FlowForm, Origin};
 
 // The number of a `fork`; a `begin` is no statement and has none.
 pub(crate) fn block_number(maker: &mut Maker, word: BlockWord, place: Place) -> Lowered<u32>
@@ -78,12 +78,12 @@ fn joined(word: BlockWord, number: u32, row: Items<Flow>) -> Result<Flow, NoMemo
     match word {
         BlockWord::Begin => in_row(row),
         BlockWord::Fork => {
-            let mark = Mark {
+            let origin = Origin {
                 stmt: Some(number),
                 first: true,
             };
             Flow::new(FlowForm::Fork {
-                mark,
+                origin,
                 branches: row,
             })
         }

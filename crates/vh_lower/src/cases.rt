@@ -7,7 +7,7 @@ ghost use Rattle.vh_lower.specs.Views.{cases_seen, flows_seen, Performs, Stands,
 
 use crate::added::Maker;
 use crate::fault::Lowered;
-use crate::labels::{Operations, add_first, in_row, is_empty, nothing};
+use crate::instructions::{Operations, add_first, in_row, is_empty, nothing};
 use crate::making::value_of;
 use sqlite_items::{Boxed, Items};
 use std::alloc::Global;
@@ -15,7 +15,7 @@ use vh_ast::{CaseWord, Expr};
 use vh_base::{ExprId, NoMemory, Sequence};
 use vh_design_code::{CaseKind, Operation};
 use vh_design_nodes::{ExprIds, ExprNode, signed_of, width_of};
-use vh_lower_flow::{CaseHead, CaseItem, Flow, FlowForm, Mark};
+use vh_lower_flow::{CaseHead, CaseItem, Flow, FlowForm, Origin};
 
 // A `case` so far: the calls that its test makes, all its matched, its statements, and what is done
 // where no value fits.
@@ -93,17 +93,17 @@ fn or_nothing(alloc: Global, mut flows: Items<Flow>) -> Result<Flow, NoMemory>
 fn case_of(
     alloc: Global,
     head: CaseHead,
-    mark: Mark,
+    origin: Origin,
     items: Items<CaseItem<Flow>>,
     default: Flow,
 ) -> Result<Flow, NoMemory>
     ensures { IfOk result
-        (λ f. flow_tree f ≡ case_with head mark (map item_tree items) (flow_tree default)) }
+        (λ f. flow_tree f ≡ case_with head origin (map item_tree items) (flow_tree default)) }
 {
     let default = Boxed::new(alloc, default)?;
     Flow::new(FlowForm::Case {
         head,
-        mark,
+        origin,
         items,
         default,
     })
@@ -120,12 +120,12 @@ fn case_tree(alloc: Global, number: u32, head: CaseHead, cases: Cases) -> Result
         ..
     } = cases;
     let calls = Sequence::new(calls);
-    let mark = Mark {
+    let origin = Origin {
         stmt: Some(number),
         first: is_empty(&calls),
     };
     let default = or_nothing(alloc, default)?;
-    let test = case_of(alloc, head, mark, items, default)?;
+    let test = case_of(alloc, head, origin, items, default)?;
     let mut row = Items::new(alloc);
     add_first(&mut row, number, calls)?;
     row.push(test)?;

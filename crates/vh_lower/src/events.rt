@@ -3,12 +3,12 @@ ghost use Rattle.vh_bind.specs.Steps.{Gives};
 ghost use Rattle.vh_bind.specs.Views.{scope_seen};
 ghost use Rattle.vh_bind.specs.Scopes.{here};
 ghost use Rattle.vh_lower.specs.Making.{Makes};
-ghost use Rattle.vh_lower.specs.Statements.{listed_terms, waited_terms, event_front};
+ghost use Rattle.vh_lower.specs.Statements.{listed_terms, waited_terms, event_timing};
 ghost use Rattle.vh_lower.specs.Views.{Stands, Adds, Finds};
 
 use crate::added::Maker;
 use crate::fault::{LowerFault, Lowered};
-use crate::heads::Front;
+use crate::heads::Timing;
 use crate::making::{numbered, with_wait};
 use crate::simple::one_pause;
 use std::alloc::Global;
@@ -62,14 +62,14 @@ fn waited_terms(maker: &Maker, event: &Event) -> Lowered<Terms>
 }
 
 // An event control before a statement.
-pub(crate) fn event_front(maker: &mut Maker, place: Place, event: &Event) -> Lowered<Front>
+pub(crate) fn event_timing(maker: &mut Maker, place: Place, event: &Event) -> Lowered<Timing>
     requires stands { Stands maker.old }
-    ensures { Adds (λ s a. Makes (event_front s place (event_tree event.now) a))
+    ensures { Adds (λ s a. Makes (event_timing s place (event_tree event.now) a))
         maker.old result maker.new }
 {
     let number = numbered(maker, StmtKind::EventControl, place)?;
     let terms = waited_terms(maker, event)?;
     let wait = with_wait(maker.added, terms)?;
-    let labels = one_pause(maker.alloc, Pause::Await(wait))?;
-    Ok(Front { number, labels })
+    let instructions = one_pause(maker.alloc, Pause::Await(wait))?;
+    Ok(Timing { number, instructions })
 }

@@ -1,4 +1,4 @@
-use crate::labels::Operations;
+use crate::instructions::Operations;
 use vh_base::ExprId;
 
 /// What an `if`, a `case`, a `while` or a `repeat` has before its statements: its number, the calls that
@@ -10,11 +10,11 @@ pub struct Head {
     pub test: ExprId,
 }
 
-/// The labels that stand before the statement in a statement, and the number of this one.
+/// The instructions that stand before the statement in a statement, and the number of this one.
 #[derive(Drop)]
-pub struct Front {
+pub struct Timing {
     pub number: u32,
-    pub labels: Operations,
+    pub instructions: Operations,
 }
 
 /// What a `for` has before its body.

@@ -3,8 +3,8 @@ ghost use Rattle.vh_lower_flow.specs.Views.{flow_tree};
 ghost use Rattle.vh_lower.specs.Statements.{if_flow, while_flow, repeat_flow, loop_flow, for_turns, for_flow, forever_flow};
 
 use crate::heads::{ForHead, Head};
-use crate::labels::{
-    Operations, add_further, again, alone, copies, gated, gated_further, in_row, labels, nothing,
+use crate::instructions::{
+    Operations, add_further, again, alone, copies, gated, gated_further, in_row, instructions, nothing,
 };
 use sqlite_items::Items;
 use std::alloc::Global;
@@ -12,7 +12,7 @@ use vh_ast::LoopWord;
 use vh_base::{NoMemory, Sequence};
 use vh_lower_flow::{Flow, Gate};
 
-// No labels.
+// No instructions.
 fn none(alloc: Global) -> Operations
     ensures { result ≡ [] }
 {
@@ -120,7 +120,7 @@ pub(crate) fn for_flow(alloc: Global, head: ForHead, body: Flow) -> Result<Flow,
     let turns = for_turns(alloc, number, more, gate, step, body)?;
     let test = gated_further(alloc, number, calls, gate, turns, nothing(alloc)?)?;
     let mut row = Items::new(alloc);
-    row.push(labels(alloc, number, start)?)?;
+    row.push(instructions(alloc, number, start)?)?;
     row.push(test)?;
     in_row(row)
 }

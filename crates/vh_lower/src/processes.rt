@@ -2,47 +2,47 @@ ghost use Rattle.std.specs.Prelude.{◌≡◌, ◌++◌, true, IfOk, OnOk};
 ghost use Rattle.std.specs.Option.{option_map};
 ghost use Rattle.vh_ast.specs.Views.{delay_tree, expr_tree};
 ghost use Rattle.vh_lower_flow.specs.declared.code_kind.CodeKind.TheVariants as of;
-ghost use Rattle.vh_lower_flow.specs.Places.{is_closed};
+ghost use Rattle.vh_lower_flow.specs.Positions.{is_closed};
 ghost use Rattle.vh_lower_flow.specs.Views.{flow_tree};
-ghost use Rattle.vh_lower.specs.Labels;
+ghost use Rattle.vh_lower.specs.Instructions;
 ghost use Rattle.vh_lower.specs.Making.{Makes};
-ghost use Rattle.vh_lower.specs.Processes.{plain_label, plain_labels, plain_code, initial_labels, initial_code, drive_at, drive_behind, drive_labels, drive_code};
+ghost use Rattle.vh_lower.specs.Processes.{plain_instruction, plain_instructions, plain_code, initial_operations, initial_code, drive_at, drive_behind, drive_operations, drive_code};
 ghost use Rattle.vh_lower.specs.Views.{flows_seen, Stands, Adds};
 
 use crate::added::Maker;
-use crate::assignments::with_label;
+use crate::assignments::with_operation;
 use crate::fault::Lowered;
-use crate::labels::{Operations, in_row};
+use crate::instructions::{Operations, in_row};
 use crate::making::{delay_of, reading_from, value_of};
 use sqlite_items::{Boxed as TreeBox, Items};
 use std::alloc::Global;
 use vh_ast::{Delay, Expr};
 use vh_base::{Boxed, ExprId, NoMemory, ObjId, WaitId};
 use vh_design_code::{Code, Delay as Wait, Drive, DriverIds, Operation};
-use vh_lower_flow::{CodeKind, Flow, FlowForm, Mark, Step, code_of};
+use vh_lower_flow::{CodeKind, Flow, FlowForm, Origin, Step, code_of};
 
-// A label that belongs to no statement.
-fn plain_label(operation: Operation) -> Result<Flow, NoMemory>
-    ensures { IfOk result (λ f. flow_tree f ≡ plain_label operation) }
+// An instruction that belongs to no statement.
+fn plain_instruction(operation: Operation) -> Result<Flow, NoMemory>
+    ensures { IfOk result (λ f. flow_tree f ≡ plain_instruction operation) }
 {
-    let mark = Mark {
+    let origin = Origin {
         stmt: None,
         first: false,
     };
-    Flow::new(FlowForm::Step(Step { operation, mark }))
+    Flow::new(FlowForm::Step(Step { operation, origin }))
 }
 
-// Such labels behind others.
+// Such instructions behind others.
 fn add_plain(row: &mut Items<Flow>, operations: Operations) -> Result<(), NoMemory>
-    ensures { OnOk result (flows_seen row.new ≡ flows_seen row.old ++ plain_labels operations) }
+    ensures { OnOk result (flows_seen row.new ≡ flows_seen row.old ++ plain_instructions operations) }
 {
     for operation in operations.into_vec() {
-        row.push(plain_label(operation)?)?;
+        row.push(plain_instruction(operation)?)?;
     }
     Ok(())
 }
 
-// The code of a process of such labels.
+// The code of a process of such instructions.
 fn plain_code(alloc: Global, kind: CodeKind, operations: Operations) -> Result<Code, NoMemory>
     ensures { IfOk result (λ c. c ≡ plain_code kind operations) }
 {
@@ -52,15 +52,15 @@ fn plain_code(alloc: Global, kind: CodeKind, operations: Operations) -> Result<C
     code_of(alloc, kind, &flow)
 }
 
-// The labels of a declared initial value.
-fn initial_labels(maker: &mut Maker, object: ObjId, value: &Expr) -> Lowered<Operations>
+// The instructions of a declared initial value.
+fn initial_operations(maker: &mut Maker, object: ObjId, value: &Expr) -> Lowered<Operations>
     requires stands { Stands maker.old }
-    ensures { Adds (λ s a. Makes (initial_labels s object (expr_tree value.now) a))
+    ensures { Adds (λ s a. Makes (initial_operations s object (expr_tree value.now) a))
         maker.old result maker.new }
 {
     let mut operations = Vec::new(maker.alloc);
     let value = value_of(maker, &mut operations, value)?;
-    Ok(with_label(operations, Operation::Initial { object, value })?)
+    Ok(with_operation(operations, Operation::Initial { object, value })?)
 }
 
 // The code of a declared initial value.
@@ -69,7 +69,7 @@ fn laid_value(maker: &mut Maker, object: ObjId, value: &Expr) -> Lowered<Code>
     ensures { Adds (λ s a. Makes (initial_code s object (expr_tree value.now) a))
         maker.old result maker.new }
 {
-    let operations = initial_labels(maker, object, value)?;
+    let operations = initial_operations(maker, object, value)?;
     Ok(plain_code(maker.alloc, CodeKind::Value, operations)?)
 }
 
@@ -83,7 +83,7 @@ pub fn initial_code(maker: &mut Maker, object: ObjId, value: &Expr) -> Lowered<C
     laid_value(maker, object, value)
 }
 
-// The label of a continuous assignment.
+// The instruction of a continuous assignment.
 fn drive_at(
     alloc: Global,
     drivers: DriverIds,
@@ -102,7 +102,7 @@ fn drive_at(
     Ok(Operation::Drive(Boxed::new(alloc, drive)?))
 }
 
-// Its labels behind some calls.
+// Its instructions behind some calls.
 fn drive_behind(
     maker: &mut Maker,
     drivers: DriverIds,
@@ -119,11 +119,11 @@ fn drive_behind(
     let value = value_of(maker, &mut operations, value)?;
     let wait = reading_from(maker.alloc, maker.added, from)?;
     let drive = drive_at(maker.alloc, drivers, value, delay, wait)?;
-    Ok(with_label(operations, drive)?)
+    Ok(with_operation(operations, drive)?)
 }
 
-// Its labels, with those of its delay.
-fn drive_labels(
+// Its instructions, with those of its delay.
+fn drive_operations(
     maker: &mut Maker,
     drivers: DriverIds,
     delay: &Option<TreeBox<Delay>>,
@@ -132,7 +132,7 @@ fn drive_labels(
     requires stands { Stands maker.old }
     ensures { Adds
         (λ s a. Makes
-        (drive_labels s drivers (option_map delay_tree delay.now) (expr_tree value.now) a))
+        (drive_operations s drivers (option_map delay_tree delay.now) (expr_tree value.now) a))
         maker.old result maker.new }
 {
     let mut operations = Vec::new(maker.alloc);
@@ -158,7 +158,7 @@ fn laid_assignment(
         (drive_code s drivers (option_map delay_tree delay.now) (expr_tree value.now) a))
         maker.old result maker.new }
 {
-    let operations = drive_labels(maker, drivers, delay, value)?;
+    let operations = drive_operations(maker, drivers, delay, value)?;
     Ok(plain_code(maker.alloc, CodeKind::Assign, operations)?)
 }
 
@@ -179,7 +179,7 @@ pub fn drive_code(
     laid_assignment(maker, drivers, delay, value)
 }
 
-/// The code of a process that drives so, behind some labels.
+/// The code of a process that drives so, behind some instructions.
 pub fn driving_code(
     alloc: Global,
     drivers: DriverIds,
@@ -189,10 +189,10 @@ pub fn driving_code(
     operations: Vec<Operation>,
 ) -> Result<Code, NoMemory>
     ensures { IfOk result (λ c. c
-        ≡ plain_code of.Assign (Labels.with_label operations.items
+        ≡ plain_code of.Assign (Instructions.with_operation operations.items
         (drive_at drivers value delay wait))) }
 {
     let drive = drive_at(alloc, drivers, value, delay, wait)?;
-    let operations = with_label(operations, drive)?;
+    let operations = with_operation(operations, drive)?;
     plain_code(alloc, CodeKind::Assign, operations)
 }

@@ -3,38 +3,38 @@ ghost use Rattle.vh_ast.specs.Views.{lv_tree, name_tree, set_tree, simple_tree};
 ghost use Rattle.vh_design_code.specs.declared.operation.Operation.TheVariants as Op;
 ghost use Rattle.vh_lower_flow.specs.Views.{flow_tree};
 ghost use Rattle.vh_lower.specs.Making.{Makes};
-ghost use Rattle.vh_lower.specs.Statements.{force_single, release_single, force_stmt, release_stmt, force_labels, release_labels, trigger_labels, disable_labels, is_null, simple_kind, simple_labels, simple_flow};
+ghost use Rattle.vh_lower.specs.Statements.{force_single, release_single, force_stmt, release_stmt, force_operations, release_operations, trigger_operations, disable_operations, is_null, simple_kind, simple_operations, simple_flow};
 ghost use Rattle.vh_lower.specs.Views.{MakesTo, Stands, Adds};
 
 use crate::added::Maker;
-use crate::assignments::{assign_labels, with_label};
+use crate::assignments::{assign_operations, with_operation};
 use crate::fault::Lowered;
-use crate::labels::{Operations, labels, nothing};
+use crate::instructions::{Operations, instructions, nothing};
 use crate::making::{numbered, value_of};
 use crate::objects::{disable_target_of, event_of, forced_of, released_of};
-use crate::systems::system_labels;
-use crate::tasks::task_labels;
+use crate::systems::system_operations;
+use crate::tasks::task_operations;
 use std::alloc::Global;
 use vh_ast::{Expr, ForceWord, Lv, Name, ReleaseWord, Set, Simple};
 use vh_base::{ExprId, NoMemory, ObjId, Place};
 use vh_design_code::{Operation, Pause, Single, StmtKind};
 use vh_lower_flow::Flow;
 
-// One label.
+// One instruction.
 pub(crate) fn one_single(alloc: Global, single: Single) -> Result<Operations, NoMemory>
     ensures { IfOk result (λ os. os ≡ Op.Single single ∷ []) }
 {
-    with_label(Vec::new(alloc), Operation::Single(single))
+    with_operation(Vec::new(alloc), Operation::Single(single))
 }
 
-// One label that waits.
+// One instruction that waits.
 pub(crate) fn one_pause(alloc: Global, pause: Pause) -> Result<Operations, NoMemory>
     ensures { IfOk result (λ os. os ≡ Op.Pause pause ∷ []) }
 {
-    with_label(Vec::new(alloc), Operation::Pause(pause))
+    with_operation(Vec::new(alloc), Operation::Pause(pause))
 }
 
-// The label of a `force` or an `assign`.
+// The instruction of a `force` or an `assign`.
 fn force_single(word: ForceWord, object: ObjId, value: ExprId) -> Single
     ensures { result ≡ force_single word object value }
 {
@@ -44,7 +44,7 @@ fn force_single(word: ForceWord, object: ObjId, value: ExprId) -> Single
     }
 }
 
-// The label of a `release` or a `deassign`.
+// The instruction of a `release` or a `deassign`.
 fn release_single(word: ReleaseWord, object: ObjId) -> Single
     ensures { result ≡ release_single word object }
 {
@@ -75,9 +75,9 @@ fn release_stmt(word: ReleaseWord) -> StmtKind
 }
 
 // `->`.
-fn trigger_labels(maker: &mut Maker, name: &Name<Expr>) -> Lowered<Operations>
+fn trigger_operations(maker: &mut Maker, name: &Name<Expr>) -> Lowered<Operations>
     requires stands { Stands maker.old }
-    ensures { Adds (λ s a. Makes (trigger_labels s (name_tree name.now) a))
+    ensures { Adds (λ s a. Makes (trigger_operations s (name_tree name.now) a))
         maker.old result maker.new }
 {
     let object = event_of(maker, name)?;
@@ -85,9 +85,9 @@ fn trigger_labels(maker: &mut Maker, name: &Name<Expr>) -> Lowered<Operations>
 }
 
 // `disable`.
-fn disable_labels(maker: &mut Maker, name: &Name<Expr>) -> Lowered<Operations>
+fn disable_operations(maker: &mut Maker, name: &Name<Expr>) -> Lowered<Operations>
     requires stands { Stands maker.old }
-    ensures { Adds (λ s a. Makes (disable_labels s (name_tree name.now) a))
+    ensures { Adds (λ s a. Makes (disable_operations s (name_tree name.now) a))
         maker.old result maker.new }
 {
     let object = disable_target_of(maker, name)?;
@@ -95,22 +95,22 @@ fn disable_labels(maker: &mut Maker, name: &Name<Expr>) -> Lowered<Operations>
 }
 
 // A `force` or an `assign`.
-fn force_labels(maker: &mut Maker, word: ForceWord, set: &Set) -> Lowered<Operations>
+fn force_operations(maker: &mut Maker, word: ForceWord, set: &Set) -> Lowered<Operations>
     requires stands { Stands maker.old }
-    ensures { Adds (λ s a. Makes (force_labels s word (set_tree set.now) a))
+    ensures { Adds (λ s a. Makes (force_operations s word (set_tree set.now) a))
         maker.old result maker.new }
 {
     let object = forced_of(maker, word, &set.target)?;
     let mut operations = Vec::new(maker.alloc);
     let value = value_of(maker, &mut operations, &set.value)?;
     let single = force_single(word, object, value);
-    Ok(with_label(operations, Operation::Single(single))?)
+    Ok(with_operation(operations, Operation::Single(single))?)
 }
 
 // A `release` or a `deassign`.
-fn release_labels(maker: &mut Maker, word: ReleaseWord, target: &Lv) -> Lowered<Operations>
+fn release_operations(maker: &mut Maker, word: ReleaseWord, target: &Lv) -> Lowered<Operations>
     requires stands { Stands maker.old }
-    ensures { Adds (λ s a. Makes (release_labels s word (lv_tree target.now) a))
+    ensures { Adds (λ s a. Makes (release_operations s word (lv_tree target.now) a))
         maker.old result maker.new }
 {
     let object = released_of(maker, word, target)?;
@@ -132,10 +132,10 @@ fn simple_kind(simple: &Simple) -> StmtKind
     }
 }
 
-// Its labels, a row for each.
-fn simple_labels(maker: &mut Maker, simple: &Simple) -> Lowered<Operations>
+// Its instructions, a row for each.
+fn simple_operations(maker: &mut Maker, simple: &Simple) -> Lowered<Operations>
     requires stands { Stands maker.old }
-    ensures { Adds (λ s a. Makes (simple_labels s (simple_tree simple.now) a))
+    ensures { Adds (λ s a. Makes (simple_operations s (simple_tree simple.now) a))
         maker.old result maker.new }
 {
     match simple {
@@ -145,13 +145,13 @@ fn simple_labels(maker: &mut Maker, simple: &Simple) -> Lowered<Operations>
             word,
             delay,
             value,
-        } => assign_labels(maker, target, *word, delay, value.get()),
-        Simple::Trigger(name) => trigger_labels(maker, name),
-        Simple::Disable(name) => disable_labels(maker, name),
-        Simple::Force(word, set) => force_labels(maker, *word, set.get()),
-        Simple::Release(word, target) => release_labels(maker, *word, target),
-        Simple::Call(name, values) => task_labels(maker, name.get(), values),
-        Simple::System(id, values) => system_labels(maker, id, values),
+        } => assign_operations(maker, target, *word, delay, value.get()),
+        Simple::Trigger(name) => trigger_operations(maker, name),
+        Simple::Disable(name) => disable_operations(maker, name),
+        Simple::Force(word, set) => force_operations(maker, *word, set.get()),
+        Simple::Release(word, target) => release_operations(maker, *word, target),
+        Simple::Call(name, values) => task_operations(maker, name.get(), values),
+        Simple::System(id, values) => system_operations(maker, id, values),
     }
 }
 
@@ -181,6 +181,6 @@ pub(crate) fn simple_flow(maker: &mut Maker, place: Place, simple: &Simple) -> L
         return Ok(nothing(maker.alloc)?);
     }
     let number = numbered(maker, simple_kind(simple), place)?;
-    let operations = simple_labels(maker, simple)?;
-    Ok(labels(maker.alloc, number, operations)?)
+    let operations = simple_operations(maker, simple)?;
+    Ok(instructions(maker.alloc, number, operations)?)
 }

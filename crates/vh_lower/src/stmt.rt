@@ -1,30 +1,30 @@
 ghost use Rattle.std.specs.Prelude.{◌≡◌, [], ◌∷◌, ◌++◌, map, true, IfOk, OnOk};
 ghost use Rattle.vh_ast.specs.Statements;
-ghost use Rattle.vh_ast.specs.Views.{citem_tree, event_tree, labels_tree, stmt_tree};
+ghost use Rattle.vh_ast.specs.Views.{citem_tree, event_tree, matched_tree, stmt_tree};
 ghost use Rattle.vh_design_nodes.specs.Fits.{is_unit};
 ghost use Rattle.vh_bind.specs.declared.scope.Mode.TheVariants as mode;
 ghost use Rattle.vh_bind.specs.Nodes.{IsSound};
 ghost use Rattle.vh_bind_stmt.specs.Views.{surroundings_seen};
-ghost use Rattle.vh_lower_flow.specs.Places.{is_closed};
+ghost use Rattle.vh_lower_flow.specs.Positions.{is_closed};
 ghost use Rattle.vh_lower_flow.specs.Views.{flow_tree};
 ghost use Rattle.vh_lower.specs.Making.{Makes};
-ghost use Rattle.vh_lower.specs.Statements.{behind_front, block_flow, event_flow, inside, inside_of, item_with, items_flow, lowered, stmt_flow, stmts_flow};
+ghost use Rattle.vh_lower.specs.Statements.{behind_timing, block_flow, event_flow, inside, inside_of, item_with, items_flow, lowered, stmt_flow, stmts_flow};
 ghost use Rattle.vh_lower.specs.Views.{added_seen, cases_seen, flows_seen, MakesTo, Stands, Adds, Leaves};
 
 use crate::added::{Added, Maker};
 use crate::blocks::{block_number, block_of_row, block_scope};
 use crate::cases::{Cases, case_flow, no_cases, values_of, with_default, with_item};
-use crate::events::event_front;
+use crate::events::event_timing;
 use crate::fault::Lowered;
-use crate::fronts::{delay_front, for_head, headed, wait_front};
-use crate::heads::{Front, Head};
-use crate::labels::{behind_label, nothing};
+use crate::timing::{delay_timing, for_head, headed, wait_timing};
+use crate::heads::{Timing, Head};
+use crate::instructions::{behind_operations, nothing};
 use crate::loops::{for_flow, forever_flow, if_flow, loop_flow};
 use crate::making::{numbered, reading_from};
 use crate::simple::{one_pause, simple_flow};
 use sqlite_items::Items;
 use std::alloc::Global;
-use vh_ast::{BlockWord, Citem, Event, Id, Labels, LoopWord, Stmt, StmtForm};
+use vh_ast::{BlockWord, Citem, Event, Id, Matched, LoopWord, Stmt, StmtForm};
 use vh_base::{NoMemory, ObjId, Place};
 use vh_bind::Scope;
 use vh_bind_scope::Top;
@@ -32,12 +32,12 @@ use vh_bind_stmt::Surroundings;
 use vh_design_code::{Code, Pause, StmtKind};
 use vh_lower_flow::{CodeKind, Flow, code_of};
 
-// Labels, and the statement behind them.
-fn behind_front(alloc: Global, front: Front, body: Flow) -> Result<Flow, NoMemory>
-    ensures { IfOk result (λ f. flow_tree f ≡ behind_front front (flow_tree body)) }
+// Instructions, and the statement behind them.
+fn behind_timing(alloc: Global, timing: Timing, body: Flow) -> Result<Flow, NoMemory>
+    ensures { IfOk result (λ f. flow_tree f ≡ behind_timing timing (flow_tree body)) }
 {
-    let Front { number, labels } = front;
-    behind_label(alloc, number, labels, body)
+    let Timing { number, instructions } = timing;
+    behind_operations(alloc, number, instructions, body)
 }
 
 // One statement more.
@@ -59,15 +59,15 @@ fn lower_stmt(maker: &mut Maker, stmt: &Stmt) -> Lowered<Flow>
     match &stmt.form {
         StmtForm::Simple(simple) => simple_flow(maker, place, simple),
         StmtForm::Delay(delay, body) => {
-            let front = delay_front(maker, place, delay.get())?;
+            let timing = delay_timing(maker, place, delay.get())?;
             let body = lower_stmt(maker, body.get())?;
-            Ok(behind_front(maker.alloc, front, body)?)
+            Ok(behind_timing(maker.alloc, timing, body)?)
         }
         StmtForm::Event(event, body) => { lower_event(maker, place, event.get(), body.get()) }
         StmtForm::Wait(test, body) => {
-            let front = wait_front(maker, place, test.get())?;
+            let timing = wait_timing(maker, place, test.get())?;
             let body = lower_stmt(maker, body.get())?;
-            Ok(behind_front(maker.alloc, front, body)?)
+            Ok(behind_timing(maker.alloc, timing, body)?)
         }
         StmtForm::If { test, holds, fails } => {
             let kind = match fails {
@@ -143,12 +143,12 @@ fn lower_event(maker: &mut Maker, place: Place, event: &Event, body: &Stmt) -> L
         let from = maker.added.exprs.len();
         let body = lower_stmt(maker, body)?;
         let wait = reading_from(maker.alloc, maker.added, from)?;
-        let labels = one_pause(maker.alloc, Pause::Await(wait))?;
-        return Ok(behind_label(maker.alloc, number, labels, body)?);
+        let instructions = one_pause(maker.alloc, Pause::Await(wait))?;
+        return Ok(behind_operations(maker.alloc, number, instructions, body)?);
     }
-    let front = event_front(maker, place, event)?;
+    let timing = event_timing(maker, place, event)?;
     let body = lower_stmt(maker, body)?;
-    Ok(behind_front(maker.alloc, front, body)?)
+    Ok(behind_timing(maker.alloc, timing, body)?)
 }
 
 // Statements in a row.
@@ -281,22 +281,22 @@ fn lower_items(maker: &mut Maker, cases: &mut Cases, citems: &[Citem<Stmt>]) -> 
 
 // One of them.
 #[cycle(lower)]
-fn lower_item(maker: &mut Maker, cases: &mut Cases, matched: &Labels, body: &Stmt) -> Lowered<()>
+fn lower_item(maker: &mut Maker, cases: &mut Cases, matched: &Matched, body: &Stmt) -> Lowered<()>
     requires stands { Stands maker.old }
     ensures { Adds
         (λ s a. Leaves
-        (item_with s (cases_seen cases.old) (labels_tree matched.now)
+        (item_with s (cases_seen cases.old) (matched_tree matched.now)
         (stmt_flow s (stmt_tree body.now)) a) (cases_seen cases.new))
         maker.old result maker.new }
 {
     match matched {
-        Labels::Values(values) => {
+        Matched::Values(values) => {
             let matched = values_of(maker, &mut cases.calls, values.as_slice())?;
             let body = lower_stmt(maker, body)?;
             with_item(cases, matched, body)?;
             Ok(())
         }
-        Labels::Default => {
+        Matched::Default => {
             let body = lower_stmt(maker, body)?;
             with_default(cases, body)?;
             Ok(())

@@ -3,13 +3,13 @@ ghost use Rattle.std.specs.Option.{option_map};
 ghost use Rattle.vh_ast.specs.Views.{expr_tree};
 ghost use Rattle.vh_bind_stmt.specs.Shows.{show_task};
 ghost use Rattle.vh_lower.specs.Making.{Makes};
-ghost use Rattle.vh_lower.specs.Statements.{arguments_of_show, show_labels, ending_labels, other_labels, system_labels};
+ghost use Rattle.vh_lower.specs.Statements.{arguments_of_show, show_operations, ending_operations, other_operations, system_operations};
 ghost use Rattle.vh_lower.specs.Views.{Performs, Stands, Adds, Finds};
 
 use crate::added::Maker;
-use crate::assignments::with_label;
+use crate::assignments::with_operation;
 use crate::fault::{LowerFault, Lowered};
-use crate::labels::Operations;
+use crate::instructions::Operations;
 use crate::making::{scope_of, with_calls, with_show};
 use crate::simple::one_single;
 use sqlite_items::Items;
@@ -42,7 +42,7 @@ fn arguments_of_show(
 }
 
 // A display call.
-fn show_labels(
+fn show_operations(
     maker: &mut Maker,
     place: Place,
     values: &[Option<Expr>],
@@ -50,7 +50,7 @@ fn show_labels(
 ) -> Lowered<Operations>
     requires stands { Stands maker.old }
     ensures { Adds
-        (λ s a. Makes (show_labels s place (map (option_map expr_tree) values.now) task a))
+        (λ s a. Makes (show_operations s place (map (option_map expr_tree) values.now) task a))
         maker.old result maker.new }
 {
     if !arguments_fit(values) {
@@ -65,18 +65,18 @@ fn show_labels(
         args,
     };
     let show = with_show(maker.added, call)?;
-    Ok(with_label(operations, Operation::Single(Single::Show(show)))?)
+    Ok(with_operation(operations, Operation::Single(Single::Show(show)))?)
 }
 
 // `$finish` or `$stop`.
-fn ending_labels(
+fn ending_operations(
     maker: &Maker,
     place: Place,
     values: &[Option<Expr>],
     single: Single,
 ) -> Lowered<Operations>
     ensures { Finds
-        (λ s a. Makes (ending_labels place (map (option_map expr_tree) values.now) single a))
+        (λ s a. Makes (ending_operations place (map (option_map expr_tree) values.now) single a))
         maker.now result }
 {
     if !takes_number(values) {
@@ -86,22 +86,22 @@ fn ending_labels(
 }
 
 // Any other system task.
-fn other_labels(maker: &Maker, id: &Id, values: &[Option<Expr>]) -> Lowered<Operations>
-    ensures { Finds (λ s a. Makes (other_labels id.now (map (option_map expr_tree) values.now) a))
+fn other_operations(maker: &Maker, id: &Id, values: &[Option<Expr>]) -> Lowered<Operations>
+    ensures { Finds (λ s a. Makes (other_operations id.now (map (option_map expr_tree) values.now) a))
         maker.now result }
 {
     let name = id.name.as_slice();
     if name == b"$finish".as_slice() {
-        ending_labels(maker, id.place, values, Single::Finish)
+        ending_operations(maker, id.place, values, Single::Finish)
     } else if name == b"$stop".as_slice() {
-        ending_labels(maker, id.place, values, Single::Stop)
+        ending_operations(maker, id.place, values, Single::Stop)
     } else {
         Err(LowerFault::Refused(DesignFault::N10, id.place))
     }
 }
 
-// The labels of a system task that is built in (IEEE 1364-2005, 17.1 and 17.4).
-pub(crate) fn system_labels(
+// The instructions of a system task that is built in (IEEE 1364-2005, 17.1 and 17.4).
+pub(crate) fn system_operations(
     maker: &mut Maker,
     id: &Id,
     values: &Items<Option<Expr>>,
@@ -109,12 +109,12 @@ pub(crate) fn system_labels(
     requires stands { Stands maker.old }
     ensures { Adds
         (λ s a. Makes
-        (system_labels s id.now (map (option_map expr_tree) values.now) (show_task id.now.name) a))
+        (system_operations s id.now (map (option_map expr_tree) values.now) (show_task id.now.name) a))
         maker.old result maker.new }
 {
     let values = values.as_slice();
     match show_task(id.name.as_slice()) {
-        Some(task) => show_labels(maker, id.place, values, task),
-        None => other_labels(maker, id, values),
+        Some(task) => show_operations(maker, id.place, values, task),
+        None => other_operations(maker, id, values),
     }
 }

@@ -1,13 +1,13 @@
 ghost use Rattle.std.specs.Prelude.{◌≡◌, [], ◌∷◌, ◌++◌, map, IfOk, OnOk};
 ghost use Rattle.vh_ast.specs.Views.{expr_tree, name_tree};
 ghost use Rattle.vh_lower.specs.Making.{Makes};
-ghost use Rattle.vh_lower.specs.Statements.{with_input, with_output, with_argument, with_arguments, no_call, call_labels, task_labels};
+ghost use Rattle.vh_lower.specs.Statements.{with_input, with_output, with_argument, with_arguments, no_call, call_operations, task_operations};
 ghost use Rattle.vh_lower.specs.Views.{calling_seen, Stands, Adds, Leaves};
 
 use crate::added::Maker;
-use crate::assignments::with_label;
+use crate::assignments::with_operation;
 use crate::fault::Lowered;
-use crate::labels::Operations;
+use crate::instructions::Operations;
 use crate::making::{output_of, value_of};
 use crate::objects::task_of;
 use sqlite_items::Items;
@@ -17,10 +17,10 @@ use vh_base::{Boxed, ExprId, NoMemory, ObjId, Sequence};
 use vh_bind_stmt::{Argument, arguments_of};
 use vh_design_code::{Input, Leave, Operation, Output, Targets};
 
-// The call of a task so far: the labels before its begin and before its end, and what these write.
+// The call of a task so far: the instructions before its begin and before its end, and what these write.
 #[derive(Drop)]
 pub(crate) struct Calling {
-    pub front: Vec<Operation>,
+    pub before: Vec<Operation>,
     pub behind: Vec<Operation>,
     pub inputs: Vec<Input>,
     pub outputs: Vec<Output>,
@@ -31,7 +31,7 @@ fn no_call(alloc: Global) -> Calling
     ensures { calling_seen result ≡ no_call }
 {
     Calling {
-        front: Vec::new(alloc),
+        before: Vec::new(alloc),
         behind: Vec::new(alloc),
         inputs: Vec::new(alloc),
         outputs: Vec::new(alloc),
@@ -68,7 +68,7 @@ fn with_input(maker: &mut Maker, call: &mut Calling, variable: ObjId, value: &Ex
         (calling_seen call.new))
         maker.old result maker.new }
 {
-    let value = value_of(maker, &mut call.front, value)?;
+    let value = value_of(maker, &mut call.before, value)?;
     add_input(&mut call.inputs, variable, value)?;
     Ok(())
 }
@@ -134,41 +134,41 @@ fn with_arguments(
     Ok(())
 }
 
-// The labels of a call.
-fn call_labels(alloc: Global, task: ObjId, call: Calling) -> Result<Operations, NoMemory>
-    ensures { IfOk result (λ os. os ≡ call_labels task (calling_seen call)) }
+// The instructions of a call.
+fn call_operations(alloc: Global, task: ObjId, call: Calling) -> Result<Operations, NoMemory>
+    ensures { IfOk result (λ os. os ≡ call_operations task (calling_seen call)) }
 {
     let Calling {
-        mut front,
+        mut before,
         mut behind,
         inputs,
         outputs,
     } = call;
-    front.push(Operation::Enter {
+    before.push(Operation::Enter {
         routine: task,
         inputs: Sequence::new(inputs),
     })?;
-    front.append(&mut behind)?;
+    before.append(&mut behind)?;
     let leave = Leave {
         outputs: Sequence::new(outputs),
         result: None,
     };
-    with_label(front, Operation::Leave(Boxed::new(alloc, leave)?))
+    with_operation(before, Operation::Leave(Boxed::new(alloc, leave)?))
 }
 
-// The labels of a call of a task (IEEE 1364-2005, 10.2.2).
-pub(crate) fn task_labels(
+// The instructions of a call of a task (IEEE 1364-2005, 10.2.2).
+pub(crate) fn task_operations(
     maker: &mut Maker,
     name: &Name<Expr>,
     values: &Items<Expr>,
 ) -> Lowered<Operations>
     requires stands { Stands maker.old }
-    ensures { Adds (λ s a. Makes (task_labels s (name_tree name.now) (map expr_tree values.now) a))
+    ensures { Adds (λ s a. Makes (task_operations s (name_tree name.now) (map expr_tree values.now) a))
         maker.old result maker.new }
 {
     let values = values.as_slice();
     let task = task_of(maker, name, values.len())?;
     let mut call = no_call(maker.alloc);
     with_arguments(maker, &mut call, arguments_of(maker.around, task), values)?;
-    Ok(call_labels(maker.alloc, task, call)?)
+    Ok(call_operations(maker.alloc, task, call)?)
 }

@@ -1,8 +1,8 @@
--- Bound statements as plain trees, and how many labels they have
+-- Bound statements as plain trees, and how many instructions they have
 pub mod Trees
 -- The flat code of a tree
 pub mod Laid
--- At which places a code goes on
-pub mod Places
+-- At which positions a code goes on
+pub mod Positions
 -- How contracts see what the code holds
 pub mod Views

@@ -5,12 +5,12 @@ use Rattle.vh_lower_flow.specs.declared.flow.Flow.{Flow, fold-Flow}
 use Rattle.vh_lower_flow.specs.declared.flow.FlowForm.{FlowForm}
 use Rattle.vh_lower_flow.specs.declared.flow.FlowForm.TheVariants as form
 use Rattle.vh_lower_flow.specs.Trees.{FlowTree, flow, FormTree, step, row, choice, turns, case_of, block, fork, flows, ItemTree, case_items}
-use Rattle.vh_lower_flow.specs.declared.places.Laid as code
+use Rattle.vh_lower_flow.specs.declared.positions.Laid as code
 use Rattle.vh_lower_flow.specs.Laid.{Laid}
 
 -- One layer of a tree of the code.
 abbrev item_layer : CaseItem FlowTree → ItemTree
-item_layer i = record { labels = i.labels; body = i.body }
+item_layer i = record { matched = i.matched; body = i.body }
 
 abbrev pub form_layer : FlowForm FlowTree → FormTree
 form_layer (form.Step s) = step s
@@ -26,7 +26,7 @@ abbrev pub flow_tree : Flow → FlowTree
 flow_tree = fold-Flow FlowTree (λ f. flow f.size (form_layer f.form))
 
 abbrev pub item_tree : CaseItem Flow → ItemTree
-item_tree i = record { labels = i.labels; body = flow_tree i.body }
+item_tree i = record { matched = i.matched; body = flow_tree i.body }
 
 abbrev pub form_tree : FlowForm Flow → FormTree
 form_tree (form.Step s) = step s

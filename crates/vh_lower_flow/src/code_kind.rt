@@ -7,8 +7,8 @@ pub enum CodeKind {
     Always,
     /// A task or function: it goes back to its call (10.2 and 10.4).
     Body,
-    /// A declared initial value: its last label ends its process (6.2.1).
+    /// A declared initial value: its last instruction ends its process (6.2.1).
     Value,
-    /// A continuous assignment: it goes on at its first label again (6.1).
+    /// A continuous assignment: it goes on at its first instruction again (6.1).
     Assign,
 }

@@ -113,9 +113,9 @@ pub fn copied(alloc: Global, of: &Operation) -> Result<Operation, NoMemory>
             Ok(Operation::Case(Boxed::new(alloc, copy)?))
         }
         Operation::Loop(turn) => Ok(Operation::Loop(*turn)),
-        Operation::Fork(places) => {
-            let places = Sequence::from_slice(alloc, places.as_slice())?;
-            Ok(Operation::Fork(places))
+        Operation::Fork(positions) => {
+            let positions = Sequence::from_slice(alloc, positions.as_slice())?;
+            Ok(Operation::Fork(positions))
         }
         Operation::End => Ok(Operation::End),
         Operation::Enter { routine, inputs } => {

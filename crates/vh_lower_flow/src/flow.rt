@@ -2,28 +2,28 @@ ghost use Rattle.std.specs.Prelude.{◌≡◌, IfOk};
 ghost use Rattle.vh_lower_flow.specs.Trees.{sized};
 ghost use Rattle.vh_lower_flow.specs.Views.{flow_tree, form_tree};
 
-use crate::sizes::labels_in;
+use crate::sizes::instructions_in;
 use sqlite_items::{Boxed, Items};
 use vh_base::{ExprId, NoMemory, ObjId};
 use vh_design_code::{CaseKind, Operation};
 use vh_design_nodes::ExprIds;
 
-/// The statement that a label belongs to, by its number, and whether it is the first label of an
+/// The statement that an instruction belongs to, by its number, and whether it is the first instruction of an
 /// execution of it.
 #[derive(Clone, Copy)]
-pub struct Mark {
+pub struct Origin {
     pub stmt: Option<u32>,
     pub first: bool,
 }
 
-/// A label that goes on behind it.
+/// An instruction that goes on behind it.
 #[derive(Drop)]
 pub struct Step {
     pub operation: Operation,
-    pub mark: Mark,
+    pub origin: Origin,
 }
 
-/// A label that goes on in one of two ways.
+/// An instruction that goes on in one of two ways.
 #[derive(Clone, Copy)]
 pub enum Gate {
     /// The test of an `if`, a `for` or a `while`.
@@ -41,43 +41,43 @@ pub enum Gate {
 pub struct CaseHead {
     pub kind: CaseKind,
     pub subject: ExprId,
-    /// The greatest width of the subject and all labels.
+    /// The greatest width of the subject and all instructions.
     pub width: u32,
-    /// Whether the subject and all labels are signed.
+    /// Whether the subject and all instructions are signed.
     pub signed: bool,
 }
 
-/// A statement of a `case` with its labels, over trees `F`.
+/// A statement of a `case` with its instructions, over trees `F`.
 #[derive(Drop)]
 pub struct CaseItem<F> {
-    pub labels: ExprIds,
+    pub matched: ExprIds,
     pub body: F,
 }
 
 /// What a bound statement is, over trees `F`.
 #[derive(Drop)]
 pub enum FlowForm<F> {
-    /// One label.
+    /// One instruction.
     Step(Step),
     /// One after another.
     Row(Items<F>),
-    /// A label, and behind it one of two.
+    /// An instruction, and behind it one of two.
     Choice {
         gate: Gate,
-        mark: Mark,
+        origin: Origin,
         holds: Boxed<F>,
         fails: Boxed<F>,
     },
-    /// A body with a label behind it, which goes on at the body again, or behind both.
+    /// A body with an instruction behind it, which goes on at the body again, or behind both.
     Turns {
         body: Boxed<F>,
         gate: Gate,
-        mark: Mark,
+        origin: Origin,
     },
-    /// A `case`: items in source order, and what is done where no label fits.
+    /// A `case`: items in source order, and what is done where no instruction fits.
     Case {
         head: CaseHead,
-        mark: Mark,
+        origin: Origin,
         items: Items<CaseItem<F>>,
         default: Boxed<F>,
     },
@@ -88,7 +88,7 @@ pub enum FlowForm<F> {
     },
     /// A `fork`, with its branches in order.
     Fork {
-        mark: Mark,
+        origin: Origin,
         branches: Items<F>,
     },
 }
@@ -96,17 +96,17 @@ pub enum FlowForm<F> {
 /// A bound statement. It is as deep as the statement.
 #[derive(Drop)]
 pub struct Flow {
-    // How many labels its code has.
+    // How many instructions its code has.
     pub(crate) size: u32,
     pub(crate) form: FlowForm<Flow>,
 }
 
 impl Flow {
-    /// A statement of this form. Want of memory is answered too where its labels can't be numbered.
+    /// A statement of this form. Want of memory is answered too where its instructions can't be numbered.
     pub fn new(form: FlowForm<Flow>) -> Result<Flow, NoMemory>
         ensures { IfOk result (λ f. flow_tree f ≡ sized (form_tree form)) }
     {
-        let size = labels_in(&form)?;
+        let size = instructions_in(&form)?;
         Ok(Flow { size, form })
     }
 }

@@ -7,16 +7,16 @@ ghost use Rattle.vh_lower_flow.specs.Views.{flow_tree, item_tree, form_tree, lai
 
 use crate::code_kind::CodeKind;
 use crate::copies::copied;
-use crate::flow::{CaseHead, CaseItem, Flow, FlowForm, Gate, Mark};
-use crate::places::{
-    Laid, NO_MARK, add_block, add_end, add_label, empty, gate_of, next_block, place_in, start_at,
+use crate::flow::{CaseHead, CaseItem, Flow, FlowForm, Gate, Origin};
+use crate::positions::{
+    Laid, NO_ORIGIN, add_block, add_end, add_instruction, empty, gate_of, next_block, position_in, start_at,
 };
 use crate::sizes::{items_size, plus, size_of};
 use std::alloc::Global;
 use vh_base::{Boxed, ExprId, NoMemory, Sequence};
-use vh_design_code::{Arm, Arms, CaseTest, Code, Goes, Loop, Operation, Places};
+use vh_design_code::{Arm, Arms, CaseTest, Code, Goes, Loop, Operation, Positions};
 
-/// The code of a statement. It goes over the tree once; its labels' operations are copied.
+/// The code of a statement. It goes over the tree once; its instructions' operations are copied.
 pub fn code_of(alloc: Global, kind: CodeKind, flow: &Flow) -> Result<Code, NoMemory>
     ensures { IfOk result (λ c. c ≡ code_of kind (flow_tree flow.now)) }
 {
@@ -30,7 +30,7 @@ pub fn code_of(alloc: Global, kind: CodeKind, flow: &Flow) -> Result<Code, NoMem
         }
         CodeKind::Always => {
             let next = start_at(1, size, Goes::To(0));
-            add_label(&mut so, Operation::Loop(Loop::Turn), NO_MARK, next, None)?;
+            add_instruction(&mut so, Operation::Loop(Loop::Turn), NO_ORIGIN, next, None)?;
             lay(alloc, &mut so, Goes::To(0), None, flow)?;
             Ok(code_from(Goes::To(0), so))
         }
@@ -57,7 +57,7 @@ fn code_from(start: Goes, so: Laid) -> Code
     }
 }
 
-// The labels of a `case`, each with the statement that it leads to.
+// The instructions of a `case`, each with the statement that it leads to.
 fn arms_from(
     alloc: Global,
     first: u32,
@@ -68,15 +68,15 @@ fn arms_from(
         (λ arms. arms ≡ arms_from first after (case_items (map item_tree items.now))) }
 {
     let mut arms = Vec::new(alloc);
-    let mut place = first;
+    let mut position = first;
     for item in items {
         let size = size_of(&item.body);
         add_arms(
             &mut arms,
-            start_at(place, size, after),
+            start_at(position, size, after),
             item.matched.as_slice(),
         )?;
-        place = plus(place, size)?;
+        position = plus(position, size)?;
     }
     Ok(Sequence::new(arms))
 }
@@ -94,7 +94,7 @@ fn case_test(head: CaseHead, arms: Arms) -> CaseTest
     }
 }
 
-// Labels that lead to one statement.
+// Matched that lead to one statement.
 fn add_arms(arms: &mut Vec<Arm>, to: Goes, matched: &[ExprId]) -> Result<(), NoMemory>
     ensures { OnOk result (arms.new.items ≡ arms.old.items ++ map (rules.arm_to to) matched.now) }
 {
@@ -105,37 +105,37 @@ fn add_arms(arms: &mut Vec<Arm>, to: Goes, matched: &[ExprId]) -> Result<(), NoM
 }
 
 // Where the branches of a `fork` begin.
-fn branches_from(alloc: Global, first: u32, flows: &[Flow]) -> Result<Places, NoMemory>
+fn branches_from(alloc: Global, first: u32, flows: &[Flow]) -> Result<Positions, NoMemory>
     ensures { IfOk result
-        (λ places. places ≡ branches_from first (Trees.flows (map flow_tree flows.now))) }
+        (λ positions. positions ≡ branches_from first (Trees.flows (map flow_tree flows.now))) }
 {
-    let mut places = Vec::new(alloc);
-    let mut place = first;
+    let mut positions = Vec::new(alloc);
+    let mut position = first;
     for flow in flows {
-        places.push(place)?;
-        let end = plus(place, size_of(flow))?;
-        place = plus(end, 1)?;
+        positions.push(position)?;
+        let end = plus(position, size_of(flow))?;
+        position = plus(end, 1)?;
     }
-    Ok(Sequence::new(places))
+    Ok(Sequence::new(positions))
 }
 
-// A label that goes on at a statement of so many labels behind it, or at one of so many behind that.
+// An instruction that goes on at a statement of so many instructions behind it, or at one of so many behind that.
 fn add_choice(
     so: &mut Laid,
     gate: Gate,
-    mark: Mark,
+    origin: Origin,
     sizes: (u32, u32),
     after: Goes,
     inner: Option<u32>,
 ) -> Result<(), NoMemory>
     ensures { OnOk result
-        (laid_seen so.new ≡ with_choice gate mark sizes.0 sizes.1 after inner (laid_seen so.old)) }
+        (laid_seen so.new ≡ with_choice gate origin sizes.0 sizes.1 after inner (laid_seen so.old)) }
 {
     let (holds, fails) = sizes;
-    let first = plus(place_in(so)?, 1)?;
+    let first = plus(position_in(so)?, 1)?;
     let second = plus(first, holds)?;
     let operation = gate_of(gate, start_at(second, fails, after));
-    add_label(so, operation, mark, start_at(first, holds, after), inner)
+    add_instruction(so, operation, origin, start_at(first, holds, after), inner)
 }
 
 // The test of a `case`.
@@ -143,7 +143,7 @@ fn add_case(
     alloc: Global,
     so: &mut Laid,
     head: CaseHead,
-    mark: Mark,
+    origin: Origin,
     items: &[CaseItem<Flow>],
     default: u32,
     after: Goes,
@@ -151,35 +151,35 @@ fn add_case(
 ) -> Result<(), NoMemory>
     ensures { OnOk result
         (laid_seen so.new ≡
-        with_case head mark (case_items (map item_tree items.now)) default after inner
+        with_case head origin (case_items (map item_tree items.now)) default after inner
         (laid_seen so.old)) }
 {
-    let first = plus(place_in(so)?, 1)?;
+    let first = plus(position_in(so)?, 1)?;
     let last = plus(first, items_size(items)?)?;
     let arms = arms_from(alloc, first, after, items)?;
     let test = Operation::Case(Boxed::new(alloc, case_test(head, arms))?);
-    add_label(so, test, mark, start_at(last, default, after), inner)
+    add_instruction(so, test, origin, start_at(last, default, after), inner)
 }
 
 // A `fork`.
 fn add_fork(
     alloc: Global,
     so: &mut Laid,
-    mark: Mark,
+    origin: Origin,
     branches: &[Flow],
     after: Goes,
     inner: Option<u32>,
 ) -> Result<(), NoMemory>
     ensures { OnOk result
         (laid_seen so.new ≡
-        with_fork mark (Trees.flows (map flow_tree branches.now)) after inner (laid_seen so.old)) }
+        with_fork origin (Trees.flows (map flow_tree branches.now)) after inner (laid_seen so.old)) }
 {
-    let first = plus(place_in(so)?, 1)?;
-    let places = branches_from(alloc, first, branches)?;
-    add_label(so, Operation::Fork(places), mark, after, inner)
+    let first = plus(position_in(so)?, 1)?;
+    let positions = branches_from(alloc, first, branches)?;
+    add_instruction(so, Operation::Fork(positions), origin, after, inner)
 }
 
-// The labels of a statement, which goes on there, in that block.
+// The instructions of a statement, which goes on there, in that block.
 #[cycle(lay)]
 fn lay(
     alloc: Global,
@@ -194,29 +194,29 @@ fn lay(
     match &flow.form {
         FlowForm::Step(step) => {
             let operation = copied(alloc, &step.operation)?;
-            add_label(so, operation, step.mark, after, inner)
+            add_instruction(so, operation, step.origin, after, inner)
         }
         FlowForm::Row(flows) => lay_row(alloc, so, after, inner, flow.size, flows.as_slice()),
         FlowForm::Choice {
             gate,
-            mark,
+            origin,
             holds,
             fails,
         } => {
             let sizes = (size_of(holds.get()), size_of(fails.get()));
-            add_choice(so, *gate, *mark, sizes, after, inner)?;
+            add_choice(so, *gate, *origin, sizes, after, inner)?;
             lay(alloc, so, after, inner, holds.get())?;
             lay(alloc, so, after, inner, fails.get())
         }
-        FlowForm::Turns { body, gate, mark } => {
-            let first = place_in(so)?;
+        FlowForm::Turns { body, gate, origin } => {
+            let first = position_in(so)?;
             let end = plus(first, size_of(body.get()))?;
             lay(alloc, so, Goes::To(end), inner, body.get())?;
-            add_label(so, gate_of(*gate, after), *mark, Goes::To(first), inner)
+            add_instruction(so, gate_of(*gate, after), *origin, Goes::To(first), inner)
         }
         FlowForm::Case {
             head,
-            mark,
+            origin,
             items,
             default,
         } => {
@@ -225,7 +225,7 @@ fn lay(
                 alloc,
                 so,
                 *head,
-                *mark,
+                *origin,
                 items.as_slice(),
                 size,
                 after,
@@ -239,14 +239,14 @@ fn lay(
             add_block(so, *object, inner, after)?;
             lay(alloc, so, after, Some(number), body.get())
         }
-        FlowForm::Fork { mark, branches } => {
-            add_fork(alloc, so, *mark, branches.as_slice(), after, inner)?;
+        FlowForm::Fork { origin, branches } => {
+            add_fork(alloc, so, *origin, branches.as_slice(), after, inner)?;
             lay_branches(alloc, so, branches.as_slice())
         }
     }
 }
 
-// One after another: each goes on at the next that has a label, or behind the row.
+// One after another: each goes on at the next that has an instruction, or behind the row.
 #[cycle(lay)]
 fn lay_row(
     alloc: Global,
@@ -263,8 +263,8 @@ fn lay_row(
     let mut rest = size;
     for flow in flows {
         rest = rest.saturating_sub(size_of(flow));
-        let place = place_in(so)?;
-        let next = plus(place, size_of(flow))?;
+        let position = position_in(so)?;
+        let next = plus(position, size_of(flow))?;
         lay(alloc, so, start_at(next, rest, after), inner, flow)?;
     }
     Ok(())
@@ -297,8 +297,8 @@ fn lay_branches(alloc: Global, so: &mut Laid, flows: &[Flow]) -> Result<(), NoMe
         branches_laid (Trees.flows (map flow_tree flows.now)) (laid_seen so.old)) }
 {
     for flow in flows {
-        let place = place_in(so)?;
-        let end = plus(place, size_of(flow))?;
+        let position = position_in(so)?;
+        let end = plus(position, size_of(flow))?;
         lay(alloc, so, Goes::To(end), None, flow)?;
         add_end(so)?;
     }

@@ -1,8 +1,8 @@
 //! Bound statements as trees, and their flat code (IEEE 1364-2005, clauses 9 and 10).
 //!
 //! A [`Flow`] is what a statement does, with the numbers of its expressions, objects, waits and
-//! display calls: labels in a row, a label that goes on in one of two ways, the turns of a loop, a
-//! `case`, a named block, a `fork`. It knows how many labels it has, so that its code is laid out in
+//! display calls: instructions in a row, an instruction that goes on in one of two ways, the turns of a loop, a
+//! `case`, a named block, a `fork`. It knows how many instructions it has, so that its code is laid out in
 //! one walk.
 //!
 //! The contract that the layers above use: [`code_of`] answers the code that `specs/Laid.antt` gives
@@ -16,10 +16,10 @@ mod code_kind;
 mod copies;
 mod flow;
 mod laying;
-mod places;
+mod positions;
 mod sizes;
 
 pub use code_kind::CodeKind;
 pub use copies::copied;
-pub use flow::{CaseHead, CaseItem, Flow, FlowForm, Gate, Mark, Step};
+pub use flow::{CaseHead, CaseItem, Flow, FlowForm, Gate, Origin, Step};
 pub use laying::code_of;

@@ -1,5 +1,5 @@
 ghost use Rattle.std.specs.Prelude.{◌≡◌, ◌+◌, IfOk};
-ghost use Rattle.vh_lower_flow.specs.Trees.{row_size, items_size, branches_size, labels_in, size_of};
+ghost use Rattle.vh_lower_flow.specs.Trees.{row_size, items_size, branches_size, instructions_in, size_of};
 ghost use Rattle.vh_lower_flow.specs.Trees;
 ghost use Rattle.vh_lower_flow.specs.Trees.{case_items};
 ghost use Rattle.vh_lower_flow.specs.Views.{flow_tree, item_tree, form_tree};
@@ -8,17 +8,17 @@ ghost use Rattle.std.specs.Prelude.{map};
 use crate::flow::{CaseItem, Flow, FlowForm};
 use vh_base::NoMemory;
 
-// So many labels and so many more, where they can be numbered.
-pub(crate) fn plus(labels: u32, more: u32) -> Result<u32, NoMemory>
-    ensures { IfOk result (λ n. n ≡ labels + more) }
+// So many instructions and so many more, where they can be numbered.
+pub(crate) fn plus(matched: u32, more: u32) -> Result<u32, NoMemory>
+    ensures { IfOk result (λ n. n ≡ matched + more) }
 {
-    match labels.checked_add(more) {
+    match matched.checked_add(more) {
         None => Err(NoMemory),
         Some(sum) => Ok(sum),
     }
 }
 
-// How many labels a statement has.
+// How many instructions a statement has.
 pub(crate) fn size_of(flow: &Flow) -> u32
     ensures { result ≡ size_of (flow_tree flow.now) }
 {
@@ -60,8 +60,8 @@ fn branches_size(flows: &[Flow]) -> Result<u32, NoMemory>
 }
 
 // How many a form has.
-pub(crate) fn labels_in(form: &FlowForm<Flow>) -> Result<u32, NoMemory>
-    ensures { IfOk result (λ n. n ≡ labels_in (form_tree form.now)) }
+pub(crate) fn instructions_in(form: &FlowForm<Flow>) -> Result<u32, NoMemory>
+    ensures { IfOk result (λ n. n ≡ instructions_in (form_tree form.now)) }
 {
     match form {
         FlowForm::Step(_) => Ok(1),

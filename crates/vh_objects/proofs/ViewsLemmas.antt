@@ -10,7 +10,7 @@ use Rattle.std.proofs.lemmas.List.FromFn.{map-range_with_len_more}
 use Rattle.std.proofs.lemmas.Option.{slice_get-map, slice_get-get_or, get_or_from_slice_get}
 use Rattle.vh_design_nodes.specs.declared.object.ObjectInfo.{ObjectInfo}
 use Rattle.vh_objects.specs.Relations.{same_scope, is_child}
-use Rattle.vh_objects.specs.Views.{AreChildren, children_below, lists_of, place_of, with_one}
+use Rattle.vh_objects.specs.Views.{AreChildren, children_below, lists_of, position_of, with_one}
 
 -- A list is seen where it stands.
 pub seen_at : (xs : List (Vec ℕ Global)) (k : ℕ) (d : Vec ℕ Global) → k < length xs
@@ -45,44 +45,44 @@ below-more n os scope i b at is =
     ap (filter (is_child os scope)) (range_more n) ∙ filter-append (is_child os scope) (range_with_len 0 n) (n ∷ [])
     ∙ ap (λ (xs : List ℕ). children_below n os scope ++ xs) (filter_one (is_child os scope) n b (child_is os scope n i at ∙ is))
 
--- Places tell scopes apart.
+-- Positions tell scopes apart.
 scope-same : (s p : Option ℕ) → same_scope s p ≡ true → s ≡ p
 scope-same None None is = refl
 scope-same None (Some p) is = cc
 scope-same (Some s) None is = cc
 scope-same (Some s) (Some p) is = ap Some (eqb-true s p is)
 
-scope-apart : (s p : Option ℕ) → same_scope s p ≡ false → place_of s ≢ place_of p
+scope-apart : (s p : Option ℕ) → same_scope s p ≡ false → position_of s ≢ position_of p
 scope-apart None None is = cc
 scope-apart None (Some p) is = λ e. omega (arith, e)
 scope-apart (Some s) None is = λ e. omega (arith, e)
 scope-apart (Some s) (Some p) is = λ e. eqb-false s p is (omega (arith, e))
 
-place-inside : (scope : Option ℕ) (n : ℕ) → IfSome scope (λ s. s < n) → place_of scope < n + 1
-place-inside None n h = omega arith
-place-inside (Some s) n h = omega (arith, h)
+position-inside : (scope : Option ℕ) (n : ℕ) → IfSome scope (λ s. s < n) → position_of scope < n + 1
+position-inside None n h = omega arith
+position-inside (Some s) n h = omega (arith, h)
 
 one-more : (n : ℕ) (os : List ObjectInfo) (lists : List (List ℕ)) (i : ObjectInfo) (scope : Option ℕ) (b : Bool)
     → AreChildren n os lists → slice_get os n ≡ Some i → IfSome i.parent (λ s. s < length os) → IfSome scope (λ s. s < length os)
     → same_scope scope i.parent ≡ b
-    → get_or (with_one (place_of i.parent) n lists) (place_of scope) [] ≡ children_below (n + 1) os scope
+    → get_or (with_one (position_of i.parent) n lists) (position_of scope) [] ≡ children_below (n + 1) os scope
 one-more n os lists i scope true made at there inside is =
-    let same : place_of scope ≡ place_of i.parent = ap place_of (scope-same scope i.parent is) in
-    let within : place_of i.parent < length lists = rw made.counted (place-inside i.parent (length os) there) in
-    ap (λ (k : ℕ). get_or (with_one (place_of i.parent) n lists) k []) same
-    ∙ get_or-set_same lists (place_of i.parent) (get_or lists (place_of i.parent) [] ++ n ∷ []) [] within
+    let same : position_of scope ≡ position_of i.parent = ap position_of (scope-same scope i.parent is) in
+    let within : position_of i.parent < length lists = rw made.counted (position-inside i.parent (length os) there) in
+    ap (λ (k : ℕ). get_or (with_one (position_of i.parent) n lists) k []) same
+    ∙ get_or-set_same lists (position_of i.parent) (get_or lists (position_of i.parent) [] ++ n ∷ []) [] within
     ∙ ap (λ (k : ℕ). get_or lists k [] ++ n ∷ []) (sym same)
     ∙ ap (λ (xs : List ℕ). xs ++ n ∷ []) (made.each scope inside) ∙ sym (below-more n os scope i true at is)
 one-more n os lists i scope false made at there inside is =
-    get_or-set_other lists (place_of i.parent) (place_of scope) (get_or lists (place_of i.parent) [] ++ n ∷ []) []
+    get_or-set_other lists (position_of i.parent) (position_of scope) (get_or lists (position_of i.parent) [] ++ n ∷ []) []
     (scope-apart scope i.parent is)
     ∙ made.each scope inside ∙ sym (append-nil (children_below n os scope)) ∙ sym (below-more n os scope i false at is)
 
 pub children-more : (n : ℕ) (os : List ObjectInfo) (lists : List (List ℕ)) (i : ObjectInfo) → AreChildren n os lists
     → slice_get os n ≡ Some i → IfSome i.parent (λ s. s < n) → n < length os
-    → AreChildren (n + 1) os (with_one (place_of i.parent) n lists)
+    → AreChildren (n + 1) os (with_one (position_of i.parent) n lists)
 children-more n os lists i made at before within = record {
-  counted = length-set lists (place_of i.parent) _ ∙ made.counted;
+  counted = length-set lists (position_of i.parent) _ ∙ made.counted;
   each = λ scope inside. one-more n os lists i scope (same_scope scope i.parent) made at (there i.parent before) inside refl;
 }
   where

@@ -79,18 +79,18 @@ abbrev pub children : List ObjectInfo → Option ℕ → List ℕ
 children os scope = filter (is_child os scope) (range_with_len 0 (length os))
 
 -- In the order of a key: each is put behind the last one whose key isn't greater, so that those of one key stay as they stood.
-abbrev pub place_behind : (ℕ → Bool) → List ℕ → ℕ
-place_behind test [] = 0
-place_behind test (p ∷ ps) =
-    let n = place_behind test ps in if nat_lt 0 n then n + 1 else if test p then 1 else 0
+abbrev pub position_behind : (ℕ → Bool) → List ℕ → ℕ
+position_behind test [] = 0
+position_behind test (p ∷ ps) =
+    let n = position_behind test ps in if nat_lt 0 n then n + 1 else if test p then 1 else 0
 
 abbrev pub inserted : (ℕ → ℕ) → List ℕ → ℕ → List ℕ
-inserted key ps o = insert ps (place_behind (λ p. nat_le (key p) (key o)) ps) o
+inserted key ps o = insert ps (position_behind (λ p. nat_le (key p) (key o)) ps) o
 
 abbrev pub in_order : (ℕ → ℕ) → List ℕ → List ℕ
 in_order key ps = fold (inserted key) [] ps
 
--- The place of a port in its module's header. (12.3.3)
+-- The position of a port in its module's header. (12.3.3)
 abbrev pub index_in : Detail → Option ℕ
 index_in detail.Plain = None
 index_in (detail.Net t) = None
@@ -101,7 +101,7 @@ index_in (detail.Value e) = None
 index_in (detail.Call systf result args) = None
 index_in (detail.Routine body) = None
 
--- By what objects are put in order: ports by that place, and where instances stand among other scopes by the line. (own)
+-- By what objects are put in order: ports by that position, and where instances stand among other scopes by the line. (own)
 abbrev pub key_in : Key → ObjectInfo → ℕ
 key_in key.Index i = unwrap_or (index_in i.detail) 0
 key_in key.Line i = i.line

@@ -9,10 +9,10 @@ use Rattle.vh_objects.specs.declared.lister.Listed.TheVariants as held
 use Rattle.vh_objects.specs.Objects.{whole, word}
 use Rattle.vh_objects.specs.Relations.{is_child}
 
--- The place of a scope's children: what stands in no scope comes first.
-abbrev pub place_of : Option ℕ → ℕ
-place_of None = 0
-place_of (Some s) = s + 1
+-- The position of a scope's children: what stands in no scope comes first.
+abbrev pub position_of : Option ℕ → ℕ
+position_of None = 0
+position_of (Some s) = s + 1
 
 -- The objects of lesser numbers than this one that stand directly inside a scope, or in none.
 abbrev pub children_below : ℕ → List ObjectInfo → Option ℕ → List ℕ
@@ -22,7 +22,7 @@ children_below n os scope = filter (is_child os scope) (range_with_len 0 n)
 pub record AreChildren (n : ℕ) (os : List ObjectInfo) (lists : List (List ℕ)) : Type 0 where
   pub counted : length lists ≡ length os + 1
   pub each : (scope : Option ℕ) → IfSome scope (λ s. s < length os)
-      → slice_index_or lists (place_of scope) [] ≡ children_below n os scope
+      → slice_index_or lists (position_of scope) [] ≡ children_below n os scope
 
 -- The objects that a lister lists: some of the design, the words of a memory, or the arguments of a call.
 abbrev pub objects_in : Listed → List Object
@@ -34,12 +34,12 @@ objects_in (held.Arguments xs) = xs.items
 abbrev pub lists_of : List (Vec ℕ Global) → List (List ℕ)
 lists_of lists = map (λ v. v.items) lists
 
--- A number is put behind the list of a place.
+-- A number is put behind the list of a position.
 abbrev pub with_one : ℕ → ℕ → List (List ℕ) → List (List ℕ)
-with_one place o lists = slice_set lists place (slice_index_or lists place [] ++ o ∷ [])
+with_one position o lists = slice_set lists position (slice_index_or lists position [] ++ o ∷ [])
 
 abbrev pub Adds : ℕ → ℕ → List (Vec ℕ Global) → List (Vec ℕ Global) → Type 0
-Adds place o old new = lists_of new ≡ with_one place o (lists_of old)
+Adds position o old new = lists_of new ≡ with_one position o (lists_of old)
 
 -- There are so many lists, and each is empty.
 abbrev pub AreEmpty : ℕ → List (Vec ℕ Global) → Type 0

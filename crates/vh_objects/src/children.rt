@@ -1,6 +1,6 @@
 ghost use Rattle.std.specs.Prelude.{◌≡◌, ◌<◌, length, slice_get, IfOk, IfSome, OnOk, Some};
 ghost use Rattle.vh_objects.specs.Relations.{children};
-ghost use Rattle.vh_objects.specs.Views.{AreChildren, AreEmpty, Adds, place_of};
+ghost use Rattle.vh_objects.specs.Views.{AreChildren, AreEmpty, Adds, position_of};
 
 use std::alloc::Global;
 use std::marker::Model;
@@ -23,11 +23,11 @@ impl Model for Children {
 }
 
 // Puts a number behind a list.
-fn add(lists: &mut Vec<Vec<ObjId>>, place: usize, o: ObjId) -> Result<(), NoMemory>
-    requires { place < length lists.old.items }
-    ensures { OnOk result (Adds place o lists.old.items lists.new.items) }
+fn add(lists: &mut Vec<Vec<ObjId>>, position: usize, o: ObjId) -> Result<(), NoMemory>
+    requires { position < length lists.old.items }
+    ensures { OnOk result (Adds position o lists.old.items lists.new.items) }
 {
-    lists[place].push(o)?;
+    lists[position].push(o)?;
     Ok(())
 }
 
@@ -42,9 +42,9 @@ fn empty_lists(alloc: Global, n: usize) -> Result<Vec<Vec<ObjId>>, NoMemory>
     Ok(lists)
 }
 
-// The place of a scope's list: what stands in no scope comes first.
-fn place_of(scope: Option<ObjId>) -> usize
-    ensures { result ≡ place_of scope }
+// The position of a scope's list: what stands in no scope comes first.
+fn position_of(scope: Option<ObjId>) -> usize
+    ensures { result ≡ position_of scope }
 {
     match scope {
         None => 0,
@@ -61,7 +61,7 @@ impl Children {
         let mut lists = empty_lists(alloc, n as usize + 1)?;
         for k in 0..n {
             let o = ObjId::new(k);
-            add(&mut lists, place_of(d.object(o).parent), o)?;
+            add(&mut lists, position_of(d.object(o).parent), o)?;
         }
         Ok(Children { lists })
     }
@@ -72,6 +72,6 @@ impl Children {
         requires there { IfSome scope (λ s. s < length d.now.objects) }
         ensures { result.now ≡ children d.now.objects scope }
     {
-        &self.lists[place_of(scope)]
+        &self.lists[position_of(scope)]
     }
 }

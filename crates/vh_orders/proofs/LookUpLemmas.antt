@@ -16,7 +16,7 @@ use Rattle.std.proofs.lemmas.Slice.Eq.{bytes_eq-Decides}
 use Rattle.vh_orders.specs.declared.names.Named.{Named}
 use Rattle.vh_orders.specs.declared.look_up.Index.{Index}
 use Rattle.vh_orders.specs.Addresses.{IsMemoryOf}
-use Rattle.vh_orders.specs.LookUp.{is_findable, place_in, candidate, lesser, IsIndexOf, Adds, IsMemoryCandidate}
+use Rattle.vh_orders.specs.LookUp.{is_findable, position_in, candidate, lesser, IsIndexOf, Adds, IsMemoryCandidate}
 use Rattle.vh_orders.specs.Names.{at_address, has_path, has_name, word_named, word_of, is_meant}
 
 -- No digit is a bracket.
@@ -134,7 +134,7 @@ meant-named text memory n is meant =
 candidate-meant : (name text : List ℕ) (i : Index) (names : List Named) (at : ℕ) → candidate name text i names ≡ Some at
     → (n : Named) × (slice_get names at ≡ Some n) × (is_meant text n ≡ true)
 candidate-meant name text i names at e =
-    option_and_then_some _ (place_in i name) at e
+    option_and_then_some _ (position_in i name) at e
     (λ p is next. option_and_then_some _ (slice_get names p) at next
     (λ n there meant.
     let both = cond_some (is_meant text n) p at meant in (n, ap (slice_get names) (sym both.1) ∙ there, both.0)))
@@ -148,7 +148,7 @@ meant-candidate text i names j n index whole there meant =
     ∙ ap (option_and_then (λ (m : Named). cond (is_meant text m) (Some j) None)) there
     ∙ ap (λ (b : Bool). cond b (Some j) None) meant
 
--- The lesser of two places is one of them, and no greater than either.
+-- The lesser of two positions is one of them, and no greater than either.
 lesser-one : (a b : Option ℕ) (at : ℕ) → lesser a b ≡ Some at → (a ≡ Some at) ⊎ (b ≡ Some at)
 lesser-one (Some x) (Some y) at e =
     let is : min x y ≡ at = same_Some (min x y) at e in
@@ -262,16 +262,16 @@ adds-none at n i hidden names count index whole j m there findable =
 pub adds-apart : (at : ℕ) (n : Named) (old new : Index) → new.is_whole ≡ false → Adds at n old new
 adds-apart at n old new broken names count index whole j m there findable = absurd (cc)
 
-pub adds-new : (at : ℕ) (n : Named) (old new : Index) (k : Vec ℕ _) → k.items ≡ n.name → place_in old n.name ≡ None
-    → new.places.entries ≡ old.places.entries ++ (k, at) ∷ [] → old.is_whole ≡ true → Adds at n old new
+pub adds-new : (at : ℕ) (n : Named) (old new : Index) (k : Vec ℕ _) → k.items ≡ n.name → position_in old n.name ≡ None
+    → new.positions.entries ≡ old.positions.entries ++ (k, at) ∷ [] → old.is_whole ≡ true → Adds at n old new
 adds-new at n old new k key none rows was names count index whole j m there findable =
     ap (lookup (λ x. bytes_eq m.name x.items)) rows
     ∙ ⊎_elim
-    (λ before. lookup-front (λ x. bytes_eq m.name x.items) old.places.entries ((k, at) ∷ []) j (index was j m before findable))
+    (λ before. lookup-front (λ x. bytes_eq m.name x.items) old.positions.entries ((k, at) ∷ []) j (index was j m before findable))
     (λ last.
     let same : m.name ≡ n.name = ap (λ (o : Named). o.name) (sym last.1) in
     let place : j ≡ at = last.0 ∙ count in
-    lookup-back (λ x. bytes_eq m.name x.items) old.places.entries k at (ap (place_in old) same ∙ none)
+    lookup-back (λ x. bytes_eq m.name x.items) old.positions.entries k at (ap (position_in old) same ∙ none)
     ((bytes_eq-Decides m.name k.items).1 (same ∙ sym key))
     ∙ ap (λ (v : ℕ). Some v) (sym place))
     (more-at names n m j there)

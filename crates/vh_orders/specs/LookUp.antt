@@ -12,13 +12,13 @@ abbrev pub is_findable : Named → Bool
 is_findable n = has_path n.kind || not (n.words == 0)
 
 -- The place that an index has for a name.
-abbrev pub place_in : Index → List ℕ → Option ℕ
-place_in i name = lookup (λ k. bytes_eq name k.items) i.places.entries
+abbrev pub position_in : Index → List ℕ → Option ℕ
+position_in i name = lookup (λ k. bytes_eq name k.items) i.positions.entries
 
 -- An index that is whole has the place of each object that can be found, and so no two of these have one name.
 abbrev pub IsIndexOf : List Named → Index → Type 0
 IsIndexOf names i =
-    i.is_whole ≡ true → (j : ℕ) (n : Named) → slice_get names j ≡ Some n → is_findable n ≡ true → place_in i n.name ≡ Some j
+    i.is_whole ≡ true → (j : ℕ) (n : Named) → slice_get names j ≡ Some n → is_findable n ≡ true → position_in i n.name ≡ Some j
 
 abbrev pub IsIndexed : List Named → Option Index → Type 0
 IsIndexed names None = ⊤
@@ -31,14 +31,14 @@ Adds at n old new = (names : List Named) → length names ≡ at → IsIndexOf n
 -- The place of the object of a name, if a text means that object.
 abbrev pub candidate : List ℕ → List ℕ → Index → List Named → Option ℕ
 candidate name text i names =
-    option_and_then (λ at. option_and_then (λ n. if is_meant text n then Some at else None) (slice_get names at)) (place_in i name)
+    option_and_then (λ at. option_and_then (λ n. if is_meant text n then Some at else None) (slice_get names at)) (position_in i name)
 
 -- The same of the memory whose word the text would be.
 abbrev pub IsMemoryCandidate : List ℕ → Index → List Named → Option ℕ → Type 0
 IsMemoryCandidate text i names place =
     (memory : Option (List ℕ)) × IsMemoryOf text memory × (place ≡ option_and_then (λ name. candidate name text i names) memory)
 
--- The lesser of two places, where there are any.
+-- The lesser of two positions, where there are any.
 abbrev pub lesser : Option ℕ → Option ℕ → Option ℕ
 lesser (Some a) (Some b) = Some (min a b)
 lesser (Some a) None = Some a

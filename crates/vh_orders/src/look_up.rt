@@ -4,16 +4,16 @@ ghost use Rattle.vh_orders.specs.Names.{is_meant, object_named};
 ghost use Rattle.vh_orders.specs.LookUp.{is_findable, candidate, lesser, IsMemoryCandidate, IsIndexOf, Adds};
 
 use crate::addresses::memory_of;
-use crate::names::{Named, has_path, narrow, narrow_address, place_named};
+use crate::names::{Named, has_path, narrow, narrow_address, position_named};
 use indexmap::IndexMap;
 use std::alloc::Global;
 use std::marker::Model;
 use vh_base::{NoMemory, ObjId, Object};
 
-// The places of objects by their full names. It isn't whole where two of them have one name.
+// The positions of objects by their full names. It isn't whole where two of them have one name.
 #[derive(Drop)]
 struct Index {
-    places: IndexMap<Vec<u8>, u32>,
+    positions: IndexMap<Vec<u8>, u32>,
     is_whole: bool,
 }
 
@@ -24,7 +24,7 @@ fn is_findable(named: &Named) -> bool
     has_path(named.kind) || named.words > 0
 }
 
-// The lesser of two places, where there are any.
+// The lesser of two positions, where there are any.
 fn lesser(a: Option<u32>, b: Option<u32>) -> Option<u32>
     ensures { result ≡ lesser a b }
 {
@@ -41,7 +41,7 @@ impl Index {
         ensures { IfOk result (λ i. IsIndexOf names.now i) }
     {
         let mut index = Index {
-            places: IndexMap::new(alloc),
+            positions: IndexMap::new(alloc),
             is_whole: true,
         };
         for at in 0..names.len() {
@@ -57,7 +57,7 @@ impl Index {
         if !self.is_whole || !is_findable(named) {
             return Ok(());
         }
-        if self.places.get(named.name.as_slice()).is_some() {
+        if self.positions.get(named.name.as_slice()).is_some() {
             self.is_whole = false;
             return Ok(());
         }
@@ -65,7 +65,7 @@ impl Index {
             return Err(NoMemory);
         };
         let key = Vec::from_slice(alloc, named.name.as_slice())?;
-        self.places.insert(key, place)?;
+        self.positions.insert(key, place)?;
         Ok(())
     }
 
@@ -73,7 +73,7 @@ impl Index {
     fn candidate(&self, name: &[u8], text: &[u8], names: &[Named]) -> Option<u32>
         ensures { result ≡ candidate name.now text.now self.now names.now }
     {
-        let Some(place) = self.places.get(name).copied() else {
+        let Some(place) = self.positions.get(name).copied() else {
             return None;
         };
         let Some(named) = names.get(place as usize) else {
@@ -96,7 +96,7 @@ impl Index {
     }
 
     // The place of the object that a text means, or a word of which it means.
-    fn place_named(&self, text: &[u8], names: &[Named]) -> Option<usize>
+    fn position_named(&self, text: &[u8], names: &[Named]) -> Option<usize>
         requires indexes { IsIndexOf names.now self.now }
         requires whole { self.now.is_whole ≡ true }
         ensures { result ≡ position (is_meant text.now) names.now }
@@ -174,7 +174,7 @@ impl Names {
     fn found(&self, text: &[u8]) -> Result<Option<Object>, NoMemory>
         ensures { IfOk result (λ o. o ≡ object_named text.now self.now) }
     {
-        let Some(at) = self.place_named(text) else {
+        let Some(at) = self.position_named(text) else {
             return Ok(None);
         };
         let Some(named) = self.all.get(at) else {
@@ -186,14 +186,14 @@ impl Names {
     }
 
     // The place of the object that a full name means, or a word of which it means.
-    fn place_named(&self, text: &[u8]) -> Option<usize>
+    fn position_named(&self, text: &[u8]) -> Option<usize>
         ensures { result ≡ position (is_meant text.now) self.now }
     {
         if let Some(index) = &self.index {
             if index.is_whole {
-                return index.place_named(text, self.all.as_slice());
+                return index.position_named(text, self.all.as_slice());
             }
         }
-        place_named(self.all.as_slice(), text)
+        position_named(self.all.as_slice(), text)
     }
 }

@@ -49,7 +49,7 @@ pub(crate) fn has_path(kind: Kind) -> bool
 }
 
 // The place of the object that a full name means, or a word of which it means.
-pub(crate) fn place_named(names: &[Named], text: &[u8]) -> Option<usize>
+pub(crate) fn position_named(names: &[Named], text: &[u8]) -> Option<usize>
     ensures { result ≡ position (is_meant text.now) names.now }
 {
     names.iter().position(|n| n.is_meant(text))

@@ -5,7 +5,7 @@ ghost use Rattle.vh_parse_grammar.specs.Part.{opt};
 ghost use Rattle.vh_parse_grammar.specs.Says.{Says};
 ghost use Rattle.vh_ast.specs.Declarations as trees;
 ghost use Rattle.vh_ast.specs.Views.{range_tree, type_tree, var_part_tree, var_tree, init_tree, decl_tree};
-ghost use Rattle.vh_parse_syntax.specs.declared.sign.Sign.TheVariants as signs;
+ghost use Rattle.vh_parse_syntax.specs.declared.lexeme.Lexeme.TheVariants as lexemes;
 ghost use Rattle.vh_parse_syntax.specs.Tokens.{is, token_seen};
 ghost use Rattle.vh_parse_syntax.specs.Declarations as parts;
 ghost use Rattle.vh_parse_syntax.specs.Declarations.{a_range, a_type, an_init, a_var, decl};
@@ -17,37 +17,37 @@ use crate::values::{behind, then_behind, value};
 use sqlite_items::{Boxed, Items};
 use std::alloc::Global;
 use vh_ast::{DataType, Decl, Id, Init, Range, Var, VarPart};
-use vh_parse_expr::{At, Read, expression, id, sign, then_sign};
-use vh_parse_syntax::{Class, Sign};
+use vh_parse_expr::{At, Read, expression, id, lexeme, then_lexeme};
+use vh_parse_syntax::{Class, Lexeme};
 
 /// `range`
 #[tactic(auto, unfolding(vh_parse_syntax::specs::Declarations::a_range))]
 pub fn range<'t>(alloc: Global, depth: usize, at: At<'t>) -> Read<'t, Range>
     ensures { Reads range_tree depth a_range at.entry result }
 {
-    let (place, opened) = sign(Sign::LeftBracket, at)?;
+    let (place, opened) = lexeme(Lexeme::LeftBracket, at)?;
     let (left, colon) = expression(alloc, depth, true, opened)?;
-    let (both, closing) = then_behind(alloc, depth, left, Sign::Colon, colon)?;
-    let ((left, right), rest) = then_sign(both, Sign::RightBracket, closing)?;
+    let (both, closing) = then_behind(alloc, depth, left, Lexeme::Colon, colon)?;
+    let ((left, right), rest) = then_lexeme(both, Lexeme::RightBracket, closing)?;
     Ok((Range { place, left, right }, rest))
 }
 
 // `[ "signed" ]`
-fn sign_mark<'t>(at: At<'t>) -> Read<'t, bool>
-    ensures { Reads (λ s. s) 0 parts.sign_mark at.entry result }
+fn signed_word<'t>(at: At<'t>) -> Read<'t, bool>
+    ensures { Reads (λ s. s) 0 parts.signed_word at.entry result }
 {
-    if !at.next_is(Class::Is(Sign::Signed)) {
+    if !at.next_is(Class::Is(Lexeme::Signed)) {
         return Ok((false, at));
     }
-    Ok((true, at.take(Class::Is(Sign::Signed))?))
+    Ok((true, at.take(Class::Is(Lexeme::Signed))?))
 }
 
 // `[ range ]`, in a box.
 fn written_range<'t>(alloc: Global, depth: usize, at: At<'t>) -> Read<'t, Option<Boxed<Range>>>
-    ensures { let part = opt (is signs.LeftBracket) a_range in
+    ensures { let part = opt (is lexemes.LeftBracket) a_range in
         Reads (option_map range_tree) depth part at.entry result }
 {
-    if !at.next_is(Class::Is(Sign::LeftBracket)) {
+    if !at.next_is(Class::Is(Lexeme::LeftBracket)) {
         return Ok((None, at));
     }
     let (range, rest) = range(alloc, depth, at)?;
@@ -59,7 +59,7 @@ fn written_range<'t>(alloc: Global, depth: usize, at: At<'t>) -> Read<'t, Option
 pub fn data_type<'t>(alloc: Global, depth: usize, at: At<'t>) -> Read<'t, DataType>
     ensures { Reads type_tree depth a_type at.entry result }
 {
-    let (signed, more) = sign_mark(at)?;
+    let (signed, more) = signed_word(at)?;
     let (range, rest) = written_range(alloc, depth, more)?;
     Ok((DataType { signed, range }, rest))
 }
@@ -67,11 +67,11 @@ pub fn data_type<'t>(alloc: Global, depth: usize, at: At<'t>) -> Read<'t, DataTy
 // What was read, where a range may be next that is left out.
 fn no_range<'t, T: Drop>(tree: T, barred: bool, at: At<'t>) -> Read<'t, T>
     ensures tree { IfOk result (λ read. read.0 ≡ tree) }
-    ensures marked { Says token_seen (λ _. tt) (read_from 0 (parts.no_range barred) at.entry)
+    ensures noting { Says token_seen (λ _. tt) (read_from 0 (parts.no_range barred) at.entry)
         result }
 {
-    let shown = barred && at.next_is(Class::Is(Sign::LeftBracket));
-    Ok((tree, at.marked(at.tokens, shown)))
+    let shown = barred && at.next_is(Class::Is(Lexeme::LeftBracket));
+    Ok((tree, at.noting(at.tokens, shown)))
 }
 
 /// `ID`, behind which a range is left out where it is so.
@@ -88,13 +88,13 @@ pub fn bare_id<'t>(barred: bool, at: At<'t>) -> Read<'t, Id>
 fn var_part<'t>(alloc: Global, depth: usize, at: At<'t>) -> Read<'t, VarPart>
     ensures { Reads var_part_tree depth parts.var_part at.entry result }
 {
-    if at.next_is(Class::Is(Sign::LeftBracket)) {
+    if at.next_is(Class::Is(Lexeme::LeftBracket)) {
         let (range, more) = range(alloc, depth, at)?;
         let (range, rest) = no_range(range, true, more)?;
         return Ok((VarPart::Range(Boxed::new(alloc, range)?), rest));
     }
-    if at.next_is(Class::Is(Sign::Equal)) {
-        let (value, rest) = behind(alloc, depth, true, Sign::Equal, at)?;
+    if at.next_is(Class::Is(Lexeme::Equal)) {
+        let (value, rest) = behind(alloc, depth, true, Lexeme::Equal, at)?;
         return Ok((VarPart::Value(Boxed::new(alloc, value)?), rest));
     }
     Ok((VarPart::Plain, at))
@@ -163,10 +163,10 @@ impl Listed for Inits {
 fn reg_decl<'t>(alloc: Global, depth: usize, at: At<'t>) -> Read<'t, Decl>
     ensures { Reads decl_tree depth parts.reg_decl at.entry result }
 {
-    let (place, more) = sign(Sign::Reg, at)?;
+    let (place, more) = lexeme(Lexeme::Reg, at)?;
     let (data_type, more) = data_type(alloc, depth, more)?;
     let (vars, more) = list::<Vars>(alloc, depth, true, more)?;
-    let (vars, rest) = then_sign(vars, Sign::Semicolon, more)?;
+    let (vars, rest) = then_lexeme(vars, Lexeme::Semicolon, more)?;
     let decl = Decl::Reg {
         place,
         data_type,
@@ -180,9 +180,9 @@ fn reg_decl<'t>(alloc: Global, depth: usize, at: At<'t>) -> Read<'t, Decl>
 fn integer_decl<'t>(alloc: Global, depth: usize, at: At<'t>) -> Read<'t, Decl>
     ensures { Reads decl_tree depth parts.integer_decl at.entry result }
 {
-    let (place, more) = sign(Sign::Integer, at)?;
+    let (place, more) = lexeme(Lexeme::Integer, at)?;
     let (inits, more) = list::<Inits>(alloc, depth, true, more)?;
-    let (inits, rest) = then_sign(inits, Sign::Semicolon, more)?;
+    let (inits, rest) = then_lexeme(inits, Lexeme::Semicolon, more)?;
     Ok((Decl::Integer(place, inits), rest))
 }
 
@@ -191,9 +191,9 @@ fn integer_decl<'t>(alloc: Global, depth: usize, at: At<'t>) -> Read<'t, Decl>
 fn time_decl<'t>(alloc: Global, depth: usize, at: At<'t>) -> Read<'t, Decl>
     ensures { Reads decl_tree depth parts.time_decl at.entry result }
 {
-    let (place, more) = sign(Sign::Time, at)?;
+    let (place, more) = lexeme(Lexeme::Time, at)?;
     let (inits, more) = list::<Inits>(alloc, depth, true, more)?;
-    let (inits, rest) = then_sign(inits, Sign::Semicolon, more)?;
+    let (inits, rest) = then_lexeme(inits, Lexeme::Semicolon, more)?;
     Ok((Decl::Time(place, inits), rest))
 }
 
@@ -202,10 +202,10 @@ fn time_decl<'t>(alloc: Global, depth: usize, at: At<'t>) -> Read<'t, Decl>
 pub fn declaration<'t>(alloc: Global, depth: usize, at: At<'t>) -> Read<'t, Decl>
     ensures { Reads decl_tree depth decl at.entry result }
 {
-    if at.next_is(Class::Is(Sign::Reg)) {
+    if at.next_is(Class::Is(Lexeme::Reg)) {
         return reg_decl(alloc, depth, at);
     }
-    if at.next_is(Class::Is(Sign::Integer)) {
+    if at.next_is(Class::Is(Lexeme::Integer)) {
         return integer_decl(alloc, depth, at);
     }
     time_decl(alloc, depth, at)

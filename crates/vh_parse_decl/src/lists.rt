@@ -3,10 +3,10 @@
 ghost use Rattle.std.specs.Prelude.{Bool, map};
 ghost use Rattle.vh_parse_grammar.specs.Part.{after};
 ghost use Rattle.vh_parse_grammar.specs.Conditions.{Advances};
-ghost use Rattle.vh_parse_grammar.specs.Marking.{joined_marks};
+ghost use Rattle.vh_parse_grammar.specs.Omissions.{joined_noted};
 ghost use Rattle.vh_parse_grammar.specs.Says.{Says};
 ghost use Rattle.vh_parse_syntax.specs.Tokens.{token_seen};
-ghost use Rattle.vh_parse_syntax.specs.declared.sign.Sign.TheVariants as sign;
+ghost use Rattle.vh_parse_syntax.specs.declared.lexeme.Lexeme.TheVariants as lexeme;
 ghost use Rattle.vh_parse_syntax.specs.Parts.{G, the, comma_list, comma_more};
 ghost use Rattle.vh_parse_expr.specs.Views.{Reads, read_from};
 
@@ -14,7 +14,7 @@ use sqlite_items::Items;
 use std::alloc::Global;
 use vh_ast::only;
 use vh_parse_expr::{At, Read};
-use vh_parse_syntax::{Class, Sign};
+use vh_parse_syntax::{Class, Lexeme};
 
 /// What stands in lists: a production with what is read by it. Most have two forms, by whether calls may
 /// stand in them or whether a range is left out behind them; where there is one alone, `form` says
@@ -40,9 +40,9 @@ pub trait Listed {
 
 // One behind a comma.
 fn next<'t, T: Listed>(alloc: Global, depth: usize, form: bool, at: At<'t>) -> Read<'t, T::Item>
-    ensures { Reads T.view depth (after (the sign.Comma) (T.part form)) at.entry result }
+    ensures { Reads T.view depth (after (the lexeme.Comma) (T.part form)) at.entry result }
 {
-    let behind = at.take(Class::Is(Sign::Comma))?;
+    let behind = at.take(Class::Is(Lexeme::Comma))?;
     T::read(alloc, depth, form, behind)
 }
 
@@ -55,11 +55,11 @@ pub fn further<'t, T: Listed>(
     at: At<'t>,
 ) -> Read<'t, Items<T::Item>>
     ensures { let read = read_from depth (comma_more (T.part form)) at.entry in
-        Says token_seen (map T.view) (joined_marks (map T.view first) read) result }
+        Says token_seen (map T.view) (joined_noted (map T.view first) read) result }
 {
     let mut all = first;
     let mut rest = at;
-    'all: while rest.next_is(Class::Is(Sign::Comma)) {
+    'all: while rest.next_is(Class::Is(Lexeme::Comma)) {
         let (item, end) = next::<T>(alloc, depth, form, rest)?;
         all.push(item)?;
         rest = end;

@@ -3,10 +3,10 @@
 ghost use Rattle.std.specs.Prelude.{◌≡◌, ◌&&◌, Bool, Option, option_map, map};
 ghost use Rattle.vh_parse_grammar.specs.Part.{only, after, listed};
 ghost use Rattle.vh_parse_grammar.specs.Reading.{next_is};
-ghost use Rattle.vh_parse_grammar.specs.Marking.{joined_marks};
+ghost use Rattle.vh_parse_grammar.specs.Omissions.{joined_noted};
 ghost use Rattle.vh_parse_grammar.specs.Says.{Says};
 ghost use Rattle.vh_ast.specs.Views.{delay_value_tree, delay_tree, ev_tree, event_tree};
-ghost use Rattle.vh_parse_syntax.specs.declared.sign.Sign.TheVariants as signs;
+ghost use Rattle.vh_parse_syntax.specs.declared.lexeme.Lexeme.TheVariants as lexemes;
 ghost use Rattle.vh_parse_syntax.specs.Tokens.{token_seen, is};
 ghost use Rattle.vh_parse_syntax.specs.Statements as parts;
 ghost use Rattle.vh_parse_syntax.specs.Statements.{is_expr, is_or, ev};
@@ -18,8 +18,8 @@ use crate::values::behind;
 use sqlite_items::{Boxed, Items};
 use std::alloc::Global;
 use vh_ast::{Delay, DelayValue, Ev, Event, only};
-use vh_parse_expr::{At, Read, Standing, expression, id, path, sign, then_sign};
-use vh_parse_syntax::{Class, Group, Rows, Sign};
+use vh_parse_expr::{At, Read, Enclosure, expression, id, path, lexeme, then_lexeme};
+use vh_parse_syntax::{Class, Group, Rows, Lexeme};
 
 // What follows the sign of a delay, up to the bracket that ends it.
 #[tactic(auto, unfolding(vh_parse_syntax::specs::Statements::delay_value))]
@@ -33,7 +33,7 @@ fn delay_value<'t>(alloc: Global, depth: usize, at: At<'t>) -> Read<'t, DelayVal
         let (id, rest) = id(at)?;
         return Ok((DelayValue::Id(id), rest));
     }
-    let (value, rest) = behind(alloc, depth, true, Sign::LeftParen, at)?;
+    let (value, rest) = behind(alloc, depth, true, Lexeme::LeftParen, at)?;
     Ok((DelayValue::Expr(value), rest))
 }
 
@@ -57,27 +57,27 @@ fn delay_end<'t>(depth: usize, delay: Delay, at: At<'t>) -> Read<'t, Delay>
     if !is_expr(&delay.value) {
         return Ok((delay, at));
     }
-    let (delay, rest) = then_sign(delay, Sign::RightParen, at)?;
+    let (delay, rest) = then_lexeme(delay, Lexeme::RightParen, at)?;
     Ok((delay, rest))
 }
 
 // Does what stands behind the value show a delay with more expressions?
 fn shows_more<'t>(value: &DelayValue, behind: At<'t>) -> bool
     ensures { result ≡ (is_expr (delay_value_tree value.now)
-        && next_is (is signs.Comma) (tokens_seen behind.entry.tokens.now)) }
+        && next_is (is lexemes.Comma) (tokens_seen behind.entry.tokens.now)) }
 {
-    is_expr(value) && behind.next_is(Class::Is(Sign::Comma))
+    is_expr(value) && behind.next_is(Class::Is(Lexeme::Comma))
 }
 
 // A delay up to the bracket that ends it: a comma there shows one with more expressions.
 fn delay_front<'t>(alloc: Global, depth: usize, at: At<'t>) -> Read<'t, Delay>
     ensures { Reads delay_tree depth delay_front at.entry result }
 {
-    let (place, more) = sign(Sign::Hash, at)?;
+    let (place, more) = lexeme(Lexeme::Hash, at)?;
     let (value, rest) = delay_value(alloc, depth, more)?;
     let shown = shows_more(&value, rest);
     let delay = Delay { place, value };
-    Ok((delay, rest.marked(at.tokens, shown)))
+    Ok((delay, rest.noting(at.tokens, shown)))
 }
 
 /// `delay = "#" ( NUMBER | ID | "(" expr ")" )` (IEEE 1364-2005, A.2.2.3)
@@ -101,7 +101,7 @@ pub fn boxed_delay<'t>(alloc: Global, depth: usize, at: At<'t>) -> Read<'t, Boxe
 pub fn written_delay<'t>(alloc: Global, depth: usize, at: At<'t>) -> Read<'t, Option<Boxed<Delay>>>
     ensures { Reads (option_map delay_tree) depth delay_behind at.entry result }
 {
-    if !at.next_is(Class::Is(Sign::Hash)) {
+    if !at.next_is(Class::Is(Lexeme::Hash)) {
         return Ok((None, at));
     }
     let (delay, rest) = boxed_delay(alloc, depth, at)?;
@@ -136,7 +136,7 @@ fn next_ev<'t>(alloc: Global, depth: usize, at: At<'t>) -> Read<'t, Ev>
 // `{ ( "or" | "," ) ev }`
 fn further_evs<'t>(alloc: Global, depth: usize, first: Items<Ev>, at: At<'t>) -> Read<'t, Items<Ev>>
     ensures { let read = read_from depth more_evs at.entry in
-        Says token_seen (map ev_tree) (joined_marks (map ev_tree first) read) result }
+        Says token_seen (map ev_tree) (joined_noted (map ev_tree first) read) result }
 {
     let mut all = first;
     let mut rest = at;
@@ -162,13 +162,13 @@ fn evs<'t>(alloc: Global, depth: usize, at: At<'t>) -> Read<'t, Items<Ev>>
 fn event_list<'t>(alloc: Global, depth: usize, at: At<'t>) -> Read<'t, Event>
     ensures { Reads event_tree depth parts.event_list at.entry result }
 {
-    if at.next_is(Class::Is(Sign::Star)) {
-        let closing = at.take(Class::Is(Sign::Star))?;
-        let rest = closing.take(Class::Is(Sign::RightParen))?;
+    if at.next_is(Class::Is(Lexeme::Star)) {
+        let closing = at.take(Class::Is(Lexeme::Star))?;
+        let rest = closing.take(Class::Is(Lexeme::RightParen))?;
         return Ok((Event::Any, rest));
     }
     let (all, closing) = evs(alloc, depth, at)?;
-    let (all, rest) = then_sign(all, Sign::RightParen, closing)?;
+    let (all, rest) = then_lexeme(all, Lexeme::RightParen, closing)?;
     Ok((Event::List(all), rest))
 }
 
@@ -178,14 +178,14 @@ fn event_list<'t>(alloc: Global, depth: usize, at: At<'t>) -> Read<'t, Event>
 pub fn event<'t>(alloc: Global, depth: usize, at: At<'t>) -> Read<'t, Event>
     ensures { Reads event_tree depth parts.event at.entry result }
 {
-    if at.next_is(Class::Is(Sign::Star)) {
-        let rest = at.take(Class::Is(Sign::Star))?;
+    if at.next_is(Class::Is(Lexeme::Star)) {
+        let rest = at.take(Class::Is(Lexeme::Star))?;
         return Ok((Event::Any, rest));
     }
     if at.next_is(Class::Name) {
-        let (path, rest) = path(alloc, depth, Standing::Outermost, false, false, at)?;
+        let (path, rest) = path(alloc, depth, Enclosure::Outermost, false, false, at)?;
         return Ok((Event::Name(path.into_name(alloc)?), rest));
     }
-    let opened = at.take(Class::Is(Sign::LeftParen))?;
+    let opened = at.take(Class::Is(Lexeme::LeftParen))?;
     event_list(alloc, depth, opened)
 }

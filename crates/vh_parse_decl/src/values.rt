@@ -17,20 +17,20 @@ use crate::lists::{Listed, list};
 use sqlite_items::{Boxed, Items};
 use std::alloc::Global;
 use vh_ast::{Expr, Set};
-use vh_parse_expr::{At, Read, expression, target, then_sign};
-use vh_parse_syntax::{Class, Sign};
+use vh_parse_expr::{At, Read, expression, target, then_lexeme};
+use vh_parse_syntax::{Class, Lexeme};
 
 /// An expression behind a sign.
 pub fn behind<'t>(
     alloc: Global,
     depth: usize,
     calls: bool,
-    sign: Sign,
+    lexeme: Lexeme,
     at: At<'t>,
 ) -> Read<'t, Expr>
-    ensures { Reads expr_tree depth (after (the sign) (parts.expression calls)) at.entry result }
+    ensures { Reads expr_tree depth (after (the lexeme) (parts.expression calls)) at.entry result }
 {
-    let next = at.take(Class::Is(sign))?;
+    let next = at.take(Class::Is(lexeme))?;
     expression(alloc, depth, calls, next)
 }
 
@@ -40,14 +40,14 @@ pub(crate) fn then_behind<'t, T: Drop>(
     alloc: Global,
     depth: usize,
     tree: T,
-    sign: Sign,
+    lexeme: Lexeme,
     at: At<'t>,
 ) -> Read<'t, (T, Expr)>
     ensures tree { IfOk result (λ read. read.0.0 ≡ tree) }
-    ensures expr { let part = after (the sign) (parts.expression true) in
+    ensures expr { let part = after (the lexeme) (parts.expression true) in
         Says token_seen (λ pair. expr_tree pair.1) (read_from depth part at.entry) result }
 {
-    let (expr, rest) = behind(alloc, depth, true, sign, at)?;
+    let (expr, rest) = behind(alloc, depth, true, lexeme, at)?;
     Ok(((tree, expr), rest))
 }
 
@@ -56,7 +56,7 @@ pub fn ended<'t>(alloc: Global, depth: usize, at: At<'t>) -> Read<'t, Expr>
     ensures { Reads expr_tree depth (ended (parts.expression true)) at.entry result }
 {
     let (expr, more) = expression(alloc, depth, true, at)?;
-    let (expr, rest) = then_sign(expr, Sign::Semicolon, more)?;
+    let (expr, rest) = then_lexeme(expr, Lexeme::Semicolon, more)?;
     Ok((expr, rest))
 }
 
@@ -65,10 +65,10 @@ pub fn ended<'t>(alloc: Global, depth: usize, at: At<'t>) -> Read<'t, Expr>
 pub fn value<'t>(alloc: Global, depth: usize, at: At<'t>) -> Read<'t, Option<Boxed<Expr>>>
     ensures { Reads (option_map expr_tree) depth a_value at.entry result }
 {
-    if !at.next_is(Class::Is(Sign::Equal)) {
+    if !at.next_is(Class::Is(Lexeme::Equal)) {
         return Ok((None, at));
     }
-    let (value, rest) = behind(alloc, depth, true, Sign::Equal, at)?;
+    let (value, rest) = behind(alloc, depth, true, Lexeme::Equal, at)?;
     Ok((Some(Boxed::new(alloc, value)?), rest))
 }
 
@@ -76,9 +76,9 @@ pub fn value<'t>(alloc: Global, depth: usize, at: At<'t>) -> Read<'t, Option<Box
 pub fn in_parens<'t>(alloc: Global, depth: usize, calls: bool, at: At<'t>) -> Read<'t, Boxed<Expr>>
     ensures { Reads expr_tree depth (in_parens (parts.expression calls)) at.entry result }
 {
-    let opened = at.take(Class::Is(Sign::LeftParen))?;
+    let opened = at.take(Class::Is(Lexeme::LeftParen))?;
     let (expr, closing) = expression(alloc, depth, calls, opened)?;
-    let (expr, rest) = then_sign(expr, Sign::RightParen, closing)?;
+    let (expr, rest) = then_lexeme(expr, Lexeme::RightParen, closing)?;
     Ok((Boxed::new(alloc, expr)?, rest))
 }
 
@@ -106,9 +106,9 @@ pub fn list_in_parens<'t>(alloc: Global, depth: usize, at: At<'t>) -> Read<'t, I
     ensures { let part = in_parens (comma_list (parts.expression true)) in
         Reads exprs_seen depth part at.entry result }
 {
-    let opened = at.take(Class::Is(Sign::LeftParen))?;
+    let opened = at.take(Class::Is(Lexeme::LeftParen))?;
     let (all, closing) = list::<Exprs>(alloc, depth, true, opened)?;
-    let (all, rest) = then_sign(all, Sign::RightParen, closing)?;
+    let (all, rest) = then_lexeme(all, Lexeme::RightParen, closing)?;
     Ok((all, rest))
 }
 
@@ -118,6 +118,6 @@ pub fn set<'t>(alloc: Global, depth: usize, calls: bool, at: At<'t>) -> Read<'t,
     ensures { Reads set_tree depth (statements.set calls) at.entry result }
 {
     let (target, more) = target(alloc, depth, calls, at)?;
-    let (value, rest) = behind(alloc, depth, calls, Sign::Equal, more)?;
+    let (value, rest) = behind(alloc, depth, calls, Lexeme::Equal, more)?;
     Ok((Set { target, value }, rest))
 }

@@ -19,12 +19,12 @@ use Rattle.vh_parse_expr.specs.Answers.{placed, expression_answer, Answered, IsP
 use Rattle.vh_parse_expr.proofs.ReadingLemmas.{Ends, ends-reader}
 
 -- What is left are the last tokens, which their number tells
-left-over : (all : List lexed.Token) (from : ℕ) (front rest : List Token) → from ≤ length all → map token_seen (drop from all) ≡ front ++ rest →
+left-over : (all : List lexed.Token) (from : ℕ) (earlier rest : List Token) → from ≤ length all → map token_seen (drop from all) ≡ earlier ++ rest →
     (rest ≡ map token_seen (drop (length all - length rest) all)) × (from ≤ length all - length rest) × (length rest ≤ length all)
-left-over all from front rest h e =
-    let n : length front + length rest ≡ length all - from = omega (arith, length-append front rest, ap length e, length-map (drop from all) token_seen, length-drop from all) in
-    let d : length all - length rest ≡ from + length front = omega arith in
-    (rw d (sym (drop_at front rest (length front) refl) ∙ ap (λ l. drop (length front) l) (sym e) ∙ drop-map token_seen (length front) (drop from all) ∙ ap (λ l. map token_seen l) (drop-drop (length front) from all)), omega arith, omega arith)
+left-over all from earlier rest h e =
+    let n : length earlier + length rest ≡ length all - from = omega (arith, length-append earlier rest, ap length e, length-map (drop from all) token_seen, length-drop from all) in
+    let d : length all - length rest ≡ from + length earlier = omega arith in
+    (rw d (sym (drop_at earlier rest (length earlier) refl) ∙ ap (λ l. drop (length earlier) l) (sym e) ∙ drop-map token_seen (length earlier) (drop from all) ∙ ap (λ l. map token_seen l) (drop-drop (length earlier) from all)), omega arith, omega arith)
 
 -- The tokens of an expression are spelled so
 pub spelled : (levels : ℕ) (calls : Bool) (ts rest : List Token) (a : ExprTree) → LawsOfProductions syntax_table → expression_answer levels calls ts ≡ got a rest → ReadsAt grammar (suc levels) (expr calls) a ts rest

@@ -5,12 +5,12 @@ use Rattle.vh_parse_grammar.specs.Reading.{Out, got, stop, then_, next_is, taken
 
 -- The tokens that are left are the last ones
 abbrev pub Ends : {T A : Type 0} → List T → Out T A → Type 0
-Ends {T} ts (got a rest) = (front : List T) × (ts ≡ front ++ rest)
+Ends {T} ts (got a rest) = (earlier : List T) × (ts ≡ earlier ++ rest)
 Ends ts (stop fault left) = Unit {0}
 
-ends-from : {T A : Type 0} (ts mid : List T) (o : Out T A) → (front : List T) → ts ≡ front ++ mid → Ends mid o → Ends ts o
-ends-from ts mid (got a rest) front e h = (front ++ h.0, e ∙ ap (λ l. front ++ l) h.1 ∙ sym (append_assoc front h.0 rest))
-ends-from ts mid (stop fault left) front e h = tt
+ends-from : {T A : Type 0} (ts mid : List T) (o : Out T A) → (earlier : List T) → ts ≡ earlier ++ mid → Ends mid o → Ends ts o
+ends-from ts mid (got a rest) earlier e h = (earlier ++ h.0, e ∙ ap (λ l. earlier ++ l) h.1 ∙ sym (append_assoc earlier h.0 rest))
+ends-from ts mid (stop fault left) earlier e h = tt
 
 ends-then : {T A B : Type 0} (ts : List T) (o : Out T A) (k : A → List T → Out T B) → Ends ts o → ((a : A) (mid : List T) → Ends mid (k a mid)) → Ends ts (then_ o k)
 ends-then ts (got a mid) k h s = ends-from ts mid (k a mid) h.0 h.1 (s a mid)

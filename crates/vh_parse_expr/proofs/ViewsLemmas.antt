@@ -5,7 +5,7 @@ use Rattle.std.proofs.lemmas.List.{map-append}
 use Rattle.vh_parse_grammar.specs.declared.stop.Stop.{Stop}
 use Rattle.vh_parse_grammar.specs.declared.stop.Stop.TheVariants as stops
 use Rattle.vh_parse_grammar.specs.Reading.{Fault, lost, next_is}
-use Rattle.vh_parse_grammar.specs.Marking.{taken_from, marked_token, refusal, refused, mark_at}
+use Rattle.vh_parse_grammar.specs.Omissions.{taken_from, noting_token, refusal, refused, omission_at}
 use Rattle.vh_parse_grammar.specs.Says.{Stops}
 use Rattle.vh_ast.specs.declared.name.Step.{Step}
 use Rattle.vh_ast.specs.declared.expr.Expr.{Expr}
@@ -22,36 +22,36 @@ use Rattle.vh_parse_syntax.specs.Names.{name_by, lv_part, lv_of}
 use Rattle.vh_parse_expr.specs.Views.{step_tree, tokens_seen, pieces_seen}
 
 -- A name of its first step and those behind it
-pub name_tree-steps : (front all : List (Step Expr)) (last first : Step Expr) (more : List (Step Expr)) → (IsTrue false ↔ (front ≡ [])) → all ≡ front ++ last ∷ [] → slice_get all 0 ≡ Some first → more ≡ remove all 0 →
-    name_tree (record { first = first; more = more }) ≡ name_by (map step_tree front) last.id (index_by expr_tree last.index)
+pub name_tree-steps : (earlier all : List (Step Expr)) (last first : Step Expr) (more : List (Step Expr)) → (IsTrue false ↔ (earlier ≡ [])) → all ≡ earlier ++ last ∷ [] → slice_get all 0 ≡ Some first → more ≡ remove all 0 →
+    name_tree (record { first = first; more = more }) ≡ name_by (map step_tree earlier) last.id (index_by expr_tree last.index)
 name_tree-steps [] all last first more empty e f m = absurd (none (empty.1 refl))
   where
     none : IsTrue false → ⊥
     none h = cc
-name_tree-steps (s ∷ front) all last first more empty e f m = rw (m, sym first-is, e) (ap (λ l. name s.id (index_by expr_tree s.index) (steps l)) (map-append step_tree front (last ∷ [])))
+name_tree-steps (s ∷ earlier) all last first more empty e f m = rw (m, sym first-is, e) (ap (λ l. name s.id (index_by expr_tree s.index) (steps l)) (map-append step_tree earlier (last ∷ [])))
   where
     first-is : s ≡ first
-    first-is = let g : slice_get (s ∷ (front ++ last ∷ [])) 0 ≡ Some first = rw e at f in cc
+    first-is = let g : slice_get (s ∷ (earlier ++ last ∷ [])) 0 ≡ Some first = rw e at f in cc
 
 -- A refusal is one, whatever was to be read
-stops_any : (A B : Type 0) (fault : Fault) (left mark : ℕ) (s : Stop) → Stops (refusal {T = Token} {A = A} fault left mark) s → Stops (refusal {T = Token} {A = B} fault left mark) s
+stops_any : (A B : Type 0) (fault : Fault) (left omission : ℕ) (s : Stop) → Stops (refusal {T = Token} {A = A} fault left omission) s → Stops (refusal {T = Token} {A = B} fault left omission) s
 stops_any A B fault left zero (stops.Lost n) e = cc
 stops_any A B fault left zero (stops.Deep n) e = cc
 stops_any A B fault left zero (stops.LeftOut n) e = cc
 stops_any A B fault left zero stops.Memory e = tt
-stops_any A B fault left (suc mark) (stops.Lost n) e = cc
-stops_any A B fault left (suc mark) (stops.Deep n) e = cc
-stops_any A B fault left (suc mark) (stops.LeftOut n) e = cc
-stops_any A B fault left (suc mark) stops.Memory e = tt
+stops_any A B fault left (suc omission) (stops.Lost n) e = cc
+stops_any A B fault left (suc omission) (stops.Deep n) e = cc
+stops_any A B fault left (suc omission) (stops.LeftOut n) e = cc
+stops_any A B fault left (suc omission) stops.Memory e = tt
 
 -- A word that doesn't mean it is refused
-pub stops_at : {A : Type 0} (word : Token → Bool) (meaning : Token → Option A) (all : List lexed.Token) (w : lexed.Token) (mark : ℕ) (s : Stop) → 1 ≤ length all → w ≡ get_or all 0 w → None ≡ meaning (token_seen w) →
-    Stops (refused {A = Unit {0}} word lost (tokens_seen all) mark) s → Stops (marked_token word meaning (tokens_seen all) mark) s
-stops_at word meaning [] w mark s h is none e = absurd (omega arith)
-stops_at {A} word meaning (u ∷ all) w mark s h is none e =
+pub stops_at : {A : Type 0} (word : Token → Bool) (meaning : Token → Option A) (all : List lexed.Token) (w : lexed.Token) (omission : ℕ) (s : Stop) → 1 ≤ length all → w ≡ get_or all 0 w → None ≡ meaning (token_seen w) →
+    Stops (refused {A = Unit {0}} word lost (tokens_seen all) omission) s → Stops (noting_token word meaning (tokens_seen all) omission) s
+stops_at word meaning [] w omission s h is none e = absurd (omega arith)
+stops_at {A} word meaning (u ∷ all) w omission s h is none e =
     let n : None ≡ meaning (token_seen u) = none ∙ ap (λ x. meaning (token_seen x)) is in
-    subst (λ (o : Option A). Stops (taken_from word o (token_seen u) (tokens_seen all) mark) s) n
-    (stops_any (Unit {0}) (A × ℕ) lost (length (tokens_seen (u ∷ all))) (mark_at (tokens_seen (u ∷ all)) (next_is word (tokens_seen (u ∷ all))) mark) s e)
+    subst (λ (o : Option A). Stops (taken_from word o (token_seen u) (tokens_seen all) omission) s) n
+    (stops_any (Unit {0}) (A × ℕ) lost (length (tokens_seen (u ∷ all))) (omission_at (tokens_seen (u ∷ all)) (next_is word (tokens_seen (u ∷ all))) omission) s e)
 
 -- What stands in a row of targets
 lv_parts-pieces : (parts : List LvPart) → map lv_part_tree parts ≡ map lv_part (pieces_seen parts)

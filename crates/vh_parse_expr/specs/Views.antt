@@ -4,7 +4,7 @@ use Rattle.vh_base.specs.declared.place.Place.{Place}
 use Rattle.vh_parse_grammar.specs.declared.cursor.Cursor.{Cursor}
 use Rattle.vh_parse_grammar.specs.declared.stop.Stop.{Stop}
 use Rattle.vh_parse_grammar.specs.Reading.{Out}
-use Rattle.vh_parse_grammar.specs.Marking.{marks}
+use Rattle.vh_parse_grammar.specs.Omissions.{noted}
 use Rattle.vh_parse_grammar.specs.Says.{Says}
 use Rattle.vh_parse_grammar.specs.Nest as nest
 use Rattle.vh_parse_grammar.specs.Nest.{Piece}
@@ -42,7 +42,7 @@ At = Cursor lexed.Token Class
 
 -- What reading the part from the cursor on gives, with so many levels left (own).
 abbrev pub read_from : {A : Type 0} → ℕ → G A → At → Out Token (A × ℕ)
-read_from levels part at = marks is_unused grammar levels part (tokens_seen at.tokens.now) at.mark
+read_from levels part at = noted is_unused grammar levels part (tokens_seen at.tokens.now) at.omission
 
 -- Reading the part from the cursor on, with so many levels left, gives what the code returns (own).
 abbrev pub Reads : {A X : Type 0} → (X → A) → ℕ → G A → At → Result (X × At) Stop → Type 0
@@ -88,7 +88,7 @@ last_tree (last.Closed s) = names.closed (sel_tree (Some s))
 
 -- A path of the code, and one whose last ID stands alone (own).
 abbrev pub path_by : Stem → names.Last → names.Path
-path_by s last = record { front = map step_tree s.front; id = s.id; last = last }
+path_by s last = record { earlier = map step_tree s.earlier; id = s.id; last = last }
 
 abbrev pub stem_tree : Stem → names.Path
 stem_tree s = path_by s names.plain
@@ -98,7 +98,7 @@ path_tree p = path_by p.stem (last_tree p.last)
 
 -- The name with its select is that of the path (own).
 abbrev pub IsMade : Name Expr × Option (Sel Expr) → names.Path → Type 0
-IsMade n p = (name_tree n.0 ≡ names.front_name p) × (sel_tree n.1 ≡ names.sel_of p.last)
+IsMade n p = (name_tree n.0 ≡ names.name_before p) × (sel_tree n.1 ≡ names.sel_of p.last)
 
 -- What stands in a row of targets of the code, and how far it has come (own).
 abbrev pub piece_tree : LvPart → Piece names.Target

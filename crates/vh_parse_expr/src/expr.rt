@@ -5,7 +5,7 @@
 ghost use Rattle.std.specs.Prelude.{◌≡◌};
 ghost use Rattle.vh_parse_grammar.specs.Part.{after};
 ghost use Rattle.vh_parse_grammar.specs.Reading.{next_is};
-ghost use Rattle.vh_parse_grammar.specs.Marking.{mark_at, joined_marks};
+ghost use Rattle.vh_parse_grammar.specs.Omissions.{omission_at, joined_noted};
 ghost use Rattle.vh_parse_grammar.specs.Says.{Says};
 ghost use Rattle.vh_ast.specs.Views.{expr_tree, index_by};
 ghost use Rattle.vh_parse_syntax.specs.Tokens.{token_seen};
@@ -18,18 +18,18 @@ ghost use Rattle.vh_parse_expr.specs.Pieces.{expr_at, bracket, barred_path, link
 ghost use Rattle.vh_parse_expr.specs.Views.{Reads, tokens_seen, read_from, exprs_seen, link_pair, two_exprs, placed_expr, placed_part, part_tree, last_tree, path_tree, stem_tree};
 
 use crate::made;
-use crate::made::then_sign;
+use crate::made::then_lexeme;
 use crate::name::{Last, Path, Stem};
-use crate::word::{At, Read, id, number, operator, sign, system_name, text, unary_sign};
+use crate::word::{At, Read, id, number, operator, lexeme, system_name, text, unary_lexeme};
 use sqlite_items::{Boxed, Items};
 use std::alloc::Global;
 use vh_ast::{Binary, Expr, Id, Part};
 use vh_base::Place;
-use vh_parse_syntax::{Class, Rows, Sign};
+use vh_parse_syntax::{Class, Rows, Lexeme};
 
 /// How an expression stands in a construct.
 #[derive(Clone, Copy, Debug, PartialEq, Eq)]
-pub enum Standing {
+pub enum Enclosure {
     /// In another expression: a level deeper.
     Inner,
     /// Anywhere else: on the level of what it stands in.
@@ -60,10 +60,10 @@ pub fn calls_in(calls: bool, name: &Id) -> bool
 // The cursor, where a system name may be next that is a call: where calls are left out, so is it.
 fn no_call<'t>(calls: bool, at: At<'t>) -> At<'t>
     ensures tokens { result.tokens.now ≡ at.entry.tokens.now }
-    ensures mark { let seen = tokens_seen at.entry.tokens.now in
-        result.mark ≡ mark_at seen (next_is (shows_call calls) seen) at.entry.mark }
+    ensures omission { let seen = tokens_seen at.entry.tokens.now in
+        result.omission ≡ omission_at seen (next_is (shows_call calls) seen) at.entry.omission }
 {
-    at.marked(at.tokens, !calls && at.next_is(Class::Call))
+    at.noting(at.tokens, !calls && at.next_is(Class::Call))
 }
 
 // An expression inside another one.
@@ -95,15 +95,15 @@ fn inner_operand<'t>(alloc: Global, depth: usize, calls: bool, at: At<'t>) -> Re
 fn expression_at<'t>(
     alloc: Global,
     depth: usize,
-    standing: Standing,
+    enclosure: Enclosure,
     calls: bool,
     at: At<'t>,
 ) -> Read<'t, Boxed<Expr>>
-    ensures { Reads expr_tree depth (expr_at standing calls) at.entry result }
+    ensures { Reads expr_tree depth (expr_at enclosure calls) at.entry result }
 {
-    match standing {
-        Standing::Inner => inner(alloc, depth, calls, at),
-        Standing::Outermost => outermost(alloc, depth, calls, at),
+    match enclosure {
+        Enclosure::Inner => inner(alloc, depth, calls, at),
+        Enclosure::Outermost => outermost(alloc, depth, calls, at),
     }
 }
 
@@ -112,15 +112,15 @@ fn expression_at<'t>(
 fn behind<'t>(
     alloc: Global,
     depth: usize,
-    standing: Standing,
+    enclosure: Enclosure,
     calls: bool,
-    sign: Sign,
+    lexeme: Lexeme,
     at: At<'t>,
 ) -> Read<'t, Boxed<Expr>>
-    ensures { Reads expr_tree depth (after (the sign) (expr_at standing calls)) at.entry result }
+    ensures { Reads expr_tree depth (after (the lexeme) (expr_at enclosure calls)) at.entry result }
 {
-    let next = at.take(Class::Is(sign))?;
-    expression_at(alloc, depth, standing, calls, next)
+    let next = at.take(Class::Is(lexeme))?;
+    expression_at(alloc, depth, enclosure, calls, next)
 }
 
 // `[ ":" expr | "+:" expr | "-:" expr ]`, behind the first expression of an `esel`.
@@ -129,24 +129,24 @@ fn behind<'t>(
 fn esel_end<'t>(
     alloc: Global,
     depth: usize,
-    standing: Standing,
+    enclosure: Enclosure,
     calls: bool,
     first: Boxed<Expr>,
     at: At<'t>,
 ) -> Read<'t, Part<Expr>>
-    ensures { let part = names.esel_end (expr_at standing calls) (expr_tree first) in
+    ensures { let part = names.esel_end (expr_at enclosure calls) (expr_tree first) in
         Reads part_tree depth part at.entry result }
 {
-    if at.next_is(Class::Is(Sign::Colon)) {
-        let (right, rest) = behind(alloc, depth, standing, calls, Sign::Colon, at)?;
+    if at.next_is(Class::Is(Lexeme::Colon)) {
+        let (right, rest) = behind(alloc, depth, enclosure, calls, Lexeme::Colon, at)?;
         return Ok((Part::Range(first, right), rest));
     }
-    if at.next_is(Class::Is(Sign::PlusColon)) {
-        let (width, rest) = behind(alloc, depth, standing, calls, Sign::PlusColon, at)?;
+    if at.next_is(Class::Is(Lexeme::PlusColon)) {
+        let (width, rest) = behind(alloc, depth, enclosure, calls, Lexeme::PlusColon, at)?;
         return Ok((Part::Up(first, width), rest));
     }
-    if at.next_is(Class::Is(Sign::MinusColon)) {
-        let (width, rest) = behind(alloc, depth, standing, calls, Sign::MinusColon, at)?;
+    if at.next_is(Class::Is(Lexeme::MinusColon)) {
+        let (width, rest) = behind(alloc, depth, enclosure, calls, Lexeme::MinusColon, at)?;
         return Ok((Part::Down(first, width), rest));
     }
     Ok((Part::Index(first), at))
@@ -158,31 +158,31 @@ fn esel_end<'t>(
 fn esel<'t>(
     alloc: Global,
     depth: usize,
-    standing: Standing,
+    enclosure: Enclosure,
     calls: bool,
     at: At<'t>,
 ) -> Read<'t, Part<Expr>>
-    ensures { Reads part_tree depth (names.esel (expr_at standing calls)) at.entry result }
+    ensures { Reads part_tree depth (names.esel (expr_at enclosure calls)) at.entry result }
 {
-    let (first, more) = expression_at(alloc, depth, standing, calls, at)?;
-    esel_end(alloc, depth, standing, calls, first, more)
+    let (first, more) = expression_at(alloc, depth, enclosure, calls, at)?;
+    esel_end(alloc, depth, enclosure, calls, first, more)
 }
 
 // `"." ID`
 #[tactic(auto, unfolding(vh_parse_syntax::specs::Names::dotted))]
 fn dotted<'t>(
     depth: usize,
-    standing: Standing,
+    enclosure: Enclosure,
     calls: bool,
     stem: Stem,
     index: Option<Boxed<Expr>>,
     at: At<'t>,
 ) -> Read<'t, Path>
-    ensures { let part = names.dotted (expr_at standing calls) (index_by expr_tree index)
+    ensures { let part = names.dotted (expr_at enclosure calls) (index_by expr_tree index)
         (stem_tree stem) in
         Reads path_tree depth part at.entry result }
 {
-    let behind = at.take(Class::Is(Sign::Dot))?;
+    let behind = at.take(Class::Is(Lexeme::Dot))?;
     let (id, rest) = id(behind)?;
     let stem = stem.then(index, id)?;
     let last = Last::Plain;
@@ -194,15 +194,15 @@ fn dotted<'t>(
 fn index_bracket<'t>(
     alloc: Global,
     depth: usize,
-    standing: Standing,
+    enclosure: Enclosure,
     calls: bool,
     at: At<'t>,
 ) -> Read<'t, (Place, Boxed<Expr>)>
-    ensures { Reads placed_expr depth (bracket (expr_at standing calls)) at.entry result }
+    ensures { Reads placed_expr depth (bracket (expr_at enclosure calls)) at.entry result }
 {
-    let (place, opened) = sign(Sign::LeftBracket, at)?;
-    let (index, closing) = expression_at(alloc, depth, standing, calls, opened)?;
-    let (index, rest) = then_sign(index, Sign::RightBracket, closing)?;
+    let (place, opened) = lexeme(Lexeme::LeftBracket, at)?;
+    let (index, closing) = expression_at(alloc, depth, enclosure, calls, opened)?;
+    let (index, rest) = then_lexeme(index, Lexeme::RightBracket, closing)?;
     Ok(((place, index), rest))
 }
 
@@ -211,16 +211,16 @@ fn index_bracket<'t>(
 fn esel_bracket<'t>(
     alloc: Global,
     depth: usize,
-    standing: Standing,
+    enclosure: Enclosure,
     calls: bool,
     at: At<'t>,
 ) -> Read<'t, (Place, Part<Expr>)>
-    ensures { Reads placed_part depth (bracket (names.esel (expr_at standing calls))) at.entry
+    ensures { Reads placed_part depth (bracket (names.esel (expr_at enclosure calls))) at.entry
         result }
 {
-    let (place, opened) = sign(Sign::LeftBracket, at)?;
-    let (part, closing) = esel(alloc, depth, standing, calls, opened)?;
-    let (part, rest) = then_sign(part, Sign::RightBracket, closing)?;
+    let (place, opened) = lexeme(Lexeme::LeftBracket, at)?;
+    let (part, closing) = esel(alloc, depth, enclosure, calls, opened)?;
+    let (part, rest) = then_lexeme(part, Lexeme::RightBracket, closing)?;
     Ok(((place, part), rest))
 }
 
@@ -231,10 +231,10 @@ fn path_goes(sel: bool, last: &Last, at: At<'_>) -> bool
 {
     match last {
         Last::Plain => {
-            at.next_is(Class::Is(Sign::Dot)) || at.next_is(Class::Is(Sign::LeftBracket))
+            at.next_is(Class::Is(Lexeme::Dot)) || at.next_is(Class::Is(Lexeme::LeftBracket))
         }
         Last::Indexed(..) => {
-            at.next_is(Class::Is(Sign::Dot)) || (sel && at.next_is(Class::Is(Sign::LeftBracket)))
+            at.next_is(Class::Is(Lexeme::Dot)) || (sel && at.next_is(Class::Is(Lexeme::LeftBracket)))
         }
         Last::Closed(_) => false,
     }
@@ -246,24 +246,24 @@ fn path_goes(sel: bool, last: &Last, at: At<'_>) -> bool
 fn plain_turn<'t>(
     alloc: Global,
     depth: usize,
-    standing: Standing,
+    enclosure: Enclosure,
     calls: bool,
     sel: bool,
     stem: Stem,
     at: At<'t>,
 ) -> Read<'t, Path>
-    ensures { let part = names.path_turn (expr_at standing calls) sel names.plain (stem_tree stem)
+    ensures { let part = names.path_turn (expr_at enclosure calls) sel names.plain (stem_tree stem)
         in
         Reads path_tree depth part at.entry result }
 {
-    if at.next_is(Class::Is(Sign::Dot)) {
-        return dotted(depth, standing, calls, stem, None, at);
+    if at.next_is(Class::Is(Lexeme::Dot)) {
+        return dotted(depth, enclosure, calls, stem, None, at);
     }
     if sel {
-        let ((place, part), rest) = esel_bracket(alloc, depth, standing, calls, at)?;
+        let ((place, part), rest) = esel_bracket(alloc, depth, enclosure, calls, at)?;
         return Ok((made::selected(stem, place, part), rest));
     }
-    let ((place, index), rest) = index_bracket(alloc, depth, standing, calls, at)?;
+    let ((place, index), rest) = index_bracket(alloc, depth, enclosure, calls, at)?;
     Ok((made::indexed(stem, place, index), rest))
 }
 
@@ -273,7 +273,7 @@ fn plain_turn<'t>(
 fn indexed_turn<'t>(
     alloc: Global,
     depth: usize,
-    standing: Standing,
+    enclosure: Enclosure,
     calls: bool,
     sel: bool,
     stem: Stem,
@@ -282,13 +282,13 @@ fn indexed_turn<'t>(
     at: At<'t>,
 ) -> Read<'t, Path>
     ensures { let last = names.indexed place (expr_tree index) in
-        let part = names.path_turn (expr_at standing calls) sel last (stem_tree stem) in
+        let part = names.path_turn (expr_at enclosure calls) sel last (stem_tree stem) in
         Reads path_tree depth part at.entry result }
 {
-    if !sel || at.next_is(Class::Is(Sign::Dot)) {
-        return dotted(depth, standing, calls, stem, Some(index), at);
+    if !sel || at.next_is(Class::Is(Lexeme::Dot)) {
+        return dotted(depth, enclosure, calls, stem, Some(index), at);
     }
-    let ((second, part), rest) = esel_bracket(alloc, depth, standing, calls, at)?;
+    let ((second, part), rest) = esel_bracket(alloc, depth, enclosure, calls, at)?;
     let path = made::reselected(stem, place, index, second, part);
     Ok((path, rest))
 }
@@ -299,21 +299,21 @@ fn indexed_turn<'t>(
 fn path_turn<'t>(
     alloc: Global,
     depth: usize,
-    standing: Standing,
+    enclosure: Enclosure,
     calls: bool,
     sel: bool,
     path: Path,
     at: At<'t>,
 ) -> Read<'t, Path>
-    ensures { let part = names.path_turn (expr_at standing calls) sel (last_tree path.last)
+    ensures { let part = names.path_turn (expr_at enclosure calls) sel (last_tree path.last)
         (path_tree path) in
         Reads path_tree depth part at.entry result }
 {
     let Path { stem, last } = path;
     match last {
-        Last::Plain => plain_turn(alloc, depth, standing, calls, sel, stem, at),
+        Last::Plain => plain_turn(alloc, depth, enclosure, calls, sel, stem, at),
         Last::Indexed(place, index) => {
-            indexed_turn(alloc, depth, standing, calls, sel, stem, place, index, at)
+            indexed_turn(alloc, depth, enclosure, calls, sel, stem, place, index, at)
         }
         Last::Closed(_) => Err(at.lost()),
     }
@@ -325,19 +325,19 @@ fn path_turn<'t>(
 fn path_rest<'t>(
     alloc: Global,
     depth: usize,
-    standing: Standing,
+    enclosure: Enclosure,
     calls: bool,
     sel: bool,
     first: Path,
     at: At<'t>,
 ) -> Read<'t, Path>
-    ensures { let part = names.path_rest (expr_at standing calls) sel (path_tree first) in
+    ensures { let part = names.path_rest (expr_at enclosure calls) sel (path_tree first) in
         Reads path_tree depth part at.entry result }
 {
     let mut path = first;
     let mut rest = at;
     'path: while path_goes(sel, &path.last, rest) {
-        let (longer, behind) = path_turn(alloc, depth, standing, calls, sel, path, rest)?;
+        let (longer, behind) = path_turn(alloc, depth, enclosure, calls, sel, path, rest)?;
         path = longer;
         rest = behind;
     }
@@ -351,18 +351,18 @@ fn path_rest<'t>(
 pub fn path<'t>(
     alloc: Global,
     depth: usize,
-    standing: Standing,
+    enclosure: Enclosure,
     calls: bool,
     sel: bool,
     at: At<'t>,
 ) -> Read<'t, Path>
-    ensures { Reads path_tree depth (names.path (expr_at standing calls) sel) at.entry result }
+    ensures { Reads path_tree depth (names.path (expr_at enclosure calls) sel) at.entry result }
 {
     let (id, more) = id(at)?;
     path_rest(
         alloc,
         depth,
-        standing,
+        enclosure,
         calls,
         sel,
         Path::new(alloc, id),
@@ -375,18 +375,18 @@ pub fn path<'t>(
 fn more<'t>(
     alloc: Global,
     depth: usize,
-    standing: Standing,
+    enclosure: Enclosure,
     calls: bool,
     first: Items<Expr>,
     at: At<'t>,
 ) -> Read<'t, Items<Expr>>
-    ensures { let read = read_from depth (comma_more (expr_at standing calls)) at.entry in
-        Says token_seen exprs_seen (joined_marks (exprs_seen first) read) result }
+    ensures { let read = read_from depth (comma_more (expr_at enclosure calls)) at.entry in
+        Says token_seen exprs_seen (joined_noted (exprs_seen first) read) result }
 {
     let mut all = first;
     let mut rest = at;
-    'all: while rest.next_is(Class::Is(Sign::Comma)) {
-        let (next, end) = behind(alloc, depth, standing, calls, Sign::Comma, rest)?;
+    'all: while rest.next_is(Class::Is(Lexeme::Comma)) {
+        let (next, end) = behind(alloc, depth, enclosure, calls, Lexeme::Comma, rest)?;
         all.push(next.into_inner())?;
         rest = end;
     }
@@ -398,17 +398,17 @@ fn more<'t>(
 pub fn list<'t>(
     alloc: Global,
     depth: usize,
-    standing: Standing,
+    enclosure: Enclosure,
     calls: bool,
     at: At<'t>,
 ) -> Read<'t, Items<Expr>>
-    ensures { Reads exprs_seen depth (comma_list (expr_at standing calls)) at.entry result }
+    ensures { Reads exprs_seen depth (comma_list (expr_at enclosure calls)) at.entry result }
 {
-    let (first, rest) = expression_at(alloc, depth, standing, calls, at)?;
+    let (first, rest) = expression_at(alloc, depth, enclosure, calls, at)?;
     more(
         alloc,
         depth,
-        standing,
+        enclosure,
         calls,
         made::one(alloc, first)?,
         rest,
@@ -421,8 +421,8 @@ pub fn list<'t>(
 fn arguments<'t>(alloc: Global, depth: usize, calls: bool, at: At<'t>) -> Read<'t, Items<Expr>>
     ensures { Reads exprs_seen depth (parts.arguments calls) at.entry result }
 {
-    let (all, closing) = list(alloc, depth, Standing::Inner, calls, at)?;
-    let (all, rest) = then_sign(all, Sign::RightParen, closing)?;
+    let (all, closing) = list(alloc, depth, Enclosure::Inner, calls, at)?;
+    let (all, rest) = then_lexeme(all, Lexeme::RightParen, closing)?;
     Ok((all, rest))
 }
 
@@ -431,9 +431,9 @@ fn arguments<'t>(alloc: Global, depth: usize, calls: bool, at: At<'t>) -> Read<'
 fn name_in<'t>(alloc: Global, depth: usize, calls: bool, at: At<'t>) -> Read<'t, Path>
     ensures { Reads path_tree depth (barred_path calls) at.entry result }
 {
-    let (path, rest) = path(alloc, depth, Standing::Inner, calls, true, at)?;
-    let shown = !calls && !path.is_closed() && rest.next_is(Class::Is(Sign::LeftParen));
-    Ok((path, rest.marked(at.tokens, shown)))
+    let (path, rest) = path(alloc, depth, Enclosure::Inner, calls, true, at)?;
+    let shown = !calls && !path.is_closed() && rest.next_is(Class::Is(Lexeme::LeftParen));
+    Ok((path, rest.noting(at.tokens, shown)))
 }
 
 // What follows a name: the arguments of a call, where it has no select.
@@ -449,10 +449,10 @@ fn name_end<'t>(
     ensures { let p = path_tree path in
         Reads expr_tree depth (parts.name_end (names.is_closed p.last) calls p) at.entry result }
 {
-    if path.is_closed() || !at.next_is(Class::Is(Sign::LeftParen)) {
+    if path.is_closed() || !at.next_is(Class::Is(Lexeme::LeftParen)) {
         return Ok((made::named(alloc, path)?, at));
     }
-    let (path, opened) = then_sign(path, Sign::LeftParen, at)?;
+    let (path, opened) = then_lexeme(path, Lexeme::LeftParen, at)?;
     let name = path.into_name(alloc)?;
     let (arguments, rest) = arguments(alloc, depth, calls, opened)?;
     Ok((made::called(alloc, name, arguments)?, rest))
@@ -480,10 +480,10 @@ fn system_end<'t>(
 ) -> Read<'t, Boxed<Expr>>
     ensures { Reads expr_tree depth (parts.system_end calls id) at.entry result }
 {
-    if !at.next_is(Class::Is(Sign::LeftParen)) {
+    if !at.next_is(Class::Is(Lexeme::LeftParen)) {
         return Ok((made::system(alloc, id, Items::new(alloc))?, at));
     }
-    let (id, opened) = then_sign(id, Sign::LeftParen, at)?;
+    let (id, opened) = then_lexeme(id, Lexeme::LeftParen, at)?;
     let calls = calls_in(calls, &id);
     let (arguments, rest) = arguments(alloc, depth, calls, opened)?;
     Ok((made::system(alloc, id, arguments)?, rest))
@@ -505,9 +505,9 @@ fn by_system<'t>(alloc: Global, depth: usize, calls: bool, at: At<'t>) -> Read<'
 fn parens<'t>(alloc: Global, depth: usize, calls: bool, at: At<'t>) -> Read<'t, Boxed<Expr>>
     ensures { Reads expr_tree depth (parts.parens calls) at.entry result }
 {
-    let (place, opened) = sign(Sign::LeftParen, at)?;
+    let (place, opened) = lexeme(Lexeme::LeftParen, at)?;
     let (expr, closing) = inner(alloc, depth, calls, opened)?;
-    let (expr, rest) = then_sign(expr, Sign::RightParen, closing)?;
+    let (expr, rest) = then_lexeme(expr, Lexeme::RightParen, closing)?;
     Ok((made::paren(alloc, place, expr)?, rest))
 }
 
@@ -516,10 +516,10 @@ fn parens<'t>(alloc: Global, depth: usize, calls: bool, at: At<'t>) -> Read<'t, 
 fn repeated<'t>(alloc: Global, depth: usize, calls: bool, at: At<'t>) -> Read<'t, Items<Expr>>
     ensures { Reads exprs_seen depth (repeated_part calls) at.entry result }
 {
-    let opened = at.take(Class::Is(Sign::LeftBrace))?;
-    let (all, closing) = list(alloc, depth, Standing::Inner, calls, opened)?;
-    let (all, closed) = then_sign(all, Sign::RightBrace, closing)?;
-    let (all, rest) = then_sign(all, Sign::RightBrace, closed)?;
+    let opened = at.take(Class::Is(Lexeme::LeftBrace))?;
+    let (all, closing) = list(alloc, depth, Enclosure::Inner, calls, opened)?;
+    let (all, closed) = then_lexeme(all, Lexeme::RightBrace, closing)?;
+    let (all, rest) = then_lexeme(all, Lexeme::RightBrace, closed)?;
     Ok((all, rest))
 }
 
@@ -537,13 +537,13 @@ fn braces_end<'t>(
     ensures { Reads expr_tree depth (parts.braces_end calls place (expr_tree first)) at.entry
         result }
 {
-    if at.next_is(Class::Is(Sign::LeftBrace)) {
+    if at.next_is(Class::Is(Lexeme::LeftBrace)) {
         let (parts, rest) = repeated(alloc, depth, calls, at)?;
         return Ok((made::repeat(alloc, place, first, parts)?, rest));
     }
     let all = made::one(alloc, first)?;
-    let (all, closing) = more(alloc, depth, Standing::Inner, calls, all, at)?;
-    let (all, rest) = then_sign(all, Sign::RightBrace, closing)?;
+    let (all, closing) = more(alloc, depth, Enclosure::Inner, calls, all, at)?;
+    let (all, rest) = then_lexeme(all, Lexeme::RightBrace, closing)?;
     Ok((made::concat(alloc, place, all)?, rest))
 }
 
@@ -553,7 +553,7 @@ fn braces_end<'t>(
 fn braces<'t>(alloc: Global, depth: usize, calls: bool, at: At<'t>) -> Read<'t, Boxed<Expr>>
     ensures { Reads expr_tree depth (parts.braces calls) at.entry result }
 {
-    let (place, opened) = sign(Sign::LeftBrace, at)?;
+    let (place, opened) = lexeme(Lexeme::LeftBrace, at)?;
     let (first, more) = inner(alloc, depth, calls, opened)?;
     braces_end(alloc, depth, calls, place, first, more)
 }
@@ -576,7 +576,7 @@ fn prim<'t>(alloc: Global, depth: usize, calls: bool, at: At<'t>) -> Read<'t, Bo
     if at.next_is(Class::System) {
         return by_system(alloc, depth, calls, at);
     }
-    if at.next_is(Class::Is(Sign::LeftParen)) {
+    if at.next_is(Class::Is(Lexeme::LeftParen)) {
         return parens(alloc, depth, calls, at);
     }
     braces(alloc, depth, calls, at)
@@ -588,7 +588,7 @@ fn prim<'t>(alloc: Global, depth: usize, calls: bool, at: At<'t>) -> Read<'t, Bo
 fn unary<'t>(alloc: Global, depth: usize, calls: bool, at: At<'t>) -> Read<'t, Boxed<Expr>>
     ensures { Reads expr_tree depth (parts.unary_operand calls) at.entry result }
 {
-    let ((place, operator), behind) = unary_sign(at)?;
+    let ((place, operator), behind) = unary_lexeme(at)?;
     let (operand, rest) = inner_operand(alloc, depth, calls, behind)?;
     Ok((made::unary(alloc, place, operator, operand)?, rest))
 }
@@ -662,9 +662,9 @@ fn branches<'t>(
 ) -> Read<'t, (Boxed<Expr>, Boxed<Expr>)>
     ensures { Reads two_exprs depth (branches_part calls) at.entry result }
 {
-    let asked = at.take(Class::Is(Sign::Question))?;
+    let asked = at.take(Class::Is(Lexeme::Question))?;
     let (holds, more) = inner(alloc, depth, calls, asked)?;
-    let (fails, rest) = behind(alloc, depth, Standing::Inner, calls, Sign::Colon, more)?;
+    let (fails, rest) = behind(alloc, depth, Enclosure::Inner, calls, Lexeme::Colon, more)?;
     Ok(((holds, fails), rest))
 }
 
@@ -680,7 +680,7 @@ fn choice<'t>(
 ) -> Read<'t, Boxed<Expr>>
     ensures { Reads expr_tree depth (parts.choice_tail calls (expr_tree test)) at.entry result }
 {
-    if !at.next_is(Class::Is(Sign::Question)) {
+    if !at.next_is(Class::Is(Lexeme::Question)) {
         return Ok((test, at));
     }
     let ((holds, fails), rest) = branches(alloc, depth, calls, at)?;

@@ -19,10 +19,10 @@ mod parse;
 mod targets;
 mod word;
 
-pub use expr::{Standing, calls_in, expression, list, path};
+pub use expr::{Enclosure, calls_in, expression, list, path};
 pub use fault::{ParseFault, fault_at};
-pub use made::then_sign;
+pub use made::then_lexeme;
 pub use name::{Last, Path, Stem};
 pub use parse::{MOST_LEVELS, parse_expr};
 pub use targets::{braced, single, target};
-pub use word::{At, Read, id, kept, placed_row, row_if_next, sign, system_name};
+pub use word::{At, Read, id, kept, placed_row, row_if_next, lexeme, system_name};

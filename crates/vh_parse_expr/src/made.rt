@@ -22,14 +22,14 @@ use vh_base::Place;
 use vh_base_shared::SharedBytes;
 use vh_lex::Number;
 use vh_parse_grammar::Stop;
-use vh_parse_syntax::{Class, Sign};
+use vh_parse_syntax::{Class, Lexeme};
 
 /// What was read, where the sign stands behind it.
-pub fn then_sign<'t, T: Drop>(tree: T, sign: Sign, at: At<'t>) -> Read<'t, T>
+pub fn then_lexeme<'t, T: Drop>(tree: T, lexeme: Lexeme, at: At<'t>) -> Read<'t, T>
     ensures tree { IfOk result (λ read. read.0 ≡ tree) }
-    ensures sign { Says token_seen (λ _. tt) (read_from 0 (the sign) at.entry) result }
+    ensures lexeme { Says token_seen (λ _. tt) (read_from 0 (the lexeme) at.entry) result }
 {
-    let rest = at.take(Class::Is(sign))?;
+    let rest = at.take(Class::Is(lexeme))?;
     Ok((tree, rest))
 }
 

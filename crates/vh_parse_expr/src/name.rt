@@ -3,7 +3,7 @@
 ghost use Rattle.std.specs.Prelude.{◌≡◌, IfOk, MatchResult, map};
 ghost use Rattle.vh_ast.specs.Views.{expr_tree, name_tree, sel_tree, index_by};
 ghost use Rattle.vh_parse_grammar.specs.declared.stop.Stop.TheVariants.{Memory};
-ghost use Rattle.vh_parse_syntax.specs.Names.{last_of, index_of, sel_of, is_closed, whole_name, front_name, name_by, path_of, with_step};
+ghost use Rattle.vh_parse_syntax.specs.Names.{last_of, index_of, sel_of, is_closed, whole_name, name_before, name_by, path_of, with_step};
 ghost use Rattle.vh_parse_expr.specs.Views.{step_tree, part_tree, last_tree, path_tree, stem_tree, IsMade};
 
 use crate::word::kept;
@@ -25,7 +25,7 @@ pub enum Last {
 /// The steps of a path that are whole, and its last `ID`.
 #[derive(Drop)]
 pub struct Stem {
-    pub front: Items<Step<Expr>>,
+    pub earlier: Items<Step<Expr>>,
     pub id: Id,
 }
 
@@ -101,31 +101,31 @@ impl Stem {
             (λ stop. stop ≡ Memory) }
     {
         let Stem {
-            mut front,
+            mut earlier,
             id: before,
         } = self;
-        front.push(Step { id: before, index })?;
-        Ok(Stem { front, id })
+        earlier.push(Step { id: before, index })?;
+        Ok(Stem { earlier, id })
     }
 
     // A name of its steps, the index of the last one apart.
     fn into_name(self, alloc: Global, index: Option<Boxed<Expr>>) -> Result<Name<Expr>, Stop>
         ensures { MatchResult result
             (λ n. name_tree n ≡
-            name_by (map step_tree self.front) self.id (index_by expr_tree index))
+            name_by (map step_tree self.earlier) self.id (index_by expr_tree index))
             (λ stop. stop ≡ Memory) }
     {
-        let Stem { mut front, id } = self;
+        let Stem { mut earlier, id } = self;
         let last = Step { id, index };
-        if front.is_empty() {
+        if earlier.is_empty() {
             return Ok(Name {
                 first: last,
                 more: Items::new(alloc),
             });
         }
-        front.push(last)?;
-        let first = front.remove(0);
-        Ok(Name { first, more: front })
+        earlier.push(last)?;
+        let first = earlier.remove(0);
+        Ok(Name { first, more: earlier })
     }
 }
 
@@ -134,9 +134,9 @@ impl Path {
     pub fn new(alloc: Global, id: Id) -> Path
         ensures { path_tree result ≡ path_of id }
     {
-        let front = Items::new(alloc);
+        let earlier = Items::new(alloc);
         Path {
-            stem: Stem { front, id },
+            stem: Stem { earlier, id },
             last: Last::Plain,
         }
     }

@@ -27,8 +27,8 @@ fn read(alloc: Global, levels: usize, calls: bool, tokens: &[Token]) -> Result<(
     ensures { Answered (expression_answer levels calls (tokens_seen tokens.now)) result }
 {
     let (expr, rest) = outermost(alloc, levels, calls, Cursor::new(tokens))?;
-    if rest.mark > 0 {
-        return Err(Stop::LeftOut(rest.mark));
+    if rest.omission > 0 {
+        return Err(Stop::LeftOut(rest.omission));
     }
     Ok((expr.into_inner(), rest.tokens.len()))
 }

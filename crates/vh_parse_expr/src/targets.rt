@@ -11,15 +11,15 @@ ghost use Rattle.vh_parse_syntax.specs.Names as names;
 ghost use Rattle.vh_parse_expr.specs.Pieces.{wanted_turn, behind_turn, rows_of};
 ghost use Rattle.vh_parse_expr.specs.Views.{Reads, read_from, tokens_seen, path_tree, row_tree, pieces_seen};
 
-use crate::expr::{Standing, path};
+use crate::expr::{Enclosure, path};
 use crate::name::Path;
-use crate::word::{At, Read, sign};
+use crate::word::{At, Read, lexeme};
 use sqlite_items::Items;
 use std::alloc::Global;
 use vh_ast::{Lv, LvPart, only};
 use vh_base::Place;
 use vh_parse_grammar::Stop;
-use vh_parse_syntax::{Class, Sign};
+use vh_parse_syntax::{Class, Lexeme};
 
 // How far a row of targets has come: how many braces are open, whether a target has to come, and
 // what stands in it.
@@ -43,8 +43,8 @@ fn wanted<'t>(
     ensures { let part = wanted_turn calls (row_tree row.old) in
         Passes token_seen (row_tree row.new) (read_from depth part at.entry) result }
 {
-    if at.next_is(Class::Is(Sign::LeftBrace)) {
-        let rest = at.take(Class::Is(Sign::LeftBrace))?;
+    if at.next_is(Class::Is(Lexeme::LeftBrace)) {
+        let rest = at.take(Class::Is(Lexeme::LeftBrace))?;
         let Some(open) = row.open.checked_add(1) else {
             return Err(Stop::Memory);
         };
@@ -53,7 +53,7 @@ fn wanted<'t>(
         row.wants = true;
         return Ok(rest);
     }
-    let (path, rest) = path(alloc, depth, Standing::Outermost, calls, true, at)?;
+    let (path, rest) = path(alloc, depth, Enclosure::Outermost, calls, true, at)?;
     let (name, sel) = path.into_selected(alloc)?;
     row.parts.push(LvPart::Name(name, sel))?;
     row.wants = false;
@@ -66,12 +66,12 @@ fn behind<'t>(depth: usize, row: &mut Row, at: At<'t>) -> Result<At<'t>, Stop>
     ensures { let part = behind_turn (row.old.open - 1) (row_tree row.old) in
         Passes token_seen (row_tree row.new) (read_from depth part at.entry) result }
 {
-    if at.next_is(Class::Is(Sign::Comma)) {
-        let rest = at.take(Class::Is(Sign::Comma))?;
+    if at.next_is(Class::Is(Lexeme::Comma)) {
+        let rest = at.take(Class::Is(Lexeme::Comma))?;
         row.wants = true;
         return Ok(rest);
     }
-    let rest = at.take(Class::Is(Sign::RightBrace))?;
+    let rest = at.take(Class::Is(Lexeme::RightBrace))?;
     row.parts.push(LvPart::Close)?;
     row.open -= 1;
     row.wants = false;
@@ -105,9 +105,9 @@ fn row_goes(wants: bool, braces: usize, at: At<'_>) -> bool
     ensures { result ≡ next_is (names.row_goes wants braces) (tokens_seen at.entry.tokens.now) }
 {
     if wants {
-        return at.next_is(Class::Is(Sign::LeftBrace)) || at.next_is(Class::Name);
+        return at.next_is(Class::Is(Lexeme::LeftBrace)) || at.next_is(Class::Name);
     }
-    braces > 0 && (at.next_is(Class::Is(Sign::Comma)) || at.next_is(Class::Is(Sign::RightBrace)))
+    braces > 0 && (at.next_is(Class::Is(Lexeme::Comma)) || at.next_is(Class::Is(Lexeme::RightBrace)))
 }
 
 // The rest of a row of targets.
@@ -151,7 +151,7 @@ fn row_of(place: Place, parts: Items<LvPart>) -> Lv
 pub fn braced<'t>(alloc: Global, depth: usize, calls: bool, at: At<'t>) -> Read<'t, Lv>
     ensures { Reads lv_tree depth (names.braced (expression calls)) at.entry result }
 {
-    let (place, opened) = sign(Sign::LeftBrace, at)?;
+    let (place, opened) = lexeme(Lexeme::LeftBrace, at)?;
     let (parts, rest) = braced_rest(alloc, depth, calls, opened)?;
     Ok((row_of(place, parts), rest))
 }
@@ -173,9 +173,9 @@ pub fn single(alloc: Global, path: Path) -> Result<Lv, Stop>
 pub fn target<'t>(alloc: Global, depth: usize, calls: bool, at: At<'t>) -> Read<'t, Lv>
     ensures { Reads lv_tree depth (names.lv (expression calls)) at.entry result }
 {
-    if at.next_is(Class::Is(Sign::LeftBrace)) {
+    if at.next_is(Class::Is(Lexeme::LeftBrace)) {
         return braced(alloc, depth, calls, at);
     }
-    let (path, rest) = path(alloc, depth, Standing::Outermost, calls, true, at)?;
+    let (path, rest) = path(alloc, depth, Enclosure::Outermost, calls, true, at)?;
     Ok((single(alloc, path)?, rest))
 }

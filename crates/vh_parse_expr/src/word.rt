@@ -20,7 +20,7 @@ use vh_base_shared::SharedBytes;
 use vh_lex::{Kind, Token};
 use vh_parse_grammar::{Cursor, Stop};
 use vh_parse_syntax::tables::UNARY;
-use vh_parse_syntax::{Class, Sign, Word};
+use vh_parse_syntax::{Class, Lexeme, Word};
 
 /// The tokens before a parser, and what was shown to be left out.
 pub type At<'t> = Cursor<'t, Token, Class>;
@@ -105,17 +105,17 @@ pub(crate) fn number<'t>(alloc: Global, at: At<'t>) -> Read<'t, Boxed<Expr>>
 }
 
 /// The sign, and where it stands.
-pub fn sign<'t>(sign: Sign, at: At<'t>) -> Read<'t, Place>
-    ensures { Reads (λ p. p) 0 (at_the sign) at.entry result }
+pub fn lexeme<'t>(lexeme: Lexeme, at: At<'t>) -> Read<'t, Place>
+    ensures { Reads (λ p. p) 0 (at_the lexeme) at.entry result }
 {
     let [first, ..] = at.tokens else {
         return Err(at.lost());
     };
-    Ok((first.place, at.take(Class::Is(sign))?))
+    Ok((first.place, at.take(Class::Is(lexeme))?))
 }
 
 /// A sign of the rows, where it stands, as what its row says.
-pub fn placed_row<'t, T: Copy>(rows: &[(Sign, T)], at: At<'t>) -> Read<'t, (Place, T)>
+pub fn placed_row<'t, T: Copy>(rows: &[(Lexeme, T)], at: At<'t>) -> Read<'t, (Place, T)>
     ensures { Reads (λ w. w) 0 (Parts.placed_row rows.now) at.entry result }
 {
     let [first, rest @ ..] = at.tokens else {
@@ -128,7 +128,7 @@ pub fn placed_row<'t, T: Copy>(rows: &[(Sign, T)], at: At<'t>) -> Read<'t, (Plac
 }
 
 /// A sign of the rows, as what its row says, if one is next.
-pub fn row_if_next<'t, T: Copy>(rows: &[(Sign, T)], at: At<'t>) -> Read<'t, Option<T>>
+pub fn row_if_next<'t, T: Copy>(rows: &[(Lexeme, T)], at: At<'t>) -> Read<'t, Option<T>>
     ensures { let part = opt (in_rows rows.now) (Parts.row_in rows.now) in
         Reads (λ w. w) 0 part at.entry result }
 {
@@ -142,7 +142,7 @@ pub fn row_if_next<'t, T: Copy>(rows: &[(Sign, T)], at: At<'t>) -> Read<'t, Opti
 }
 
 // A unary operator, and where it stands.
-pub(crate) fn unary_sign<'t>(at: At<'t>) -> Read<'t, (Place, Unary)>
+pub(crate) fn unary_lexeme<'t>(at: At<'t>) -> Read<'t, (Place, Unary)>
     ensures { Reads (λ o. o) 0 (Parts.placed_row unary_rows) at.entry result }
 {
     placed_row(&UNARY, at)

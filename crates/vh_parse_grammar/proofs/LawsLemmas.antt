@@ -2,7 +2,7 @@
 use Rattle.std.proofs.Common.{◌≡◌, ℕ, zero, suc, ◌+◌, ◌<◌, ◌≤◌, Bool, true, false, List, [], ◌∷◌, ◌++◌, length, ◌⊎◌, inl, inr, ◌↔◌, refl, sym, ap, ◌∙◌, arith, length-append, append_assoc, append-nil, suc-add, zero-add}
 use Rattle.vh_parse_grammar.specs.Part.{Part, done, tok, seq, bind, act, alt, rep, iter, nested, unless, barred}
 use Rattle.vh_parse_grammar.specs.Reading.{Fault, lost, deep, left_out, Out, got, stop, next_is, past_levels, reader, read, whole}
-use Rattle.vh_parse_grammar.specs.Marking.{mark_at, refusal, marked_past, marked_at, marks, answered, answered_whole}
+use Rattle.vh_parse_grammar.specs.Omissions.{omission_at, refusal, noting_past, noting_at, noted, answered, answered_whole}
 use Rattle.vh_parse_grammar.specs.Sentences.{Repeats, AfterTurns, ShowsHere, Reads, Meets, MeetsPast, Shows, ReadsAt, MeetsAt, ShowsAt}
 use Rattle.vh_parse_grammar.specs.Conditions.{eats, Advances}
 use Rattle.vh_parse_grammar.specs.Firsts.{first_at}
@@ -15,7 +15,7 @@ use Rattle.vh_parse_grammar.proofs.Places.{Late, Cut, cut-reader}
 use Rattle.vh_parse_grammar.proofs.Starts.{Ended, reader-begins, reader-ended}
 use Rattle.vh_parse_grammar.proofs.Levels.{Below, none-lost, reader-below}
 use Rattle.vh_parse_grammar.proofs.Parts.{On, Met, size-part, cut-part, tree-part, fault-part, sound-part, begins-part, ended-part, below-part}
-use Rattle.vh_parse_grammar.proofs.MarkingLemmas.{attached, Peak, peak-at, peak-map, peak-then, Judged, run-judged, reader-judged, Same, same-of, run-same}
+use Rattle.vh_parse_grammar.proofs.OmissionsLemmas.{attached, Peak, peak-at, peak-map, peak-then, Judged, run-judged, reader-judged, Same, same-of, run-same}
 use Rattle.vh_parse_grammar.proofs.ShownLemmas.{Behind, Inside, inside-here, inside-mid, inside-next, here-down, here-up, got-cut, run-inside, run-behind, run-front, run-down, run-up, reader-inside, reader-behind, reader-front, reader-down, reader-up}
 use Rattle.vh_parse_grammar.proofs.Subjects.{Pure, Facts, laws}
 use Rattle.vh_parse_grammar.proofs.ChoicesLemmas.{chooses, to-reads, from-reads, to-begins, from-begins, spells-reads, reads-spells, opens-begins, begins-opens}
@@ -142,7 +142,7 @@ whole-met fault left (got a []) e = cc
 whole-met fault left (got a (t ∷ ts)) e = inr (a, t, ts, refl, cc, cc)
 whole-met fault left (stop f j) e = inl e
 
--- What is known of a part, with its marks
+-- What is known of a part, with its noted
 module _ {T P : Type 0} {V : P → Type 0} (word : T → Bool) (grammar : (p : P) → Part T V (V p)) (eating : (p : P) → eats (grammar p) ≡ true) (advancing : (p : P) → Advances (grammar p)) where
   abbrev Shown : ℕ → {A : Type 0} → Part T V A → List T → ℕ → ℕ → Type 0
   Shown n p = Shows (ReadsAt grammar n) word (ShowsAt grammar word n) p
@@ -155,8 +155,8 @@ module _ {T P : Type 0} {V : P → Type 0} (word : T → Bool) (grammar : (p : P
   reader-end zero p a ts rest h = absurd h
   reader-end (suc n) p a ts rest h = reads-end (ReadsAt grammar n) (reader-end n) (grammar p) a ts rest h
 
-  judged-part : {A : Type 0} (n : ℕ) (p : Part T V A) → Advances p → (ts : List T) (m : ℕ) → Judged (Shown n p ts) m (read grammar n p ts) (marks word grammar n p ts m)
-  judged-part n p v ts m = run-judged word (reader grammar n) (marked_at word grammar n) (ReadsAt grammar n) (MeetsAt grammar n) (ShowsAt grammar word n) (size-reader grammar eating n) (reader-sound grammar eating advancing n) (reader-tree grammar eating advancing n) (reader-judged word grammar eating advancing n) p v ts m
+  judged-part : {A : Type 0} (n : ℕ) (p : Part T V A) → Advances p → (ts : List T) (m : ℕ) → Judged (Shown n p ts) m (read grammar n p ts) (noted word grammar n p ts m)
+  judged-part n p v ts m = run-judged word (reader grammar n) (noting_at word grammar n) (ReadsAt grammar n) (MeetsAt grammar n) (ShowsAt grammar word n) (size-reader grammar eating n) (reader-sound grammar eating advancing n) (reader-tree grammar eating advancing n) (reader-judged word grammar eating advancing n) p v ts m
 
   inside-part : {A : Type 0} (n : ℕ) (p : Part T V A) → Advances p → (ts : List T) (place shown : ℕ) → Shown n p ts place shown → Inside ts place shown
   inside-part n p v = run-inside word (reader grammar n) (ReadsAt grammar n) (MeetsAt grammar n) (ShowsAt grammar word n) (size-reader grammar eating n) (reader-sound grammar eating advancing n) (reader-tree grammar eating advancing n) (reader-inside word grammar eating advancing n) p v
@@ -174,9 +174,9 @@ module _ {T P : Type 0} {V : P → Type 0} (word : T → Bool) (grammar : (p : P
   up-part n p v = run-up word (reader grammar n) (ReadsAt grammar n) (MeetsAt grammar n) (ShowsAt grammar word n) (size-reader grammar eating n) (reader-sound grammar eating advancing n) (reader-tree grammar eating advancing n) (cut-reader grammar eating advancing n) (reader-inside word grammar eating advancing n) (reader-up word grammar eating advancing n) p v
 
   -- on more levels
-  past-same : (p : P) (ts : List T) (m : ℕ) → Same (past_levels {A = V p} ts) (marked_past word ts m) (marked_at word grammar 1 p ts m)
+  past-same : (p : P) (ts : List T) (m : ℕ) → Same (past_levels {A = V p} ts) (noting_past word ts m) (noting_at word grammar 1 p ts m)
   past-same p [] m =
-      let j : Judged (ShowsAt grammar word 1 p []) m (reader grammar 1 p []) (marked_at word grammar 1 p [] m) = reader-judged word grammar eating advancing 1 p [] m in
+      let j : Judged (ShowsAt grammar word 1 p []) m (reader grammar 1 p []) (noting_at word grammar 1 p [] m) = reader-judged word grammar eating advancing 1 p [] m in
       let e : reader grammar 1 p [] ≡ stop lost 0 = none-lost grammar eating (reader grammar 1 p []) (size-reader grammar eating 1 p []) in
       let k : j.0 ≡ m = elim j.2.is [ inl e ↦ e | inr q ↦ none j.0 q.0 (reader-inside word grammar eating advancing 1 p [] j.0 q.0 q.1) ] in
       j.1 ∙ (rw (e, k) refl)
@@ -185,9 +185,9 @@ module _ {T P : Type 0} {V : P → Type 0} (word : T → Bool) (grammar : (p : P
       none k shown i = let a : 0 < shown = i.0 in let b : shown ≤ k = i.1 in let c : k ≤ 0 = i.2 in absurd (omega arith)
   past-same p (t ∷ ts) m = tt
 
-  one-same : (n : ℕ) (p : P) (ts : List T) (m : ℕ) → Same (reader grammar n p ts) (marked_at word grammar n p ts m) (marked_at word grammar (suc n) p ts m)
+  one-same : (n : ℕ) (p : P) (ts : List T) (m : ℕ) → Same (reader grammar n p ts) (noting_at word grammar n p ts m) (noting_at word grammar (suc n) p ts m)
   one-same zero p ts m = past-same p ts m
-  one-same (suc n) p ts m = run-same word (reader grammar n) (marked_at word grammar n) (marked_at word grammar (suc n)) (ReadsAt grammar n) (MeetsAt grammar n) (ShowsAt grammar word n) (size-reader grammar eating n) (reader-sound grammar eating advancing n) (reader-tree grammar eating advancing n) (reader-judged word grammar eating advancing n) (one-same n) (grammar p) (advancing p) ts m
+  one-same (suc n) p ts m = run-same word (reader grammar n) (noting_at word grammar n) (noting_at word grammar (suc n)) (ReadsAt grammar n) (MeetsAt grammar n) (ShowsAt grammar word n) (size-reader grammar eating n) (reader-sound grammar eating advancing n) (reader-tree grammar eating advancing n) (reader-judged word grammar eating advancing n) (one-same n) (grammar p) (advancing p) ts m
 
   same-trans : {A X : Type 0} (o o' : Out T A) (x y z : Out T X) → Below o o' → Same o x y → Same o' y z → Same o x z
   same-trans {A} {X} (got a rest) o' x y z b s r = let q : Same {T = T} (got a rest) y z = rw b at r in q ∙ s
@@ -195,13 +195,13 @@ module _ {T P : Type 0} {V : P → Type 0} (word : T → Bool) (grammar : (p : P
   same-trans (stop deep left) o' x y z b s r = tt
   same-trans {A} {X} (stop left_out left) o' x y z b s r = let q : Same {T = T} {A = A} (stop left_out left) y z = rw b at r in q ∙ s
 
-  pub reader-same : (n more : ℕ) (p : P) (ts : List T) (m : ℕ) → Same (reader grammar n p ts) (marked_at word grammar n p ts m) (marked_at word grammar (more + n) p ts m)
-  reader-same n zero p ts m = rw zero-add (same-of (reader grammar n p ts) (marked_at word grammar n p ts m) (marked_at word grammar n p ts m) refl)
+  pub reader-same : (n more : ℕ) (p : P) (ts : List T) (m : ℕ) → Same (reader grammar n p ts) (noting_at word grammar n p ts m) (noting_at word grammar (more + n) p ts m)
+  reader-same n zero p ts m = rw zero-add (same-of (reader grammar n p ts) (noting_at word grammar n p ts m) (noting_at word grammar n p ts m) refl)
   reader-same n (suc more) p ts m =
-      rw suc-add (same-trans (reader grammar n p ts) (reader grammar (more + n) p ts) (marked_at word grammar n p ts m) (marked_at word grammar (more + n) p ts m) (marked_at word grammar (suc (more + n)) p ts m) (reader-below grammar eating n more p ts) (reader-same n more p ts m) (one-same (more + n) p ts m))
+      rw suc-add (same-trans (reader grammar n p ts) (reader grammar (more + n) p ts) (noting_at word grammar n p ts m) (noting_at word grammar (more + n) p ts m) (noting_at word grammar (suc (more + n)) p ts m) (reader-below grammar eating n more p ts) (reader-same n more p ts m) (one-same (more + n) p ts m))
 
-  same-part : {A : Type 0} (n more : ℕ) (p : Part T V A) → Advances p → (ts : List T) (m : ℕ) → Same (read grammar n p ts) (marks word grammar n p ts m) (marks word grammar (more + n) p ts m)
-  same-part n more p v ts m = run-same word (reader grammar n) (marked_at word grammar n) (marked_at word grammar (more + n)) (ReadsAt grammar n) (MeetsAt grammar n) (ShowsAt grammar word n) (size-reader grammar eating n) (reader-sound grammar eating advancing n) (reader-tree grammar eating advancing n) (reader-judged word grammar eating advancing n) (reader-same n more) p v ts m
+  same-part : {A : Type 0} (n more : ℕ) (p : Part T V A) → Advances p → (ts : List T) (m : ℕ) → Same (read grammar n p ts) (noted word grammar n p ts m) (noted word grammar (more + n) p ts m)
+  same-part n more p v ts m = run-same word (reader grammar n) (noting_at word grammar n) (noting_at word grammar (more + n)) (ReadsAt grammar n) (MeetsAt grammar n) (ShowsAt grammar word n) (size-reader grammar eating n) (reader-sound grammar eating advancing n) (reader-tree grammar eating advancing n) (reader-judged word grammar eating advancing n) (reader-same n more) p v ts m
 
 -- A reading that isn't too deep
 same-is : {T A X : Type 0} (o : Out T A) (x y : Out T X) → ((left : ℕ) → o ≡ stop deep left → ⊥) → Same o x y → y ≡ x
@@ -218,12 +218,12 @@ module _ (t : Table) where
     is = λ n a ts rest. (λ h. reader-tree t.grammar t.eating t.advancing n p a ts rest h, λ e. rw e at (reader-sound t.grammar t.eating t.advancing n p ts));
     refuses = λ n fault ts left. (λ h. reader-fault t.grammar t.eating t.advancing n p fault ts left h, λ e. rw e at (reader-sound t.grammar t.eating t.advancing n p ts));
     starts = λ n ts. (reader-ended t.grammar t.eating t.advancing n p ts, reader-begins t.grammar t.eating t.advancing n p ts);
-    judged = λ n ts. let j : Judged (ShowsAt t.grammar t.left_out n p ts) 0 (reader t.grammar n p ts) (marked_at t.left_out t.grammar n p ts 0) = reader-judged t.left_out t.grammar t.eating t.advancing n p ts 0 in (j.0, ap answered j.1, j.2);
+    judged = λ n ts. let j : Judged (ShowsAt t.grammar t.left_out n p ts) 0 (reader t.grammar n p ts) (noting_at t.left_out t.grammar n p ts 0) = reader-judged t.left_out t.grammar t.eating t.advancing n p ts 0 in (j.0, ap answered j.1, j.2);
     sized = λ n ts. size-less 1 0 ts (reader t.grammar n p ts) (omega arith) (size-reader t.grammar t.eating n p ts);
     cut = λ n us zs. cut-reader t.grammar t.eating t.advancing n p us zs;
     suffix = λ n a ts rest e. reader-end t.left_out t.grammar t.eating t.advancing n p a ts rest (rw e at (reader-sound t.grammar t.eating t.advancing n p ts));
     below = λ n more ts. reader-below t.grammar t.eating n more p ts;
-    same = λ n more ts f. ap answered (same-is (reader t.grammar n p ts) (marked_at t.left_out t.grammar n p ts 0) (marked_at t.left_out t.grammar (more + n) p ts 0) f (reader-same t.left_out t.grammar t.eating t.advancing n more p ts 0));
+    same = λ n more ts f. ap answered (same-is (reader t.grammar n p ts) (noting_at t.left_out t.grammar n p ts 0) (noting_at t.left_out t.grammar (more + n) p ts 0) f (reader-same t.left_out t.grammar t.eating t.advancing n more p ts 0));
     inside = λ n ts place shown h. reader-inside t.left_out t.grammar t.eating t.advancing n p ts place shown h;
     behind = λ n ts place shown h. reader-behind t.left_out t.grammar t.eating t.advancing n p ts place shown h;
     front = λ n us zs place h. reader-front t.left_out t.grammar t.eating t.advancing n p us zs place h;
@@ -281,7 +281,7 @@ module _ (t : Table) where
     λ e. begins-part t.grammar t.eating t.advancing n t.start t.start_advancing ts (whole-ended (read t.grammar n t.start ts) e),
   )
 
-  -- the marks of a source are those of its part, and a word that is left over
+  -- the noted of a source are those of its part, and a word that is left over
   abbrev S : ℕ → List t.Token → ℕ → ℕ → Type 0
   S n ts = Shown t.left_out t.grammar t.eating t.advancing n t.start ts
 
@@ -302,7 +302,7 @@ module _ (t : Table) where
       refusal-answer zero fault left = refl
       refusal-answer (suc k) fault left = refl
 
-      go : (o : Out t.Token t.Source) → read t.grammar n t.start ts ≡ o → Judged (S n ts) 0 o (marks t.left_out t.grammar n t.start ts 0) → (k : ℕ) × ((whole_source t).answer n ts ≡ answered (attached k (whole o))) × Peak ((whole_source t).LeavesOut n ts) 0 k
+      go : (o : Out t.Token t.Source) → read t.grammar n t.start ts ≡ o → Judged (S n ts) 0 o (noted t.left_out t.grammar n t.start ts 0) → (k : ℕ) × ((whole_source t).answer n ts ≡ answered (attached k (whole o))) × Peak ((whole_source t).LeavesOut n ts) 0 k
       go (got a []) e j = (
         j.0,
         ap (λ (z : Out t.Token (t.Source × ℕ)). answered_whole t.left_out z) j.1,
@@ -312,9 +312,9 @@ module _ (t : Table) where
           empty : (place shown : ℕ) (rest : List t.Token) → IsLeft t n ts rest → ShowsHere t.left_out rest place shown → ⊥
           empty place shown rest h w = let q : rest ≡ [] = same a h.0 [] rest (sym e ∙ tree n h.0 ts rest h.1) in let b : next_is t.left_out [] ≡ true = rw q at w.0 in cc
       go (got a (x ∷ m)) e j = (
-        mark_at (x ∷ m) (t.left_out x) j.0,
-        ap (λ (z : Out t.Token (t.Source × ℕ)). answered_whole t.left_out z) j.1 ∙ refusal-answer (mark_at (x ∷ m) (t.left_out x) j.0) lost (suc (length m)),
-        peak-then (S n ts) (λ place shown. (t.left_out x ≡ true) × (place ≡ length (x ∷ m)) × (shown ≡ length (x ∷ m))) ((whole_source t).LeavesOut n ts) 0 j.0 (mark_at (x ∷ m) (t.left_out x) j.0)
+        omission_at (x ∷ m) (t.left_out x) j.0,
+        ap (λ (z : Out t.Token (t.Source × ℕ)). answered_whole t.left_out z) j.1 ∙ refusal-answer (omission_at (x ∷ m) (t.left_out x) j.0) lost (suc (length m)),
+        peak-then (S n ts) (λ place shown. (t.left_out x ≡ true) × (place ≡ length (x ∷ m)) × (shown ≡ length (x ∷ m))) ((whole_source t).LeavesOut n ts) 0 j.0 (omission_at (x ∷ m) (t.left_out x) j.0)
             (λ place shown s. inl s)
             (λ place shown s. inr (x ∷ m, (a, says n ts (got a (x ∷ m)) e), s))
             (λ place shown s. elim s [ inl s ↦ inl s | inr s ↦ inr (over place shown s.0 s.1 s.2) ])
@@ -377,7 +377,7 @@ module _ (t : Table) where
     suffix = λ n a ts rest e. (ts, let g : (read t.grammar n t.start ts ≡ got a []) × (rest ≡ []) = whole-tree a rest (read t.grammar n t.start ts) e in rw (g.1, append-nil) refl);
     below = λ n more ts. whole-below (read t.grammar n t.start ts) (read t.grammar (more + n) t.start ts) (below-part t.grammar t.eating t.advancing n more t.start ts);
     same = λ n more ts f. ap (λ (z : Out t.Token (t.Source × ℕ)). answered_whole t.left_out z)
-        (same-is (read t.grammar n t.start ts) (marks t.left_out t.grammar n t.start ts 0) (marks t.left_out t.grammar (more + n) t.start ts 0) (λ left e. f left (ap (λ (z : Out t.Token t.Source). whole z) e)) (same-part t.left_out t.grammar t.eating t.advancing n more t.start t.start_advancing ts 0));
+        (same-is (read t.grammar n t.start ts) (noted t.left_out t.grammar n t.start ts 0) (noted t.left_out t.grammar (more + n) t.start ts 0) (λ left e. f left (ap (λ (z : Out t.Token t.Source). whole z) e)) (same-part t.left_out t.grammar t.eating t.advancing n more t.start t.start_advancing ts 0));
     inside = source-inside;
     behind = source-behind;
     front = source-front;

@@ -10,8 +10,8 @@ pub mod Starts
 pub mod Levels
 -- All of this for parts of a grammar
 pub mod Parts
--- Reading with a mark is the reading of the pure grammar, with the first place
-pub mod MarkingLemmas
+-- Reading with an omission is the reading of the pure grammar, with the first place
+pub mod OmissionsLemmas
 -- When what is shown counts
 pub mod ShownLemmas
 -- The laws from what is known of a reading
@@ -24,5 +24,5 @@ pub mod FirstsLemmas
 pub mod ChoicesLemmas
 -- Loops of a parser of the pure grammar
 pub mod Turns
--- Loops of a parser with marks
-pub mod MarkTurns
+-- Loops of a parser with noted
+pub mod OmissionTurns

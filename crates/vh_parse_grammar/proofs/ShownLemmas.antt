@@ -9,7 +9,7 @@ use Rattle.vh_parse_grammar.proofs.Size.{weight, Sized, size-less, size-many, si
 use Rattle.vh_parse_grammar.proofs.Outcomes.{Says_of, one, shorter_mid, run-sound, run-tree, reader-sound, reader-tree}
 use Rattle.vh_parse_grammar.proofs.Places.{Late, Cut, cut-run, cut-reader}
 use Rattle.vh_parse_grammar.proofs.Starts.{Ended, ended-size, ended-then, ended-back}
-use Rattle.vh_parse_grammar.proofs.MarkingLemmas.{then-got}
+use Rattle.vh_parse_grammar.proofs.OmissionsLemmas.{then-got}
 
 -- A reading that goes on at least to where so many tokens are left
 abbrev pub Behind : {T A : Type 0} → ℕ → Out T A → Type 0

@@ -1,14 +1,14 @@
 -- The laws of anything that tokens can be read as, from what is known of its reading in the pure grammar.
 use Rattle.std.proofs.Common.{◌≡◌, ℕ, zero, suc, ◌+◌, ◌-◌, ◌<◌, ◌≤◌, List, [], ◌∷◌, ◌++◌, length, take, drop, ◌⊎◌, inl, inr, ◌↔◌, refl, sym, ap, ◌∙◌, arith, length-append, append_assoc, take-append-drop, length-drop, add_comm}
 use Rattle.vh_parse_grammar.specs.Reading.{Fault, lost, deep, left_out, Out, got, stop}
-use Rattle.vh_parse_grammar.specs.Marking.{answered}
+use Rattle.vh_parse_grammar.specs.Omissions.{answered}
 use Rattle.vh_parse_grammar.specs.Table.{Subject}
 use Rattle.vh_parse_grammar.specs.Laws.{NoneLeftOut, IsFirstLeftOut, Answers, Front, RefusesFirst, CountsFirst, Laws}
 use Rattle.vh_parse_grammar.proofs.Size.{Sized}
 use Rattle.vh_parse_grammar.proofs.Places.{Late, Cut}
 use Rattle.vh_parse_grammar.proofs.Starts.{Ended}
 use Rattle.vh_parse_grammar.proofs.Levels.{Below, ended-below}
-use Rattle.vh_parse_grammar.proofs.MarkingLemmas.{attached, Peak}
+use Rattle.vh_parse_grammar.proofs.OmissionsLemmas.{attached, Peak}
 use Rattle.vh_parse_grammar.proofs.ShownLemmas.{Behind, Inside}
 
 -- An outcome of the pure grammar, in which nothing is left out
@@ -151,18 +151,18 @@ module _ (s : Subject) (parsed : ℕ → List s.Token → Out s.Token s.Tree) (f
       let c : shown ≤ place = i.1 in
       absurd (omega arith)
 
-  none-marked : (n : ℕ) (ts : List s.Token) (k : ℕ) → NoneLeftOut s n ts → Peak (s.LeavesOut n ts) 0 k → k ≡ 0
-  none-marked n ts k h p = elim p.is [ inl e ↦ e | inr q ↦ absurd (h k q.0 q.1) ]
+  none-noting : (n : ℕ) (ts : List s.Token) (k : ℕ) → NoneLeftOut s n ts → Peak (s.LeavesOut n ts) 0 k → k ≡ 0
+  none-noting n ts k h p = elim p.is [ inl e ↦ e | inr q ↦ absurd (h k q.0 q.1) ]
 
   -- the answer, where nothing is left out
   none-answer : (n : ℕ) (ts : List s.Token) (o : Out s.Token s.Tree) → Pure o → parsed n ts ≡ o → NoneLeftOut s n ts → s.answer n ts ≡ o
   none-answer n ts o p e h =
       let j : (k : ℕ) × (s.answer n ts ≡ answered (attached k (parsed n ts))) × Peak (s.LeavesOut n ts) 0 k = f.judged n ts in
-      j.1 ∙ (rw (none-marked n ts j.0 h j.2, e) (zero-mark o))
+      j.1 ∙ (rw (none-noting n ts j.0 h j.2, e) (zero-omission o))
     where
-      zero-mark : (o : Out s.Token s.Tree) → answered (attached 0 o) ≡ o
-      zero-mark (got a rest) = refl
-      zero-mark (stop fault left) = refl
+      zero-omission : (o : Out s.Token s.Tree) → answered (attached 0 o) ≡ o
+      zero-omission (got a rest) = refl
+      zero-omission (stop fault left) = refl
 
   answers : Answers s
   answers = record {

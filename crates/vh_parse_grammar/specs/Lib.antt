@@ -4,8 +4,8 @@ pub mod Part
 pub mod Nest
 -- Reading the pure grammar
 pub mod Reading
--- Reading with a mark of what is left out
-pub mod Marking
+-- Reading with an omission of what is left out
+pub mod Omissions
 -- What reading means, by cases on parts
 pub mod Sentences
 -- That productions and turns take tokens

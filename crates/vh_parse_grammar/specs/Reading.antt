@@ -1,5 +1,5 @@
 -- Reading the pure grammar: one total function from a part and a list of tokens to a tree with the tokens
--- that are left, or to a fault with its place. What is left out isn't looked at here (`Marking` does).
+-- that are left, or to a fault with its place. What is left out isn't looked at here (`Omissions` does).
 use Rattle.std.specs.Prelude.{ℕ, zero, suc, Bool, false, if◌then◌else◌, Option, Some, None, List, [], ◌∷◌, ◌++◌, length}
 use Rattle.vh_parse_grammar.specs.Part.{Part, done, tok, seq, bind, act, alt, rep, iter, nested, unless, barred}
 

@@ -14,14 +14,14 @@ Stops o (LeftOut left) = o ≡ stop left_out left
 Stops o Memory = Unit {0}
 
 -- The reading gives what the function returns, seen as a tree, and leaves the tokens that it leaves, seen
--- as the table sees them, and the mark (own)
+-- as the table sees them, and the omission (own)
 abbrev pub Says : {T S C A X : Type 0} → (S → T) → (X → A) → Out T (A × ℕ) → Result (X × Cursor S C) Stop → Type 0
-Says seen view o (Ok found) = o ≡ got (view found.0, (found.1).mark) (map seen (found.1).tokens.now)
+Says seen view o (Ok found) = o ≡ got (view found.0, (found.1).omission) (map seen (found.1).tokens.now)
 Says seen view o (Err fault) = Stops o fault
 
 -- The same of a function that returns the cursor alone, `a` being the tree (own)
 abbrev pub Passes : {T S C A : Type 0} → (S → T) → A → Out T (A × ℕ) → Result (Cursor S C) Stop → Type 0
-Passes seen a o (Ok at) = o ≡ got (a, at.mark) (map seen at.tokens.now)
+Passes seen a o (Ok at) = o ≡ got (a, at.omission) (map seen at.tokens.now)
 Passes seen a o (Err fault) = Stops o fault
 
 -- The same of a function that gives the answer: a tree, and no token left (own)

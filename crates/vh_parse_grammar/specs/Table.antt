@@ -3,7 +3,7 @@
 use Rattle.std.specs.Prelude.{◌≡◌, ℕ, suc, Bool, true, List, [], ◌∷◌, length, ◌⊎◌}
 use Rattle.vh_parse_grammar.specs.Part.{Part}
 use Rattle.vh_parse_grammar.specs.Reading.{Fault, lost, Out}
-use Rattle.vh_parse_grammar.specs.Marking.{marked_at, marks, answered, answered_whole}
+use Rattle.vh_parse_grammar.specs.Omissions.{noting_at, noted, answered, answered_whole}
 use Rattle.vh_parse_grammar.specs.Sentences.{ShowsHere, Reads, Begins, Meets, Shows, ReadsAt, BeginsAt, MeetsAt, ShowsAt}
 use Rattle.vh_parse_grammar.specs.Firsts.{first_at}
 use Rattle.vh_parse_grammar.specs.Language.{Spells, Opens, SpellsAt, OpensAt}
@@ -62,7 +62,7 @@ abbrev pub production : (t : Table) → t.Name → Subject
 production t p = record {
   Token = t.Token;
   Tree = t.tree_of p;
-  answer = λ levels ts. answered (marked_at t.left_out t.grammar levels p ts 0);
+  answer = λ levels ts. answered (noting_at t.left_out t.grammar levels p ts 0);
   Is = λ levels. ReadsAt t.grammar levels p;
   Starts = λ levels. BeginsAt t.grammar levels p;
   Refuses = λ levels. MeetsAt t.grammar levels p;
@@ -80,7 +80,7 @@ BeginsSource t levels ts = Begins (ReadsAt t.grammar levels) (BeginsAt t.grammar
 -- What is answered where the tokens are read as a whole source, with so many levels for what is nested in
 -- it (own)
 abbrev pub source : (t : Table) → ℕ → List t.Token → Out t.Token t.Source
-source t levels ts = answered_whole t.left_out (marks t.left_out t.grammar levels t.start ts 0)
+source t levels ts = answered_whole t.left_out (noted t.left_out t.grammar levels t.start ts 0)
 
 -- Tokens are left behind a source, the first of which could not stand there (own)
 abbrev pub IsLeft : (t : Table) → ℕ → List t.Token → List t.Token → Type 0

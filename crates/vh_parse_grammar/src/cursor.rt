@@ -3,7 +3,7 @@
 ghost use Rattle.std.specs.Prelude.{◌≡◌, ⊤, ℕ, Bool, map};
 ghost use Rattle.vh_parse_grammar.specs.Part.{only_means};
 ghost use Rattle.vh_parse_grammar.specs.Reading.{next_is, lost};
-ghost use Rattle.vh_parse_grammar.specs.Marking.{mark_at, refused, marked_past, marked_token};
+ghost use Rattle.vh_parse_grammar.specs.Omissions.{omission_at, refused, noting_past, noting_token};
 ghost use Rattle.vh_parse_grammar.specs.Says.{Passes, Stops};
 
 use crate::Stop;
@@ -36,7 +36,7 @@ pub trait Token<C: Copy> {
 /// left out, as the number of tokens that were left there: 0 where nothing was.
 pub struct Cursor<'t, T, C> {
     pub tokens: &'t [T],
-    pub mark: usize,
+    pub omission: usize,
     classes: PhantomData<C>,
 }
 
@@ -56,11 +56,11 @@ impl<'t, T, C> Cursor<'t, T, C> {
     /// The cursor before all tokens.
     pub fn new(tokens: &'t [T]) -> Cursor<'t, T, C>
         ensures tokens { result.tokens.now ≡ tokens.now }
-        ensures mark { result.mark ≡ 0 }
+        ensures omission { result.omission ≡ 0 }
     {
         Cursor {
             tokens,
-            mark: 0,
+            omission: 0,
             classes: PhantomData,
         }
     }
@@ -68,11 +68,11 @@ impl<'t, T, C> Cursor<'t, T, C> {
     /// The cursor behind these tokens.
     pub fn before(self, tokens: &'t [T]) -> Cursor<'t, T, C>
         ensures tokens { result.tokens.now ≡ tokens.now }
-        ensures mark { result.mark ≡ self.entry.mark }
+        ensures omission { result.omission ≡ self.entry.omission }
     {
         Cursor {
             tokens,
-            mark: self.mark,
+            omission: self.omission,
             classes: PhantomData,
         }
     }
@@ -80,18 +80,18 @@ impl<'t, T, C> Cursor<'t, T, C> {
 
 impl<'t, T: Token<C>, C: Copy> Cursor<'t, T, C> {
     /// The cursor, where a token was or wasn't seen that shows what begins at `start` to be left out.
-    pub fn marked(self, start: &[T], shown: bool) -> Cursor<'t, T, C>
+    pub fn noting(self, start: &[T], shown: bool) -> Cursor<'t, T, C>
         ensures tokens { result.tokens.now ≡ self.entry.tokens.now }
-        ensures mark { result.mark ≡ mark_at (map T.seen start.now) shown self.entry.mark }
+        ensures omission { result.omission ≡ omission_at (map T.seen start.now) shown self.entry.omission }
     {
-        let mark = if shown {
-            self.mark.max(start.len())
+        let omission = if shown {
+            self.omission.max(start.len())
         } else {
-            self.mark
+            self.omission
         };
         Cursor {
             tokens: self.tokens,
-            mark,
+            omission,
             classes: PhantomData,
         }
     }
@@ -109,25 +109,25 @@ impl<'t, T: Token<C>, C: Copy> Cursor<'t, T, C> {
     /// Why a parser stops at the next token, which could not stand there, or at the end.
     pub fn lost(self) -> Stop
         ensures { Stops (refused {A = Unit {0}} T.word lost (map T.seen self.entry.tokens.now)
-            self.entry.mark) result }
+            self.entry.omission) result }
     {
         let shown = match self.tokens {
             [] => false,
             [first, ..] => first.is_left_out(),
         };
-        let at = self.marked(self.tokens, shown);
-        if at.mark == 0 {
+        let at = self.noting(self.tokens, shown);
+        if at.omission == 0 {
             Stop::Lost(self.tokens.len())
         } else {
-            Stop::LeftOut(at.mark)
+            Stop::LeftOut(at.omission)
         }
     }
 
     /// The cursor behind a token of the class.
     pub fn take(self, class: C) -> Result<Cursor<'t, T, C>, Stop>
         ensures { Passes T.seen tt
-            (marked_token T.word (only_means (T.has class)) (map T.seen self.entry.tokens.now)
-            self.entry.mark) result }
+            (noting_token T.word (only_means (T.has class)) (map T.seen self.entry.tokens.now)
+            self.entry.omission) result }
     {
         match self.tokens {
             [first, rest @ ..] if first.is(class) => Ok(self.before(rest)),
@@ -137,17 +137,17 @@ impl<'t, T: Token<C>, C: Copy> Cursor<'t, T, C> {
 
     /// Why a parser stops where no level is left.
     pub fn past(self) -> Stop
-        ensures { Stops (marked_past {A = Unit {0}} T.word (map T.seen self.entry.tokens.now)
-            self.entry.mark) result }
+        ensures { Stops (noting_past {A = Unit {0}} T.word (map T.seen self.entry.tokens.now)
+            self.entry.omission) result }
     {
         let Some(first) = self.tokens.first() else {
             return self.lost();
         };
-        let at = self.marked(self.tokens, first.is_left_out());
-        if at.mark == 0 {
+        let at = self.noting(self.tokens, first.is_left_out());
+        if at.omission == 0 {
             Stop::Deep(self.tokens.len())
         } else {
-            Stop::LeftOut(at.mark)
+            Stop::LeftOut(at.omission)
         }
     }
 }

@@ -2,7 +2,7 @@
 //! token, which may carry its place, and in the names of the productions.
 //!
 //! What it is for stands in `specs/`: the parts that productions are written with (`Part`), the one total
-//! function that reads them (`Reading`), with a mark of what is left out (`Marking`), what reading means, by
+//! function that reads them (`Reading`), with an omission of what is left out (`Omissions`), what reading means, by
 //! cases on parts (`Sentences`), the language without the classes of its choices (`Language`), and what a
 //! table has to meet (`Conditions`, `Choices`, `Table`). The README says how a grammar is written.
 //!

@@ -2,8 +2,8 @@
 use Rattle.std.proofs.Common.{◌≡◌, ℕ, zero, suc, ◌<◌, true, List, [], ◌∷◌, ◌++◌, length, refl}
 use Rattle.vh_parse_grammar.specs.Conditions.{eats, Advances}
 use Rattle.vh_parse_grammar.specs.Reading.{got, next_is}
-use Rattle.vh_parse_grammar.specs.Marking.{marks, joined_marks}
-use Rattle.vh_parse_grammar.proofs.MarkTurns.{marks_less, joined_marks_turn, iter_marks_turn}
+use Rattle.vh_parse_grammar.specs.Omissions.{noted, joined_noted}
+use Rattle.vh_parse_grammar.proofs.OmissionTurns.{noted_less, joined_noted_turn, iter_noted_turn}
 use Rattle.vh_ast.specs.Items.{ModuleTree}
 use Rattle.vh_parse_syntax.specs.Tokens.{Token, is_module, is_unused}
 use Rattle.vh_parse_syntax.specs.Declarations.{reg_decl, integer_decl, time_decl, decl}
@@ -24,13 +24,13 @@ turn_advances zero r = (refl, ((tt, item_advances), tt))
 turn_advances (suc depth) r = (refl, ((tt, (tt, item_advances)), tt))
 
 pub items_go_on : (depth : ℕ) (r u : Region) (ts mid : List Token) (m k : ℕ) → next_is (region_goes r.depth) ts ≡ true →
-    marks is_unused grammar depth (region_turn r.depth r) ts m ≡ got (u, k) mid →
-    marks is_unused grammar depth (all_items r) ts m ≡ marks is_unused grammar depth (all_items u) mid k
+    noted is_unused grammar depth (region_turn r.depth r) ts m ≡ got (u, k) mid →
+    noted is_unused grammar depth (all_items r) ts m ≡ noted is_unused grammar depth (all_items u) mid k
 items_go_on depth r u ts mid m k c e =
-    iter_marks_turn is_unused grammar eating advancing depth (λ v t. region_goes v.depth t) (λ v. region_turn v.depth v) (λ v. turn_advances v.depth v) r ts m u k mid c e
+    iter_noted_turn is_unused grammar eating advancing depth (λ v t. region_goes v.depth t) (λ v. region_turn v.depth v) (λ v. turn_advances v.depth v) r ts m u k mid c e
 
-pub item_less : (depth : ℕ) (r : Region) (u : Region × ℕ) (ts mid : List Token) (m : ℕ) → marks is_unused grammar depth (region_turn r.depth r) ts m ≡ got u mid → length mid < length ts
-item_less depth r u ts mid m e = marks_less is_unused grammar eating advancing depth (region_turn r.depth r) (turn_advances r.depth r).1 (turn_advances r.depth r).0 ts m u mid e
+pub item_less : (depth : ℕ) (r : Region) (u : Region × ℕ) (ts mid : List Token) (m : ℕ) → noted is_unused grammar depth (region_turn r.depth r) ts m ≡ got u mid → length mid < length ts
+item_less depth r u ts mid m e = noted_less is_unused grammar eating advancing depth (region_turn r.depth r) (turn_advances r.depth r).1 (turn_advances r.depth r).0 ts m u mid e
 
 -- The same up to the end of a region
 within_advances : (depth : ℕ) (r : Region) → (eats (within_turn depth r) ≡ true) × Advances (within_turn depth r)
@@ -39,13 +39,13 @@ within_advances zero r = (refl, tt)
 within_advances (suc depth) r = turn_advances (suc depth) r
 
 pub within_go_on : (depth : ℕ) (r u : Region) (ts mid : List Token) (m k : ℕ) → next_is (within_goes r.depth) ts ≡ true →
-    marks is_unused grammar depth (within_turn r.depth r) ts m ≡ got (u, k) mid →
-    marks is_unused grammar depth (within r) ts m ≡ marks is_unused grammar depth (within u) mid k
+    noted is_unused grammar depth (within_turn r.depth r) ts m ≡ got (u, k) mid →
+    noted is_unused grammar depth (within r) ts m ≡ noted is_unused grammar depth (within u) mid k
 within_go_on depth r u ts mid m k c e =
-    iter_marks_turn is_unused grammar eating advancing depth (λ v t. within_goes v.depth t) (λ v. within_turn v.depth v) (λ v. within_advances v.depth v) r ts m u k mid c e
+    iter_noted_turn is_unused grammar eating advancing depth (λ v t. within_goes v.depth t) (λ v. within_turn v.depth v) (λ v. within_advances v.depth v) r ts m u k mid c e
 
-pub within_less : (depth : ℕ) (r : Region) (u : Region × ℕ) (ts mid : List Token) (m : ℕ) → marks is_unused grammar depth (within_turn r.depth r) ts m ≡ got u mid → length mid < length ts
-within_less depth r u ts mid m e = marks_less is_unused grammar eating advancing depth (within_turn r.depth r) (within_advances r.depth r).1 (within_advances r.depth r).0 ts m u mid e
+pub within_less : (depth : ℕ) (r : Region) (u : Region × ℕ) (ts mid : List Token) (m : ℕ) → noted is_unused grammar depth (within_turn r.depth r) ts m ≡ got u mid → length mid < length ts
+within_less depth r u ts mid m e = noted_less is_unused grammar eating advancing depth (within_turn r.depth r) (within_advances r.depth r).1 (within_advances r.depth r).0 ts m u mid e
 
 -- modules go on by one
 module_advances : (eats a_module ≡ true) × Advances a_module
@@ -53,11 +53,11 @@ unfolding source
 module_advances = source_advances
 
 pub modules_go_on : (depth : ℕ) (front : List ModuleTree) (a : ModuleTree) (ts mid : List Token) (m k : ℕ) → next_is is_module ts ≡ true →
-    marks is_unused grammar depth a_module ts m ≡ got (a, k) mid →
-    joined_marks front (marks is_unused grammar depth source ts m) ≡ joined_marks (front ++ a ∷ []) (marks is_unused grammar depth source mid k)
+    noted is_unused grammar depth a_module ts m ≡ got (a, k) mid →
+    joined_noted front (noted is_unused grammar depth source ts m) ≡ joined_noted (front ++ a ∷ []) (noted is_unused grammar depth source mid k)
 unfolding source
 modules_go_on depth front a ts mid m k c r =
-    joined_marks_turn is_unused grammar eating advancing depth is_module a_module module_advances.1 module_advances.0 front ts m a k mid c r
+    joined_noted_turn is_unused grammar eating advancing depth is_module a_module module_advances.1 module_advances.0 front ts m a k mid c r
 
-pub module_less : (depth : ℕ) (a : ModuleTree × ℕ) (ts mid : List Token) (m : ℕ) → marks is_unused grammar depth a_module ts m ≡ got a mid → length mid < length ts
-module_less depth a ts mid m r = marks_less is_unused grammar eating advancing depth a_module module_advances.1 module_advances.0 ts m a mid r
+pub module_less : (depth : ℕ) (a : ModuleTree × ℕ) (ts mid : List Token) (m : ℕ) → noted is_unused grammar depth a_module ts m ≡ got a mid → length mid < length ts
+module_less depth a ts mid m r = noted_less is_unused grammar eating advancing depth a_module module_advances.1 module_advances.0 ts m a mid r

@@ -22,12 +22,12 @@ use sqlite_items::{Boxed, Items};
 use std::alloc::Global;
 use vh_ast::{Assigned, Expr, Gblock, Item, only};
 use vh_parse_decl::in_parens;
-use vh_parse_expr::{At, Read, expression, sign, then_sign};
+use vh_parse_expr::{At, Read, expression, lexeme, then_lexeme};
 use vh_parse_parts::{
     assign_item, assigned, decl_item, event_item, gate_item, genvar_item, instance_item, net_item,
     parameter_item, port_item,
 };
-use vh_parse_syntax::{Class, Group, Rows, Sign};
+use vh_parse_syntax::{Class, Group, Rows, Lexeme};
 
 // What stands in the brackets of a loop of items.
 #[derive(Drop)]
@@ -59,9 +59,9 @@ fn generate_head<'t>(alloc: Global, depth: usize, at: At<'t>) -> Read<'t, Genera
     ensures { Reads generate_tree depth parts.generate_head at.entry result }
 {
     let (start, more) = boxed_assigned(alloc, depth, at)?;
-    let more = more.take(Class::Is(Sign::Semicolon))?;
+    let more = more.take(Class::Is(Lexeme::Semicolon))?;
     let (test, more) = boxed_expression(alloc, depth, more)?;
-    let more = more.take(Class::Is(Sign::Semicolon))?;
+    let more = more.take(Class::Is(Lexeme::Semicolon))?;
     let (step, rest) = boxed_assigned(alloc, depth, more)?;
     Ok((GenerateHead { start, test, step }, rest))
 }
@@ -70,9 +70,9 @@ fn generate_head<'t>(alloc: Global, depth: usize, at: At<'t>) -> Read<'t, Genera
 fn head_in_parens<'t>(alloc: Global, depth: usize, at: At<'t>) -> Read<'t, Boxed<GenerateHead>>
     ensures { Reads generate_tree depth (in_parens parts.generate_head) at.entry result }
 {
-    let opened = at.take(Class::Is(Sign::LeftParen))?;
+    let opened = at.take(Class::Is(Lexeme::LeftParen))?;
     let (head, closing) = generate_head(alloc, depth, opened)?;
-    let (head, rest) = then_sign(head, Sign::RightParen, closing)?;
+    let (head, rest) = then_lexeme(head, Lexeme::RightParen, closing)?;
     Ok((Boxed::new(alloc, head)?, rest))
 }
 
@@ -94,7 +94,7 @@ fn inner_gblock<'t>(alloc: Global, depth: usize, at: At<'t>) -> Read<'t, Boxed<G
 fn for_item<'t>(alloc: Global, depth: usize, at: At<'t>) -> Read<'t, Boxed<Item>>
     ensures { Reads item_tree depth parts.for_item at.entry result }
 {
-    let (place, more) = sign(Sign::For, at)?;
+    let (place, more) = lexeme(Lexeme::For, at)?;
     let (head, more) = head_in_parens(alloc, depth, more)?;
     let (body, rest) = inner_gblock(alloc, depth, more)?;
     Ok((made::for_item(alloc, place, head, body)?, rest))
@@ -110,10 +110,10 @@ fn other_gblock<'t>(
 ) -> Read<'t, Option<Boxed<Gblock<Item>>>>
     ensures { Reads (option_map gblock_tree) depth parts.other_gblock at.entry result }
 {
-    if !at.next_is(Class::Is(Sign::Else)) {
+    if !at.next_is(Class::Is(Lexeme::Else)) {
         return Ok((None, at));
     }
-    let next = at.take(Class::Is(Sign::Else))?;
+    let next = at.take(Class::Is(Lexeme::Else))?;
     let (other, rest) = inner_gblock(alloc, depth, next)?;
     Ok((Some(other), rest))
 }
@@ -124,7 +124,7 @@ fn other_gblock<'t>(
 fn if_item<'t>(alloc: Global, depth: usize, at: At<'t>) -> Read<'t, Boxed<Item>>
     ensures { Reads item_tree depth parts.if_item at.entry result }
 {
-    let (place, more) = sign(Sign::If, at)?;
+    let (place, more) = lexeme(Lexeme::If, at)?;
     let (test, more) = in_parens(alloc, depth, true, more)?;
     let (holds, more) = inner_gblock(alloc, depth, more)?;
     let (fails, rest) = other_gblock(alloc, depth, more)?;
@@ -142,13 +142,13 @@ fn last_items<'t>(alloc: Global, depth: usize, at: At<'t>) -> Read<'t, Boxed<Ite
     if at.next_is(Class::Row(Rows::Process)) {
         return process_item(alloc, depth, at);
     }
-    if at.next_is(Class::Is(Sign::Task)) {
+    if at.next_is(Class::Is(Lexeme::Task)) {
         return task_item(alloc, depth, at);
     }
-    if at.next_is(Class::Is(Sign::Function)) {
+    if at.next_is(Class::Is(Lexeme::Function)) {
         return function_item(alloc, depth, at);
     }
-    if at.next_is(Class::Is(Sign::For)) {
+    if at.next_is(Class::Is(Lexeme::For)) {
         return for_item(alloc, depth, at);
     }
     if_item(alloc, depth, at)
@@ -169,16 +169,16 @@ fn item<'t>(alloc: Global, depth: usize, at: At<'t>) -> Read<'t, Boxed<Item>>
     if at.next_is(Class::Among(Group::Decl)) {
         return decl_item(alloc, depth, at);
     }
-    if at.next_is(Class::Is(Sign::Event)) {
+    if at.next_is(Class::Is(Lexeme::Event)) {
         return event_item(alloc, depth, at);
     }
-    if at.next_is(Class::Is(Sign::Genvar)) {
+    if at.next_is(Class::Is(Lexeme::Genvar)) {
         return genvar_item(alloc, depth, at);
     }
     if at.next_is(Class::Row(Rows::Parameter)) {
         return parameter_item(alloc, depth, at);
     }
-    if at.next_is(Class::Is(Sign::Assign)) {
+    if at.next_is(Class::Is(Lexeme::Assign)) {
         return assign_item(alloc, depth, at);
     }
     if at.next_is(Class::Row(Rows::Gate)) {
@@ -203,7 +203,7 @@ fn next_item<'t>(alloc: Global, depth: usize, region: Region, at: At<'t>) -> Rea
 fn outer_word<'t>(alloc: Global, depth: usize, region: Region, at: At<'t>) -> Read<'t, Region>
     ensures { Reads region_tree depth (outer_word (region_tree region)) at.entry result }
 {
-    if at.next_is(Class::Is(Sign::Generate)) {
+    if at.next_is(Class::Is(Lexeme::Generate)) {
         return opened(region, at);
     }
     next_item(alloc, depth, region, at)
@@ -216,10 +216,10 @@ fn inner_word<'t>(alloc: Global, depth: usize, region: Region, at: At<'t>) -> Re
     ensures { let part = inner_word (region.open - 1) (region_tree region) in
         Reads region_tree depth part at.entry result }
 {
-    if at.next_is(Class::Is(Sign::Generate)) {
+    if at.next_is(Class::Is(Lexeme::Generate)) {
         return opened(region, at);
     }
-    if at.next_is(Class::Is(Sign::Endgenerate)) {
+    if at.next_is(Class::Is(Lexeme::Endgenerate)) {
         return closed(region, at);
     }
     next_item(alloc, depth, region, at)
@@ -323,8 +323,8 @@ fn region_rest<'t>(alloc: Global, depth: usize, region: Region, at: At<'t>) -> R
 fn first_word<'t>(alloc: Global, depth: usize, at: At<'t>) -> Read<'t, (usize, Boxed<Item>)>
     ensures { Reads word_pair depth parts.first_word at.entry result }
 {
-    if at.next_is(Class::Is(Sign::Generate)) {
-        let (place, rest) = sign(Sign::Generate, at)?;
+    if at.next_is(Class::Is(Lexeme::Generate)) {
+        let (place, rest) = lexeme(Lexeme::Generate, at)?;
         return Ok(((1, made::generate(alloc, place)?), rest));
     }
     let (item, rest) = item(alloc, depth, at)?;
@@ -366,10 +366,10 @@ fn one_item<'t>(alloc: Global, depth: usize, at: At<'t>) -> Read<'t, Boxed<Gbloc
 fn item_block<'t>(alloc: Global, depth: usize, at: At<'t>) -> Read<'t, Boxed<Gblock<Item>>>
     ensures { Reads gblock_tree depth parts.item_block at.entry result }
 {
-    let (place, more) = sign(Sign::Begin, at)?;
+    let (place, more) = lexeme(Lexeme::Begin, at)?;
     let (name, more) = written_name(more)?;
     let (items, more) = items(alloc, depth, more)?;
-    let (items, rest) = then_sign(items, Sign::End, more)?;
+    let (items, rest) = then_lexeme(items, Lexeme::End, more)?;
     Ok((made::item_block(alloc, place, name, items)?, rest))
 }
 
@@ -379,7 +379,7 @@ fn item_block<'t>(alloc: Global, depth: usize, at: At<'t>) -> Read<'t, Boxed<Gbl
 fn gblock<'t>(alloc: Global, depth: usize, at: At<'t>) -> Read<'t, Boxed<Gblock<Item>>>
     ensures { Reads gblock_tree depth parts.a_gblock at.entry result }
 {
-    if at.next_is(Class::Is(Sign::Begin)) {
+    if at.next_is(Class::Is(Lexeme::Begin)) {
         return item_block(alloc, depth, at);
     }
     one_item(alloc, depth, at)

@@ -15,9 +15,9 @@ use std::alloc::Global;
 use vh_ast::{Module, Ports};
 use vh_base::Place;
 use vh_lex::{Kind, Setting};
-use vh_parse_expr::{At, Read, id, then_sign};
+use vh_parse_expr::{At, Read, id, then_lexeme};
 use vh_parse_parts::{pars, ports};
-use vh_parse_syntax::{Class, Sign, Start};
+use vh_parse_syntax::{Class, Lexeme, Start};
 
 // `"module"`, with what the directives before it set.
 fn module_word<'t>(at: At<'t>) -> Read<'t, (Place, Setting)>
@@ -36,7 +36,7 @@ fn module_word<'t>(at: At<'t>) -> Read<'t, (Place, Setting)>
 fn maybe_ports<'t>(alloc: Global, depth: usize, at: At<'t>) -> Read<'t, Option<Boxed<Ports>>>
     ensures { Reads (option_map ports_tree) depth maybe_ports at.entry result }
 {
-    let at = at.marked(at.tokens, at.next_is(Class::Is(Sign::Inout)));
+    let at = at.noting(at.tokens, at.next_is(Class::Is(Lexeme::Inout)));
     if !at.next_is(Class::Begins(Start::Ports)) {
         return Ok((None, at));
     }
@@ -48,9 +48,9 @@ fn maybe_ports<'t>(alloc: Global, depth: usize, at: At<'t>) -> Read<'t, Option<B
 fn bracketed_ports<'t>(alloc: Global, depth: usize, at: At<'t>) -> Read<'t, Option<Boxed<Ports>>>
     ensures { Reads (option_map ports_tree) depth (in_parens maybe_ports) at.entry result }
 {
-    let opened = at.take(Class::Is(Sign::LeftParen))?;
+    let opened = at.take(Class::Is(Lexeme::LeftParen))?;
     let (ports, closing) = maybe_ports(alloc, depth, opened)?;
-    let (ports, rest) = then_sign(ports, Sign::RightParen, closing)?;
+    let (ports, rest) = then_lexeme(ports, Lexeme::RightParen, closing)?;
     Ok((ports, rest))
 }
 
@@ -59,7 +59,7 @@ fn bracketed_ports<'t>(alloc: Global, depth: usize, at: At<'t>) -> Read<'t, Opti
 fn port_list<'t>(alloc: Global, depth: usize, at: At<'t>) -> Read<'t, Option<Boxed<Ports>>>
     ensures { Reads (option_map ports_tree) depth parts.port_list at.entry result }
 {
-    if !at.next_is(Class::Is(Sign::LeftParen)) {
+    if !at.next_is(Class::Is(Lexeme::LeftParen)) {
         return Ok((None, at));
     }
     bracketed_ports(alloc, depth, at)
@@ -74,9 +74,9 @@ fn module<'t>(alloc: Global, depth: usize, at: At<'t>) -> Read<'t, Module>
     let (id, more) = id(more)?;
     let (pars, more) = pars(alloc, depth, more)?;
     let (ports, more) = port_list(alloc, depth, more)?;
-    let (ports, more) = then_sign(ports, Sign::Semicolon, more)?;
+    let (ports, more) = then_lexeme(ports, Lexeme::Semicolon, more)?;
     let (items, more) = items(alloc, depth, more)?;
-    let (items, rest) = then_sign(items, Sign::Endmodule, more)?;
+    let (items, rest) = then_lexeme(items, Lexeme::Endmodule, more)?;
     Ok((made::module(word, id, pars, ports, items), rest))
 }
 

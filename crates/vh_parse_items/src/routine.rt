@@ -14,11 +14,11 @@ use std::alloc::Global;
 use vh_ast::{Id, Item, Local, ProcessWord, ResultType, Stmt, Targ};
 use vh_base::Place;
 use vh_parse_decl::data_type;
-use vh_parse_expr::{At, Read, id, placed_row, sign, then_sign};
+use vh_parse_expr::{At, Read, id, placed_row, lexeme, then_lexeme};
 use vh_parse_parts::{locals, maybe_targs};
 use vh_parse_stmt::inner_statement;
 use vh_parse_syntax::tables::PROCESS;
-use vh_parse_syntax::{Class, Group, Sign};
+use vh_parse_syntax::{Class, Group, Lexeme};
 
 // A task or function, but for the words around it.
 #[derive(Drop)]
@@ -41,7 +41,7 @@ fn routine<'t>(
 {
     let (id, more) = id(at)?;
     let (targs, more) = maybe_targs(alloc, depth, more)?;
-    let (targs, more) = then_sign(targs, Sign::Semicolon, more)?;
+    let (targs, more) = then_lexeme(targs, Lexeme::Semicolon, more)?;
     let (locals, more) = locals(alloc, depth, more)?;
     let (body, rest) = inner_statement(alloc, depth, inside, more)?;
     let routine = RoutineParts {
@@ -58,9 +58,9 @@ fn routine<'t>(
 pub(crate) fn task_item<'t>(alloc: Global, depth: usize, at: At<'t>) -> Read<'t, Boxed<Item>>
     ensures { Reads item_tree depth parts.task_item at.entry result }
 {
-    let (place, more) = sign(Sign::Task, at)?;
+    let (place, more) = lexeme(Lexeme::Task, at)?;
     let (routine, more) = routine(alloc, depth, false, more)?;
-    let (routine, rest) = then_sign(routine, Sign::Endtask, more)?;
+    let (routine, rest) = then_lexeme(routine, Lexeme::Endtask, more)?;
     Ok((made::task(alloc, place, routine)?, rest))
 }
 
@@ -69,12 +69,12 @@ pub(crate) fn task_item<'t>(alloc: Global, depth: usize, at: At<'t>) -> Read<'t,
 fn result_type<'t>(alloc: Global, depth: usize, at: At<'t>) -> Read<'t, Option<Boxed<ResultType>>>
     ensures { Reads (option_map result_tree) depth parts.result_type at.entry result }
 {
-    if at.next_is(Class::Is(Sign::Integer)) {
-        let rest = at.take(Class::Is(Sign::Integer))?;
+    if at.next_is(Class::Is(Lexeme::Integer)) {
+        let rest = at.take(Class::Is(Lexeme::Integer))?;
         return Ok((Some(Boxed::new(alloc, ResultType::Integer)?), rest));
     }
-    if at.next_is(Class::Is(Sign::Time)) {
-        let rest = at.take(Class::Is(Sign::Time))?;
+    if at.next_is(Class::Is(Lexeme::Time)) {
+        let rest = at.take(Class::Is(Lexeme::Time))?;
         return Ok((Some(Boxed::new(alloc, ResultType::Time)?), rest));
     }
     if at.next_is(Class::Among(Group::Type)) {
@@ -89,10 +89,10 @@ fn result_type<'t>(alloc: Global, depth: usize, at: At<'t>) -> Read<'t, Option<B
 pub(crate) fn function_item<'t>(alloc: Global, depth: usize, at: At<'t>) -> Read<'t, Boxed<Item>>
     ensures { Reads item_tree depth parts.function_item at.entry result }
 {
-    let (place, more) = sign(Sign::Function, at)?;
+    let (place, more) = lexeme(Lexeme::Function, at)?;
     let (result_type, more) = result_type(alloc, depth, more)?;
     let (routine, more) = routine(alloc, depth, true, more)?;
-    let (routine, rest) = then_sign(routine, Sign::Endfunction, more)?;
+    let (routine, rest) = then_lexeme(routine, Lexeme::Endfunction, more)?;
     Ok((made::function(alloc, place, result_type, routine)?, rest))
 }
 

@@ -26,8 +26,8 @@ fn read(alloc: Global, tokens: &[Token]) -> Result<Source, Stop>
     let [] = rest.tokens else {
         return Err(rest.lost());
     };
-    if rest.mark > 0 {
-        return Err(Stop::LeftOut(rest.mark));
+    if rest.omission > 0 {
+        return Err(Stop::LeftOut(rest.omission));
     }
     Ok(Source { modules })
 }

@@ -10,5 +10,5 @@ use Rattle.vh_parse_expr.specs.Views.{At}
 
 -- identifiers, each of which is its own tree
 pub ids_same : (o : Out Token (List Id × ℕ)) (r : Result (List Id × At) Stop) → Says token_seen (map (λ (i : Id). i)) o r → Says token_seen (λ all. all) o r
-ids_same o (Ok found) e = e ∙ ap (λ all. got (all, (found.1).mark) (map token_seen (found.1).tokens.now)) (map-id found.0)
+ids_same o (Ok found) e = e ∙ ap (λ all. got (all, (found.1).omission) (map token_seen (found.1).tokens.now)) (map-id found.0)
 ids_same o (Err fault) e = e

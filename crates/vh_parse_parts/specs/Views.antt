@@ -41,4 +41,4 @@ abbrev pub argument_tree : Argument → TargTree
 argument_tree a = parts.targ_of (head_tree a.head) a.ids
 
 abbrev pub targs_tree : Arguments → parts.Targs
-targs_tree a = record { front = map targ_tree a.front; last = argument_tree a.last }
+targs_tree a = record { earlier = map targ_tree a.earlier; last = argument_tree a.last }

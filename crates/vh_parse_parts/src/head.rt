@@ -11,7 +11,7 @@ use std::alloc::Global;
 use vh_ast::{DataType, Direction, PortType, TaskDirection, Variable};
 use vh_base::Place;
 use vh_parse_expr::{At, Read, placed_row, row_if_next};
-use vh_parse_syntax::Sign;
+use vh_parse_syntax::Lexeme;
 use vh_parse_syntax::tables::{DIRECTION, PORT_TYPE, TARG, VARIABLE};
 
 // A direction, what the names are where it is said, and their type.
@@ -33,8 +33,8 @@ pub(crate) type TargHead = Head<TaskDirection, Variable>;
 fn any_head<'t, D: Copy, K: Copy>(
     alloc: Global,
     depth: usize,
-    directions: &[(Sign, D)],
-    kinds: &[(Sign, K)],
+    directions: &[(Lexeme, D)],
+    kinds: &[(Lexeme, K)],
     at: At<'t>,
 ) -> Read<'t, Head<D, K>>
     ensures { Reads head_tree depth (any_head directions.now kinds.now) at.entry result }

@@ -4,7 +4,7 @@ ghost use Rattle.std.specs.Prelude.{◌≡◌, Bool, Option, option_map, map};
 ghost use Rattle.vh_parse_grammar.specs.Part.{act, opt, after};
 ghost use Rattle.vh_ast.specs.Items as trees;
 ghost use Rattle.vh_ast.specs.Views.{expr_tree, gate_tree, conn_tree, inst_tree};
-ghost use Rattle.vh_parse_syntax.specs.declared.sign.Sign.TheVariants as signs;
+ghost use Rattle.vh_parse_syntax.specs.declared.lexeme.Lexeme.TheVariants as lexemes;
 ghost use Rattle.vh_parse_syntax.specs.Tokens.{is};
 ghost use Rattle.vh_parse_syntax.specs.Parts.{the, in_parens};
 ghost use Rattle.vh_parse_syntax.specs.Statements.{all_of};
@@ -19,8 +19,8 @@ use sqlite_items::Items;
 use std::alloc::Global;
 use vh_ast::{Conn, Conns, Expr, Gate, Inst};
 use vh_parse_decl::{Exprs, Listed, list, list_in_parens};
-use vh_parse_expr::{At, Read, expression, id, sign, then_sign};
-use vh_parse_syntax::{Class, Sign, Start};
+use vh_parse_expr::{At, Read, expression, id, lexeme, then_lexeme};
+use vh_parse_syntax::{Class, Lexeme, Start};
 
 // `ID "(" expr { "," expr } ")"`
 fn named_gate<'t>(alloc: Global, depth: usize, at: At<'t>) -> Read<'t, Gate>
@@ -44,9 +44,9 @@ fn named_gate<'t>(alloc: Global, depth: usize, at: At<'t>) -> Read<'t, Gate>
 fn bare_gate<'t>(alloc: Global, depth: usize, at: At<'t>) -> Read<'t, Gate>
     ensures { Reads gate_tree depth bare_gate at.entry result }
 {
-    let (place, opened) = sign(Sign::LeftParen, at)?;
+    let (place, opened) = lexeme(Lexeme::LeftParen, at)?;
     let (terminals, closing) = list::<Exprs>(alloc, depth, true, opened)?;
-    let (terminals, rest) = then_sign(terminals, Sign::RightParen, closing)?;
+    let (terminals, rest) = then_lexeme(terminals, Lexeme::RightParen, closing)?;
     let id = None;
     Ok((
         Gate {
@@ -103,9 +103,9 @@ fn maybe_expr<'t>(alloc: Global, depth: usize, at: At<'t>) -> Read<'t, Option<Ex
 fn maybe_in_parens<'t>(alloc: Global, depth: usize, at: At<'t>) -> Read<'t, Option<Expr>>
     ensures { Reads (option_map expr_tree) depth (in_parens parts.maybe_expr) at.entry result }
 {
-    let opened = at.take(Class::Is(Sign::LeftParen))?;
+    let opened = at.take(Class::Is(Lexeme::LeftParen))?;
     let (expr, closing) = maybe_expr(alloc, depth, opened)?;
-    let (expr, rest) = then_sign(expr, Sign::RightParen, closing)?;
+    let (expr, rest) = then_lexeme(expr, Lexeme::RightParen, closing)?;
     Ok((expr, rest))
 }
 
@@ -114,7 +114,7 @@ fn maybe_in_parens<'t>(alloc: Global, depth: usize, at: At<'t>) -> Read<'t, Opti
 fn named_conn<'t>(alloc: Global, depth: usize, at: At<'t>) -> Read<'t, Conn>
     ensures { Reads conn_tree depth parts.conn_by_name at.entry result }
 {
-    let (place, more) = sign(Sign::Dot, at)?;
+    let (place, more) = lexeme(Lexeme::Dot, at)?;
     let (id, more) = id(more)?;
     let (expr, rest) = maybe_in_parens(alloc, depth, more)?;
     Ok((Conn::Named { place, id, expr }, rest))
@@ -125,7 +125,7 @@ fn named_conn<'t>(alloc: Global, depth: usize, at: At<'t>) -> Read<'t, Conn>
 fn conn<'t>(alloc: Global, depth: usize, at: At<'t>) -> Read<'t, Conn>
     ensures { Reads conn_tree depth parts.conn at.entry result }
 {
-    if at.next_is(Class::Is(Sign::Dot)) {
+    if at.next_is(Class::Is(Lexeme::Dot)) {
         return named_conn(alloc, depth, at);
     }
     let (expr, rest) = maybe_expr(alloc, depth, at)?;
@@ -173,9 +173,9 @@ fn written_conns<'t>(alloc: Global, depth: usize, at: At<'t>) -> Read<'t, Conns>
 fn conns_in_parens<'t>(alloc: Global, depth: usize, at: At<'t>) -> Read<'t, Conns>
     ensures { Reads conns_seen depth (in_parens written_conns) at.entry result }
 {
-    let opened = at.take(Class::Is(Sign::LeftParen))?;
+    let opened = at.take(Class::Is(Lexeme::LeftParen))?;
     let (all, closing) = written_conns(alloc, depth, opened)?;
-    let (all, rest) = then_sign(all, Sign::RightParen, closing)?;
+    let (all, rest) = then_lexeme(all, Lexeme::RightParen, closing)?;
     Ok((all, rest))
 }
 
@@ -210,13 +210,13 @@ impl Listed for Instances {
 
 // `"#" "(" conns ")"`
 fn overrides<'t>(alloc: Global, depth: usize, at: At<'t>) -> Read<'t, Conns>
-    ensures { let part = after (the (signs.Hash)) (in_parens parts.conns) in
+    ensures { let part = after (the (lexemes.Hash)) (in_parens parts.conns) in
         Reads conns_seen depth part at.entry result }
 {
-    let next = at.take(Class::Is(Sign::Hash))?;
-    let opened = next.take(Class::Is(Sign::LeftParen))?;
+    let next = at.take(Class::Is(Lexeme::Hash))?;
+    let opened = next.take(Class::Is(Lexeme::LeftParen))?;
     let (all, closing) = conns(alloc, depth, opened)?;
-    let (all, rest) = then_sign(all, Sign::RightParen, closing)?;
+    let (all, rest) = then_lexeme(all, Lexeme::RightParen, closing)?;
     Ok((all, rest))
 }
 
@@ -228,7 +228,7 @@ pub(crate) fn written_overrides<'t>(
 ) -> Read<'t, Option<Conns>>
     ensures { Reads (option_map conns_seen) depth overrides at.entry result }
 {
-    if !at.next_is(Class::Is(Sign::Hash)) {
+    if !at.next_is(Class::Is(Lexeme::Hash)) {
         return Ok((None, at));
     }
     let (all, rest) = overrides(alloc, depth, at)?;

@@ -22,8 +22,8 @@ use sqlite_items::Boxed;
 use std::alloc::Global;
 use vh_ast::{Item, Plain, Set};
 use vh_parse_decl::{Listed, declaration, list, set, written_delay};
-use vh_parse_expr::{At, Read, id, sign, then_sign};
-use vh_parse_syntax::Sign;
+use vh_parse_expr::{At, Read, id, lexeme, then_lexeme};
+use vh_parse_syntax::Lexeme;
 
 // The names of ports and their end.
 #[tactic(auto, unfolding(vh_parse_syntax::specs::Items::port_ids))]
@@ -31,7 +31,7 @@ fn port_ids<'t>(alloc: Global, depth: usize, head: PortHead, at: At<'t>) -> Read
     ensures { Reads item_tree depth (parts.port_ids (head_tree head)) at.entry result }
 {
     let (ids, more) = port_names(alloc, depth, head.kind, at)?;
-    let (ids, rest) = then_sign(ids, Sign::Semicolon, more)?;
+    let (ids, rest) = then_lexeme(ids, Lexeme::Semicolon, more)?;
     Ok((made::ports(alloc, head, ids)?, rest))
 }
 
@@ -53,7 +53,7 @@ pub fn net_item<'t>(alloc: Global, depth: usize, at: At<'t>) -> Read<'t, Boxed<I
     let (word, more) = net_type(at)?;
     let (data_type, more) = boxed_type(alloc, depth, more)?;
     let (all, more) = all_nets(alloc, depth, more)?;
-    let (all, rest) = then_sign(all, Sign::Semicolon, more)?;
+    let (all, rest) = then_lexeme(all, Lexeme::Semicolon, more)?;
     Ok((made::nets(alloc, word, data_type, all)?, rest))
 }
 
@@ -71,9 +71,9 @@ pub fn decl_item<'t>(alloc: Global, depth: usize, at: At<'t>) -> Read<'t, Boxed<
 pub fn event_item<'t>(alloc: Global, depth: usize, at: At<'t>) -> Read<'t, Boxed<Item>>
     ensures { Reads item_tree depth parts.event_item at.entry result }
 {
-    let (place, more) = sign(Sign::Event, at)?;
+    let (place, more) = lexeme(Lexeme::Event, at)?;
     let (ids, more) = ids(alloc, depth, more)?;
-    let (ids, rest) = then_sign(ids, Sign::Semicolon, more)?;
+    let (ids, rest) = then_lexeme(ids, Lexeme::Semicolon, more)?;
     Ok((made::plain(alloc, place, Plain::Event(ids))?, rest))
 }
 
@@ -82,9 +82,9 @@ pub fn event_item<'t>(alloc: Global, depth: usize, at: At<'t>) -> Read<'t, Boxed
 pub fn genvar_item<'t>(alloc: Global, depth: usize, at: At<'t>) -> Read<'t, Boxed<Item>>
     ensures { Reads item_tree depth parts.genvar_item at.entry result }
 {
-    let (place, more) = sign(Sign::Genvar, at)?;
+    let (place, more) = lexeme(Lexeme::Genvar, at)?;
     let (ids, more) = ids(alloc, depth, more)?;
-    let (ids, rest) = then_sign(ids, Sign::Semicolon, more)?;
+    let (ids, rest) = then_lexeme(ids, Lexeme::Semicolon, more)?;
     Ok((made::plain(alloc, place, Plain::Genvar(ids))?, rest))
 }
 
@@ -97,7 +97,7 @@ pub fn parameter_item<'t>(alloc: Global, depth: usize, at: At<'t>) -> Read<'t, B
     let (word, more) = parameter_word(at)?;
     let (data_type, more) = boxed_type(alloc, depth, more)?;
     let (values, more) = list::<Values>(alloc, depth, true, more)?;
-    let (values, rest) = then_sign(values, Sign::Semicolon, more)?;
+    let (values, rest) = then_lexeme(values, Lexeme::Semicolon, more)?;
     Ok((made::parameters(alloc, word, data_type, values)?, rest))
 }
 
@@ -125,10 +125,10 @@ impl Listed for Sets {
 pub fn assign_item<'t>(alloc: Global, depth: usize, at: At<'t>) -> Read<'t, Boxed<Item>>
     ensures { Reads item_tree depth parts.assign_item at.entry result }
 {
-    let (place, more) = sign(Sign::Assign, at)?;
+    let (place, more) = lexeme(Lexeme::Assign, at)?;
     let (delay, more) = written_delay(alloc, depth, more)?;
     let (sets, more) = list::<Sets>(alloc, depth, true, more)?;
-    let (sets, rest) = then_sign(sets, Sign::Semicolon, more)?;
+    let (sets, rest) = then_lexeme(sets, Lexeme::Semicolon, more)?;
     Ok((made::assigns(alloc, place, delay, sets)?, rest))
 }
 
@@ -140,7 +140,7 @@ pub fn gate_item<'t>(alloc: Global, depth: usize, at: At<'t>) -> Read<'t, Boxed<
     let (word, more) = gate_type(at)?;
     let (delay, more) = written_delay(alloc, depth, more)?;
     let (gates, more) = list::<Gates>(alloc, depth, true, more)?;
-    let (gates, rest) = then_sign(gates, Sign::Semicolon, more)?;
+    let (gates, rest) = then_lexeme(gates, Lexeme::Semicolon, more)?;
     Ok((made::gates(alloc, word, delay, gates)?, rest))
 }
 
@@ -152,6 +152,6 @@ pub fn instance_item<'t>(alloc: Global, depth: usize, at: At<'t>) -> Read<'t, Bo
     let (name, more) = id(at)?;
     let (overrides, more) = written_overrides(alloc, depth, more)?;
     let (insts, more) = list::<Instances>(alloc, depth, true, more)?;
-    let (insts, rest) = then_sign(insts, Sign::Semicolon, more)?;
+    let (insts, rest) = then_lexeme(insts, Lexeme::Semicolon, more)?;
     Ok((made::instances(alloc, name, overrides, insts)?, rest))
 }

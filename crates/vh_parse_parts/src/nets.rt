@@ -18,7 +18,7 @@ use std::alloc::Global;
 use vh_ast::{Delay, Net, only};
 use vh_parse_decl::{Listed, bare_id, boxed_delay, further, list, value};
 use vh_parse_expr::{At, Read};
-use vh_parse_syntax::{Class, Group, Sign};
+use vh_parse_syntax::{Class, Group, Lexeme};
 
 // `net`
 #[tactic(auto, unfolding(vh_parse_syntax::specs::Declarations::a_net))]
@@ -71,7 +71,7 @@ pub(crate) struct Delayed {
 fn delayed_goes(valued: bool, at: At<'_>) -> bool
     ensures { result ≡ next_is (delayed_goes valued) (tokens_seen at.entry.tokens.now) }
 {
-    valued && at.next_is(Class::Is(Sign::Comma))
+    valued && at.next_is(Class::Is(Lexeme::Comma))
 }
 
 // `"," net`, behind a net with a value.
@@ -83,7 +83,7 @@ fn next_delayed<'t>(alloc: Global, depth: usize, all: Delayed, at: At<'t>) -> Re
     if !all.valued {
         return Err(at.lost());
     }
-    let next = at.take(Class::Is(Sign::Comma))?;
+    let next = at.take(Class::Is(Lexeme::Comma))?;
     let (net, rest) = net(alloc, depth, next)?;
     let mut all = all;
     all.valued = is_valued(&net);
@@ -128,7 +128,7 @@ fn delayed_nets<'t>(alloc: Global, depth: usize, at: At<'t>) -> Read<'t, Delayed
 {
     let (all, rest) = delayed_row(alloc, depth, at)?;
     let shown = !all.valued && rest.next_is(Class::Among(Group::NetEnd));
-    Ok((all, rest.marked(at.tokens, shown)))
+    Ok((all, rest.noting(at.tokens, shown)))
 }
 
 // `delay net { "," net }`
@@ -139,9 +139,9 @@ fn behind_delay<'t>(
 ) -> Read<'t, (Option<Boxed<Delay>>, Items<Net>)>
     ensures { Reads nets_pair depth behind_delay at.entry result }
 {
-    let (front, more) = delayed_nets(alloc, depth, at)?;
-    let delay = Some(front.delay);
-    let (nets, rest) = further::<Nets>(alloc, depth, true, front.nets, more)?;
+    let (earlier, more) = delayed_nets(alloc, depth, at)?;
+    let delay = Some(earlier.delay);
+    let (nets, rest) = further::<Nets>(alloc, depth, true, earlier.nets, more)?;
     Ok(((delay, nets), rest))
 }
 
@@ -154,7 +154,7 @@ pub(crate) fn all_nets<'t>(
 ) -> Read<'t, (Option<Boxed<Delay>>, Items<Net>)>
     ensures { Reads nets_pair depth parts.all_nets at.entry result }
 {
-    if at.next_is(Class::Is(Sign::Hash)) {
+    if at.next_is(Class::Is(Lexeme::Hash)) {
         return behind_delay(alloc, depth, at);
     }
     let (nets, rest) = list::<Nets>(alloc, depth, true, at)?;

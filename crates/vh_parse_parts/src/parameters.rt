@@ -17,8 +17,8 @@ use sqlite_items::Items;
 use std::alloc::Global;
 use vh_ast::{Assigned, Par};
 use vh_parse_decl::{Listed, behind, list};
-use vh_parse_expr::{At, Read, id, sign, then_sign};
-use vh_parse_syntax::{Class, Sign};
+use vh_parse_expr::{At, Read, id, lexeme, then_lexeme};
+use vh_parse_syntax::{Class, Lexeme};
 
 /// `ID "=" expr` (IEEE 1364-2005, A.2.4)
 #[tactic(auto, unfolding(vh_parse_syntax::specs::Declarations::assigned))]
@@ -26,7 +26,7 @@ pub fn assigned<'t>(alloc: Global, depth: usize, at: At<'t>) -> Read<'t, Assigne
     ensures { Reads assigned_tree depth declared.assigned at.entry result }
 {
     let (id, more) = id(at)?;
-    let (value, rest) = behind(alloc, depth, true, Sign::Equal, more)?;
+    let (value, rest) = behind(alloc, depth, true, Lexeme::Equal, more)?;
     Ok((Assigned { id, value }, rest))
 }
 
@@ -53,7 +53,7 @@ impl Listed for Values {
 fn written_par<'t>(alloc: Global, depth: usize, at: At<'t>) -> Read<'t, Par>
     ensures { Reads par_tree depth written_par at.entry result }
 {
-    let (place, more) = sign(Sign::Parameter, at)?;
+    let (place, more) = lexeme(Lexeme::Parameter, at)?;
     let (data_type, more) = boxed_type(alloc, depth, more)?;
     let (assigned, rest) = assigned(alloc, depth, more)?;
     let par = Par {
@@ -70,7 +70,7 @@ fn written_par<'t>(alloc: Global, depth: usize, at: At<'t>) -> Read<'t, Par>
 fn par<'t>(alloc: Global, depth: usize, at: At<'t>) -> Read<'t, Par>
     ensures { Reads par_tree depth parts.par at.entry result }
 {
-    if at.next_is(Class::Is(Sign::Parameter)) {
+    if at.next_is(Class::Is(Lexeme::Parameter)) {
         return written_par(alloc, depth, at);
     }
     let (assigned, rest) = assigned(alloc, depth, at)?;
@@ -106,9 +106,9 @@ impl Listed for Parameters {
 fn pars_in_parens<'t>(alloc: Global, depth: usize, at: At<'t>) -> Read<'t, Items<Par>>
     ensures { Reads (map par_tree) depth (in_parens (comma_list parts.par)) at.entry result }
 {
-    let opened = at.take(Class::Is(Sign::LeftParen))?;
+    let opened = at.take(Class::Is(Lexeme::LeftParen))?;
     let (all, closing) = list::<Parameters>(alloc, depth, true, opened)?;
-    let (all, rest) = then_sign(all, Sign::RightParen, closing)?;
+    let (all, rest) = then_lexeme(all, Lexeme::RightParen, closing)?;
     Ok((all, rest))
 }
 
@@ -117,9 +117,9 @@ fn pars_in_parens<'t>(alloc: Global, depth: usize, at: At<'t>) -> Read<'t, Items
 pub fn pars<'t>(alloc: Global, depth: usize, at: At<'t>) -> Read<'t, Items<Par>>
     ensures { Reads (map par_tree) depth parts.pars at.entry result }
 {
-    if !at.next_is(Class::Is(Sign::Hash)) {
+    if !at.next_is(Class::Is(Lexeme::Hash)) {
         return Ok((Items::new(alloc), at));
     }
-    let next = at.take(Class::Is(Sign::Hash))?;
+    let next = at.take(Class::Is(Lexeme::Hash))?;
     pars_in_parens(alloc, depth, next)
 }

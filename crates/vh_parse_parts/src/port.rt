@@ -18,7 +18,7 @@ use std::alloc::Global;
 use vh_ast::{Id, Ids, Pdecl, Port, PortType, Ports, Variable};
 use vh_parse_decl::bare_id;
 use vh_parse_expr::{At, Read};
-use vh_parse_syntax::{Class, Rows, Sign};
+use vh_parse_syntax::{Class, Rows, Lexeme};
 
 // Declared ports so far, and the type of the last of them.
 #[derive(Drop)]
@@ -106,7 +106,7 @@ fn next_name<'t>(header: Header, at: At<'t>) -> Read<'t, Header>
 fn port_or_name<'t>(alloc: Global, depth: usize, header: Header, at: At<'t>) -> Read<'t, Header>
     ensures { Reads header_tree depth (port_or_name (header_tree header)) at.entry result }
 {
-    let at = at.marked(at.tokens, at.next_is(Class::Is(Sign::Inout)));
+    let at = at.noting(at.tokens, at.next_is(Class::Is(Lexeme::Inout)));
     if at.next_is(Class::Row(Rows::Direction)) {
         return next_pdecl(alloc, depth, header, at);
     }
@@ -118,7 +118,7 @@ fn port_or_name<'t>(alloc: Global, depth: usize, header: Header, at: At<'t>) -> 
 fn next_port<'t>(alloc: Global, depth: usize, header: Header, at: At<'t>) -> Read<'t, Header>
     ensures { Reads header_tree depth (parts.next_port (header_tree header)) at.entry result }
 {
-    let next = at.take(Class::Is(Sign::Comma))?;
+    let next = at.take(Class::Is(Lexeme::Comma))?;
     port_or_name(alloc, depth, header, next)
 }
 
@@ -128,7 +128,7 @@ fn more_ports<'t>(alloc: Global, depth: usize, first: Header, at: At<'t>) -> Rea
 {
     let mut header = first;
     let mut rest = at;
-    'ports: while rest.next_is(Class::Is(Sign::Comma)) {
+    'ports: while rest.next_is(Class::Is(Lexeme::Comma)) {
         let (longer, end) = next_port(alloc, depth, header, rest)?;
         header = longer;
         rest = end;

@@ -18,9 +18,9 @@ use sqlite_items::Items;
 use std::alloc::Global;
 use vh_ast::{Id, Ids, Local, Targ, Variable, only};
 use vh_parse_decl::{bare_id, declaration};
-use vh_parse_expr::{At, Read, then_sign};
+use vh_parse_expr::{At, Read, then_lexeme};
 use vh_parse_grammar::Stop;
-use vh_parse_syntax::{Class, Group, Rows, Sign};
+use vh_parse_syntax::{Class, Group, Rows, Lexeme};
 
 // An argument that may go on.
 #[derive(Drop)]
@@ -32,7 +32,7 @@ pub(crate) struct Argument {
 // Arguments so far: those that are whole, and the last one.
 #[derive(Drop)]
 pub(crate) struct Arguments {
-    pub front: Items<Targ>,
+    pub earlier: Items<Targ>,
     pub last: Argument,
 }
 
@@ -115,9 +115,9 @@ fn next_head<'t>(alloc: Global, depth: usize, all: Arguments, at: At<'t>) -> Rea
         Reads targs_tree depth part at.entry result }
 {
     let (next, rest) = targ_one(alloc, depth, at)?;
-    let Arguments { mut front, last } = all;
-    front.push(targ_of(last.head, last.ids))?;
-    Ok((Arguments { front, last: next }, rest))
+    let Arguments { mut earlier, last } = all;
+    earlier.push(targ_of(last.head, last.ids))?;
+    Ok((Arguments { earlier, last: next }, rest))
 }
 
 // An `ID` behind a comma, which goes on with the `targ` before it.
@@ -137,7 +137,7 @@ fn next_name<'t>(all: Arguments, at: At<'t>) -> Read<'t, Arguments>
 fn next_targ<'t>(alloc: Global, depth: usize, all: Arguments, at: At<'t>) -> Read<'t, Arguments>
     ensures { Reads targs_tree depth (parts.next_targ (targs_tree all)) at.entry result }
 {
-    let next = at.take(Class::Is(Sign::Comma))?;
+    let next = at.take(Class::Is(Lexeme::Comma))?;
     if next.next_is(Class::Row(Rows::Targ)) {
         return next_head(alloc, depth, all, next);
     }
@@ -150,7 +150,7 @@ fn more_targs<'t>(alloc: Global, depth: usize, first: Arguments, at: At<'t>) -> 
 {
     let mut all = first;
     let mut rest = at;
-    'targs: while rest.next_is(Class::Is(Sign::Comma)) {
+    'targs: while rest.next_is(Class::Is(Lexeme::Comma)) {
         let (longer, end) = next_targ(alloc, depth, all, rest)?;
         all = longer;
         rest = end;
@@ -164,20 +164,20 @@ fn targs<'t>(alloc: Global, depth: usize, at: At<'t>) -> Read<'t, Items<Targ>>
     ensures { Reads (map targ_tree) depth parts.targs at.entry result }
 {
     let (last, more) = targ_one(alloc, depth, at)?;
-    let front = Items::new(alloc);
-    let (all, rest) = more_targs(alloc, depth, Arguments { front, last }, more)?;
-    let Arguments { mut front, last } = all;
-    front.push(targ_of(last.head, last.ids))?;
-    Ok((front, rest))
+    let earlier = Items::new(alloc);
+    let (all, rest) = more_targs(alloc, depth, Arguments { earlier, last }, more)?;
+    let Arguments { mut earlier, last } = all;
+    earlier.push(targ_of(last.head, last.ids))?;
+    Ok((earlier, rest))
 }
 
 // `"(" targs ")"`
 fn targs_in_parens<'t>(alloc: Global, depth: usize, at: At<'t>) -> Read<'t, Items<Targ>>
     ensures { Reads (map targ_tree) depth (in_parens parts.targs) at.entry result }
 {
-    let opened = at.take(Class::Is(Sign::LeftParen))?;
+    let opened = at.take(Class::Is(Lexeme::LeftParen))?;
     let (all, closing) = targs(alloc, depth, opened)?;
-    let (all, rest) = then_sign(all, Sign::RightParen, closing)?;
+    let (all, rest) = then_lexeme(all, Lexeme::RightParen, closing)?;
     Ok((all, rest))
 }
 
@@ -185,7 +185,7 @@ fn targs_in_parens<'t>(alloc: Global, depth: usize, at: At<'t>) -> Read<'t, Item
 pub fn maybe_targs<'t>(alloc: Global, depth: usize, at: At<'t>) -> Read<'t, Items<Targ>>
     ensures { Reads (map targ_tree) depth parts.maybe_targs at.entry result }
 {
-    if !at.next_is(Class::Is(Sign::LeftParen)) {
+    if !at.next_is(Class::Is(Lexeme::LeftParen)) {
         return Ok((Items::new(alloc), at));
     }
     targs_in_parens(alloc, depth, at)
@@ -196,7 +196,7 @@ fn ended_targ<'t>(alloc: Global, depth: usize, at: At<'t>) -> Read<'t, Targ>
     ensures { Reads targ_tree depth (ended parts.targ) at.entry result }
 {
     let (targ, more) = targ(alloc, depth, at)?;
-    let (targ, rest) = then_sign(targ, Sign::Semicolon, more)?;
+    let (targ, rest) = then_lexeme(targ, Lexeme::Semicolon, more)?;
     Ok((targ, rest))
 }
 

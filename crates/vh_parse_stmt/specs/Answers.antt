@@ -3,7 +3,7 @@ use Rattle.std.specs.Prelude.{◌≡◌, ℕ, Bool, List, length, map, Result, O
 use Rattle.vh_base.specs.declared.place.Place.{Place}
 use Rattle.vh_parse_grammar.specs.declared.stop.Stop.{Stop}
 use Rattle.vh_parse_grammar.specs.Reading.{Out, got}
-use Rattle.vh_parse_grammar.specs.Marking.{marks, answered}
+use Rattle.vh_parse_grammar.specs.Omissions.{noted, answered}
 use Rattle.vh_parse_grammar.specs.Says.{Stops}
 use Rattle.vh_ast.specs.declared.stmt.Stmt.{Stmt}
 use Rattle.vh_ast.specs.Statements.{StmtTree}
@@ -19,7 +19,7 @@ use Rattle.vh_parse_expr.specs.Answers.{placed}
 -- What the table answers for the tokens of a statement in an item, with so many levels left for it
 -- and what stands in it (IEEE 1364-2005, A.6.4).
 abbrev pub statement_answer : ℕ → Bool → List Token → Out Token StmtTree
-statement_answer levels inside ts = answered (marks is_unused grammar levels (inner_stmt inside) ts 0)
+statement_answer levels inside ts = answered (noted is_unused grammar levels (inner_stmt inside) ts 0)
 
 -- It is what a reading answers: a tree, seen without pointers, with so many tokens left; or why and
 -- where it stops (own).

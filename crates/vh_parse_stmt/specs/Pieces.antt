@@ -10,19 +10,19 @@ use Rattle.vh_ast.specs.Expressions.{ExprTree, place_of}
 use Rattle.vh_ast.specs.Declarations.{DeclTree}
 use Rattle.vh_ast.specs.Statements.{DelayTree, StmtTree, CitemTree, values}
 use Rattle.vh_ast.specs.Statements as S
-use Rattle.vh_parse_syntax.specs.declared.sign.Sign.{Sign}
-use Rattle.vh_parse_syntax.specs.declared.sign.Sign.TheVariants as sign
+use Rattle.vh_parse_syntax.specs.declared.lexeme.Lexeme.{Lexeme}
+use Rattle.vh_parse_syntax.specs.declared.lexeme.Lexeme.TheVariants as lexeme
 use Rattle.vh_parse_syntax.specs.Tokens.{is, is_any, in_rows}
 use Rattle.vh_parse_syntax.specs.Parts.{G, the, at_the, an_id, row_in, placed_row, comma_list, comma_more, in_parens, ended}
 use Rattle.vh_parse_syntax.specs.Names.{Path, is_closed, path}
 use Rattle.vh_parse_syntax.specs.Expressions.{expression}
-use Rattle.vh_parse_syntax.specs.Declarations.{decl, decl_signs}
-use Rattle.vh_parse_syntax.specs.Statements.{assign_rows, case_rows, loop_rows, force_rows, release_rows, inner_stmt, shows_delay, shows_task, citem, begins_citem, citems, for_stmt, loop_stmt, forever_stmt, label, stmts, block_of, begin_stmt, fork_stmt, trigger_stmt, disable_stmt, force_stmt, release_stmt, all_of, slot, begins_slots, system_stmt}
+use Rattle.vh_parse_syntax.specs.Declarations.{decl, decl_lexemes}
+use Rattle.vh_parse_syntax.specs.Statements.{assign_rows, case_rows, loop_rows, force_rows, release_rows, inner_stmt, shows_delay, shows_task, citem, begins_citem, citems, for_stmt, loop_stmt, forever_stmt, naming, stmts, block_of, begin_stmt, fork_stmt, trigger_stmt, disable_stmt, force_stmt, release_stmt, all_of, slot, begins_slots, system_stmt}
 use Rattle.vh_parse_decl.specs.Pieces.{delay_behind}
 
 -- The sign of an assignment, and what stands behind it (IEEE 1364-2005, A.6.2).
-abbrev pub sign_of_assignment : Bool → G AssignWord
-sign_of_assignment inside = unless (λ t. inside && is sign.LessEqual t) (row_in assign_rows)
+abbrev pub lexeme_of_assignment : Bool → G AssignWord
+lexeme_of_assignment inside = unless (λ t. inside && is lexeme.LessEqual t) (row_in assign_rows)
 
 abbrev pub assigned_part : Bool → G (Option DelayTree × ExprTree)
 assigned_part inside = unless (shows_delay inside) (seq delay_behind (ended (expression true)))
@@ -32,7 +32,7 @@ abbrev pub barred_name : Bool → G Path
 barred_name inside = barred (shows_task inside) (path (expression true) true)
 
 abbrev pub written_arguments : G (Option (List ExprTree))
-written_arguments = opt (is sign.LeftParen) (in_parens (comma_list (expression true)))
+written_arguments = opt (is lexeme.LeftParen) (in_parens (comma_list (expression true)))
 
 -- The arguments of a system task, and these in their brackets (IEEE 1364-2005, A.6.9).
 abbrev pub any_slots : Bool → G (List (Option ExprTree))
@@ -43,14 +43,14 @@ bracketed_slots calls = in_parens (any_slots calls)
 
 -- What is declared in a block, and its name in front of that (IEEE 1364-2005, A.6.3).
 abbrev pub decls : G (List DeclTree)
-decls = rep (is_any decl_signs) decl
+decls = rep (is_any decl_lexemes) decl
 
 abbrev pub named_decls : G (Id × List DeclTree)
-named_decls = after (the sign.Colon) (seq an_id decls)
+named_decls = after (the lexeme.Colon) (seq an_id decls)
 
 -- A colon, if it is written (IEEE 1364-2005, A.6.7).
 abbrev pub colon_part : G (Option (Unit {0}))
-colon_part = opt (is sign.Colon) (the sign.Colon)
+colon_part = opt (is lexeme.Colon) (the lexeme.Colon)
 
 -- The values of a statement of a case, where the first one stands (IEEE 1364-2005, A.6.7).
 abbrev pub values_of : ExprTree × List ExprTree → Place × List ExprTree
@@ -61,10 +61,10 @@ values_part = act values_of (seq (expression true) (comma_more (expression true)
 
 -- A statement of a case for its values (IEEE 1364-2005, A.6.7).
 abbrev pub item_by : Place × List ExprTree → StmtTree → CitemTree
-item_by v s = record { place = v.0; labels = values v.1; body = s }
+item_by v s = record { place = v.0; matched = values v.1; body = s }
 
 abbrev pub values_item_part : Bool → G CitemTree
-values_item_part inside = two item_by values_part (after (the sign.Colon) (inner_stmt inside))
+values_item_part inside = two item_by values_part (after (the lexeme.Colon) (inner_stmt inside))
 
 -- The statements of a case, and further ones alone (IEEE 1364-2005, A.6.7).
 abbrev pub more_citems : Bool → G (List CitemTree)
@@ -80,18 +80,18 @@ case_by w r = S.stmt w.0 (S.case_stmt w.1 r.0 (S.citems r.1))
 abbrev pub case_part : Bool → G StmtTree
 case_part inside =
     two case_by (placed_row case_rows)
-    (seq (in_parens (expression true)) (before (all_citems inside) (the sign.Endcase)))
+    (seq (in_parens (expression true)) (before (all_citems inside) (the lexeme.Endcase)))
 
 -- A block, by the words around it (IEEE 1364-2005, A.6.3).
-abbrev pub block_part : BlockWord → Sign × Sign → Bool → G StmtTree
+abbrev pub block_part : BlockWord → Lexeme × Lexeme → Bool → G StmtTree
 block_part word words inside =
-    two (block_of word) (at_the words.0) (before (seq label (stmts inside)) (the words.1))
+    two (block_of word) (at_the words.0) (before (seq naming (stmts inside)) (the words.1))
 
 -- The last branches of a statement, in none of which one stands (IEEE 1364-2005, A.6.4).
 abbrev pub last_branches : G StmtTree
 last_branches =
-    alt (is sign.Arrow) trigger_stmt
-    (alt (is sign.Disable) disable_stmt
+    alt (is lexeme.Arrow) trigger_stmt
+    (alt (is lexeme.Disable) disable_stmt
     (alt (in_rows force_rows) force_stmt
     (alt (in_rows release_rows) release_stmt
     system_stmt)))
@@ -99,9 +99,9 @@ last_branches =
 -- The branches of a statement from `for` on (IEEE 1364-2005, A.6.4).
 abbrev pub control : Bool → G StmtTree
 control inside =
-    alt (is sign.For) (for_stmt inside)
+    alt (is lexeme.For) (for_stmt inside)
     (alt (in_rows loop_rows) (loop_stmt inside)
-    (alt (is sign.Forever) (forever_stmt inside)
-    (alt (is sign.Begin) (begin_stmt inside)
-    (alt (is sign.Fork) (fork_stmt inside)
+    (alt (is lexeme.Forever) (forever_stmt inside)
+    (alt (is lexeme.Begin) (begin_stmt inside)
+    (alt (is lexeme.Fork) (fork_stmt inside)
     last_branches))))

@@ -12,7 +12,7 @@ use Rattle.vh_ast.specs.Statements.{DelayTree, SetTree, StmtTree, CitemTree}
 use Rattle.vh_ast.specs.Views.{expr_tree, decl_tree, delay_tree, set_tree, stmt_tree, citem_tree}
 use Rattle.vh_parse_expr.specs.Views.{exprs_seen}
 use Rattle.vh_parse_stmt.specs.declared.head.ForHead.{ForHead}
-use Rattle.vh_parse_stmt.specs.declared.head.Label.{Label}
+use Rattle.vh_parse_stmt.specs.declared.head.Naming.{Naming}
 use Rattle.vh_parse_stmt.specs.declared.head.Values.{Values}
 
 -- A value, with the delay in front of it if there is one (own).
@@ -27,8 +27,8 @@ slots_seen = map (option_map expr_tree)
 abbrev pub head_tree : ForHead → SetTree × (ExprTree × SetTree)
 head_tree h = (set_tree h.start, (expr_tree h.test, set_tree h.step))
 
-abbrev pub label_tree : Label → Id × List DeclTree
-label_tree l = (l.id, map decl_tree l.decls)
+abbrev pub naming_tree : Naming → Id × List DeclTree
+naming_tree l = (l.id, map decl_tree l.decls)
 
 abbrev pub values_tree : Values → Place × List ExprTree
 values_tree v = (v.place, exprs_seen v.all)

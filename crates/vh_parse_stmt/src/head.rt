@@ -1,23 +1,23 @@
 //! What stands in front of the statement inside another one.
 
 ghost use Rattle.std.specs.Prelude.{Bool, Option, option_map, map};
-ghost use Rattle.vh_parse_grammar.specs.Marking.{joined_marks};
+ghost use Rattle.vh_parse_grammar.specs.Omissions.{joined_noted};
 ghost use Rattle.vh_parse_grammar.specs.Says.{Says};
 ghost use Rattle.vh_ast.specs.Views.{decl_tree, event_tree};
 ghost use Rattle.vh_parse_syntax.specs.Parts.{in_parens};
 ghost use Rattle.vh_parse_syntax.specs.Statements as parts;
-ghost use Rattle.vh_parse_syntax.specs.Statements.{for_head, label};
+ghost use Rattle.vh_parse_syntax.specs.Statements.{for_head, naming};
 ghost use Rattle.vh_parse_expr.specs.Views.{Reads};
 ghost use Rattle.vh_parse_stmt.specs.Pieces.{decls, named_decls, values_part};
-ghost use Rattle.vh_parse_stmt.specs.Views.{head_tree, label_tree, values_tree};
+ghost use Rattle.vh_parse_stmt.specs.Views.{head_tree, naming_tree, values_tree};
 
 use sqlite_items::{Boxed, Items};
 use std::alloc::Global;
 use vh_ast::{Decl, Event, Expr, Id, Set, only};
 use vh_base::Place;
 use vh_parse_decl::{Exprs, declaration, event, further, set};
-use vh_parse_expr::{At, Read, expression, id, then_sign};
-use vh_parse_syntax::{Class, Group, Sign};
+use vh_parse_expr::{At, Read, expression, id, then_lexeme};
+use vh_parse_syntax::{Class, Group, Lexeme};
 
 // What stands in the brackets of a `for`.
 #[derive(Drop)]
@@ -29,7 +29,7 @@ pub(crate) struct ForHead {
 
 // The name of a block, with what is declared in it.
 #[derive(Drop)]
-pub(crate) struct Label {
+pub(crate) struct Naming {
     pub id: Id,
     pub decls: Items<Decl>,
 }
@@ -55,10 +55,10 @@ fn turns<'t>(alloc: Global, depth: usize, at: At<'t>) -> Read<'t, ForHead>
     ensures { Reads head_tree depth for_head at.entry result }
 {
     let (start, more) = set(alloc, depth, true, at)?;
-    let (start, more) = then_sign(start, Sign::Semicolon, more)?;
+    let (start, more) = then_lexeme(start, Lexeme::Semicolon, more)?;
     let start = Boxed::new(alloc, start)?;
     let (test, more) = expression(alloc, depth, true, more)?;
-    let (test, more) = then_sign(test, Sign::Semicolon, more)?;
+    let (test, more) = then_lexeme(test, Lexeme::Semicolon, more)?;
     let test = Boxed::new(alloc, test)?;
     let (step, rest) = set(alloc, depth, true, more)?;
     let step = Boxed::new(alloc, step)?;
@@ -73,9 +73,9 @@ pub(crate) fn turns_in_parens<'t>(
 ) -> Read<'t, Boxed<ForHead>>
     ensures { Reads head_tree depth (in_parens for_head) at.entry result }
 {
-    let opened = at.take(Class::Is(Sign::LeftParen))?;
+    let opened = at.take(Class::Is(Lexeme::LeftParen))?;
     let (head, closing) = turns(alloc, depth, opened)?;
-    let (head, rest) = then_sign(head, Sign::RightParen, closing)?;
+    let (head, rest) = then_lexeme(head, Lexeme::RightParen, closing)?;
     Ok((Boxed::new(alloc, head)?, rest))
 }
 
@@ -94,29 +94,29 @@ fn decls<'t>(alloc: Global, depth: usize, at: At<'t>) -> Read<'t, Items<Decl>>
 }
 
 // `":" ID { decl }`
-fn named_decls<'t>(alloc: Global, depth: usize, at: At<'t>) -> Read<'t, Label>
-    ensures { Reads label_tree depth named_decls at.entry result }
+fn named_decls<'t>(alloc: Global, depth: usize, at: At<'t>) -> Read<'t, Naming>
+    ensures { Reads naming_tree depth named_decls at.entry result }
 {
-    let named = at.take(Class::Is(Sign::Colon))?;
+    let named = at.take(Class::Is(Lexeme::Colon))?;
     let (id, more) = id(named)?;
     let (decls, rest) = decls(alloc, depth, more)?;
-    Ok((Label { id, decls }, rest))
+    Ok((Naming { id, decls }, rest))
 }
 
 // `[ ":" ID { decl } ]`
-#[tactic(auto, unfolding(vh_parse_syntax::specs::Statements::label))]
-pub(crate) fn written_label<'t>(
+#[tactic(auto, unfolding(vh_parse_syntax::specs::Statements::naming))]
+pub(crate) fn written_naming<'t>(
     alloc: Global,
     depth: usize,
     at: At<'t>,
-) -> Read<'t, Option<Boxed<Label>>>
-    ensures { Reads (option_map label_tree) depth label at.entry result }
+) -> Read<'t, Option<Boxed<Naming>>>
+    ensures { Reads (option_map naming_tree) depth naming at.entry result }
 {
-    if !at.next_is(Class::Is(Sign::Colon)) {
+    if !at.next_is(Class::Is(Lexeme::Colon)) {
         return Ok((None, at));
     }
-    let (label, rest) = named_decls(alloc, depth, at)?;
-    Ok((Some(Boxed::new(alloc, label)?), rest))
+    let (naming, rest) = named_decls(alloc, depth, at)?;
+    Ok((Some(Boxed::new(alloc, naming)?), rest))
 }
 
 // `expr { "," expr }`

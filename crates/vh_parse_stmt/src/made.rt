@@ -7,14 +7,14 @@ ghost use Rattle.vh_ast.specs.Statements as trees;
 ghost use Rattle.vh_ast.specs.Views.{expr_tree, delay_tree, event_tree, lv_tree, set_tree, simple_tree, stmt_tree, citem_tree};
 ghost use Rattle.vh_parse_syntax.specs.Statements as parts;
 ghost use Rattle.vh_parse_expr.specs.Views.{exprs_seen, path_tree};
-ghost use Rattle.vh_parse_stmt.specs.Views.{head_tree, label_tree, values_tree, stmts_seen, citems_seen};
+ghost use Rattle.vh_parse_stmt.specs.Views.{head_tree, naming_tree, values_tree, stmts_seen, citems_seen};
 ghost use Rattle.vh_parse_stmt.specs.Pieces.{case_by, item_by};
 
-use crate::head::{ForHead, Label, Values};
+use crate::head::{ForHead, Naming, Values};
 use sqlite_items::{Boxed, Items};
 use std::alloc::Global;
 use vh_ast::{
-    AssignWord, BlockWord, CaseWord, Citem, Delay, Event, Expr, ForceWord, Labels, LoopWord, Lv,
+    AssignWord, BlockWord, CaseWord, Citem, Delay, Event, Expr, ForceWord, Matched, LoopWord, Lv,
     Set, Simple, Stmt, StmtForm,
 };
 use vh_base::Place;
@@ -162,13 +162,13 @@ pub(crate) fn default_item(
     ensures { let made = parts.default_of place (stmt_tree body) in
         MatchResult result (λ c. citem_tree c ≡ made) (λ stop. stop ≡ Memory) }
 {
-    let labels = Labels::Default;
+    let matched = Matched::Default;
     let body = body.into_inner();
     Ok(Boxed::new(
         alloc,
         Citem {
             place,
-            labels,
+            matched,
             body,
         },
     )?)
@@ -184,13 +184,13 @@ pub(crate) fn values_item(
         MatchResult result (λ c. citem_tree c ≡ made) (λ stop. stop ≡ Memory) }
 {
     let Values { place, all } = values.into_inner();
-    let labels = Labels::Values(all);
+    let matched = Matched::Values(all);
     let body = body.into_inner();
     Ok(Boxed::new(
         alloc,
         Citem {
             place,
-            labels,
+            matched,
             body,
         },
     )?)
@@ -276,15 +276,15 @@ pub(crate) fn block(
     alloc: Global,
     word: BlockWord,
     place: Place,
-    label: Option<Boxed<Label>>,
+    naming: Option<Boxed<Naming>>,
     all: Items<Stmt>,
 ) -> Result<Boxed<Stmt>, Stop>
-    ensures { let made = parts.block_of word place (option_map label_tree label, stmts_seen all) in
+    ensures { let made = parts.block_of word place (option_map naming_tree naming, stmts_seen all) in
         MatchResult result (λ s. stmt_tree s ≡ made) (λ stop. stop ≡ Memory) }
 {
-    let (id, decls) = match label {
-        Some(label) => {
-            let Label { id, decls } = label.into_inner();
+    let (id, decls) = match naming {
+        Some(naming) => {
+            let Naming { id, decls } = naming.into_inner();
             (Some(id), decls)
         }
         None => (None, Items::new(alloc)),

@@ -25,8 +25,8 @@ fn read(
     ensures { Answered (statement_answer levels inside (tokens_seen tokens.now)) result }
 {
     let (stmt, rest) = inner_statement(alloc, levels, inside, Cursor::new(tokens))?;
-    if rest.mark > 0 {
-        return Err(Stop::LeftOut(rest.mark));
+    if rest.omission > 0 {
+        return Err(Stop::LeftOut(rest.omission));
     }
     Ok((stmt, rest.tokens.len()))
 }

@@ -1,4 +1,4 @@
-//! Signs that each mean something, where they stand.
+//! Lexemes that each mean something, where they stand.
 
 ghost use Rattle.vh_parse_syntax.specs.Parts;
 ghost use Rattle.vh_parse_syntax.specs.Statements.{assign_rows, case_rows, loop_rows, force_rows, release_rows};

@@ -2,14 +2,14 @@
 
 ghost use Rattle.std.specs.Prelude.{◌≡◌, option_map, IfOk};
 ghost use Rattle.vh_parse_grammar.specs.Reading.{next_is};
-ghost use Rattle.vh_parse_grammar.specs.Marking.{mark_at};
+ghost use Rattle.vh_parse_grammar.specs.Omissions.{omission_at};
 ghost use Rattle.vh_parse_grammar.specs.Says.{Says};
 ghost use Rattle.vh_ast.specs.Views.{delay_tree, lv_tree, stmt_tree};
 ghost use Rattle.vh_parse_syntax.specs.Tokens.{token_seen};
 ghost use Rattle.vh_parse_syntax.specs.Names as names;
 ghost use Rattle.vh_parse_syntax.specs.Statements as parts;
 ghost use Rattle.vh_parse_expr.specs.Views.{Reads, read_from, tokens_seen, path_tree, exprs_seen};
-ghost use Rattle.vh_parse_stmt.specs.Pieces.{sign_of_assignment, assigned_part, written_arguments, barred_name, last_branches};
+ghost use Rattle.vh_parse_stmt.specs.Pieces.{lexeme_of_assignment, assigned_part, written_arguments, barred_name, last_branches};
 ghost use Rattle.vh_parse_stmt.specs.Views.{value_pair};
 
 use crate::made;
@@ -19,25 +19,25 @@ use sqlite_items::{Boxed, Items};
 use std::alloc::Global;
 use vh_ast::{AssignWord, Delay, Expr, Lv, Simple, Stmt};
 use vh_parse_decl::{ended, list_in_parens, set, written_delay};
-use vh_parse_expr::{At, Path, Read, Standing, braced, path, sign, single, target, then_sign};
-use vh_parse_syntax::{Class, Group, Rows, Sign};
+use vh_parse_expr::{At, Path, Read, Enclosure, braced, path, lexeme, single, target, then_lexeme};
+use vh_parse_syntax::{Class, Group, Rows, Lexeme};
 
 // `( "=" | "<=" )`: a nonblocking one is left out in a function.
-fn assignment_sign<'t>(inside: bool, at: At<'t>) -> Read<'t, AssignWord>
-    ensures { Reads (λ w. w) 0 (sign_of_assignment inside) at.entry result }
+fn assignment_lexeme<'t>(inside: bool, at: At<'t>) -> Read<'t, AssignWord>
+    ensures { Reads (λ w. w) 0 (lexeme_of_assignment inside) at.entry result }
 {
-    let shown = inside && at.next_is(Class::Is(Sign::LessEqual));
-    assign_word(at.marked(at.tokens, shown))
+    let shown = inside && at.next_is(Class::Is(Lexeme::LessEqual));
+    assign_word(at.noting(at.tokens, shown))
 }
 
 // The cursor, where a delay may be next that is left out: an `@`, and any delay in a function.
 fn no_delay<'t>(inside: bool, at: At<'t>) -> At<'t>
     ensures tokens { result.tokens.now ≡ at.entry.tokens.now }
-    ensures mark { let seen = tokens_seen at.entry.tokens.now in
-        result.mark ≡ mark_at seen (next_is (parts.shows_delay inside) seen) at.entry.mark }
+    ensures omission { let seen = tokens_seen at.entry.tokens.now in
+        result.omission ≡ omission_at seen (next_is (parts.shows_delay inside) seen) at.entry.omission }
 {
-    let shown = at.next_is(Class::Is(Sign::At)) || (inside && at.next_is(Class::Is(Sign::Hash)));
-    at.marked(at.tokens, shown)
+    let shown = at.next_is(Class::Is(Lexeme::At)) || (inside && at.next_is(Class::Is(Lexeme::Hash)));
+    at.noting(at.tokens, shown)
 }
 
 // `[ delay ] expr ";"`
@@ -65,7 +65,7 @@ fn assignment<'t>(
 ) -> Read<'t, Boxed<Stmt>>
     ensures { Reads stmt_tree depth (parts.assignment inside (lv_tree target)) at.entry result }
 {
-    let (word, more) = assignment_sign(inside, at)?;
+    let (word, more) = assignment_lexeme(inside, at)?;
     let ((delay, value), rest) = assigned(alloc, depth, inside, more)?;
     Ok((made::assign(alloc, target, word, delay, value)?, rest))
 }
@@ -74,7 +74,7 @@ fn assignment<'t>(
 fn arguments<'t>(alloc: Global, depth: usize, at: At<'t>) -> Read<'t, Option<Items<Expr>>>
     ensures { Reads (option_map exprs_seen) depth written_arguments at.entry result }
 {
-    if !at.next_is(Class::Is(Sign::LeftParen)) {
+    if !at.next_is(Class::Is(Lexeme::LeftParen)) {
         return Ok((None, at));
     }
     let (all, rest) = list_in_parens(alloc, depth, at)?;
@@ -103,7 +103,7 @@ fn task_call<'t>(alloc: Global, depth: usize, path: Path, at: At<'t>) -> Read<'t
     ensures { Reads stmt_tree depth (parts.task_call (path_tree path)) at.entry result }
 {
     let (both, more) = then_arguments(alloc, depth, path, at)?;
-    let ((path, arguments), rest) = then_sign(both, Sign::Semicolon, more)?;
+    let ((path, arguments), rest) = then_lexeme(both, Lexeme::Semicolon, more)?;
     Ok((made::task_call(alloc, path, arguments)?, rest))
 }
 
@@ -131,9 +131,9 @@ fn name_stmt<'t>(
 fn first_name<'t>(alloc: Global, depth: usize, inside: bool, at: At<'t>) -> Read<'t, Path>
     ensures { Reads path_tree depth (barred_name inside) at.entry result }
 {
-    let (path, rest) = path(alloc, depth, Standing::Outermost, true, true, at)?;
+    let (path, rest) = path(alloc, depth, Enclosure::Outermost, true, true, at)?;
     let shown = inside && !path.is_closed() && rest.next_is(Class::Among(Group::Task));
-    Ok((path, rest.marked(at.tokens, shown)))
+    Ok((path, rest.noting(at.tokens, shown)))
 }
 
 // `lv ( "=" | "<=" ) .. | name [ "(" .. ")" ] ";"`, where a name is first.
@@ -169,7 +169,7 @@ pub(crate) fn by_brace<'t>(
 pub(crate) fn empty<'t>(alloc: Global, depth: usize, at: At<'t>) -> Read<'t, Boxed<Stmt>>
     ensures { Reads stmt_tree depth parts.empty_stmt at.entry result }
 {
-    let (place, rest) = sign(Sign::Semicolon, at)?;
+    let (place, rest) = lexeme(Lexeme::Semicolon, at)?;
     Ok((made::simple(alloc, place, Simple::Empty)?, rest))
 }
 
@@ -178,9 +178,9 @@ pub(crate) fn empty<'t>(alloc: Global, depth: usize, at: At<'t>) -> Read<'t, Box
 fn trigger<'t>(alloc: Global, depth: usize, at: At<'t>) -> Read<'t, Boxed<Stmt>>
     ensures { Reads stmt_tree depth parts.trigger_stmt at.entry result }
 {
-    let (place, more) = sign(Sign::Arrow, at)?;
-    let (path, more) = path(alloc, depth, Standing::Outermost, true, false, more)?;
-    let (path, rest) = then_sign(path, Sign::Semicolon, more)?;
+    let (place, more) = lexeme(Lexeme::Arrow, at)?;
+    let (path, more) = path(alloc, depth, Enclosure::Outermost, true, false, more)?;
+    let (path, rest) = then_lexeme(path, Lexeme::Semicolon, more)?;
     let form = Simple::Trigger(path.into_name(alloc)?);
     Ok((made::simple(alloc, place, form)?, rest))
 }
@@ -190,9 +190,9 @@ fn trigger<'t>(alloc: Global, depth: usize, at: At<'t>) -> Read<'t, Boxed<Stmt>>
 fn disable<'t>(alloc: Global, depth: usize, at: At<'t>) -> Read<'t, Boxed<Stmt>>
     ensures { Reads stmt_tree depth parts.disable_stmt at.entry result }
 {
-    let (place, more) = sign(Sign::Disable, at)?;
-    let (path, more) = path(alloc, depth, Standing::Outermost, true, false, more)?;
-    let (path, rest) = then_sign(path, Sign::Semicolon, more)?;
+    let (place, more) = lexeme(Lexeme::Disable, at)?;
+    let (path, more) = path(alloc, depth, Enclosure::Outermost, true, false, more)?;
+    let (path, rest) = then_lexeme(path, Lexeme::Semicolon, more)?;
     let form = Simple::Disable(path.into_name(alloc)?);
     Ok((made::simple(alloc, place, form)?, rest))
 }
@@ -204,7 +204,7 @@ fn force<'t>(alloc: Global, depth: usize, at: At<'t>) -> Read<'t, Boxed<Stmt>>
 {
     let ((place, word), more) = force_word(at)?;
     let (set, more) = set(alloc, depth, false, more)?;
-    let (set, rest) = then_sign(set, Sign::Semicolon, more)?;
+    let (set, rest) = then_lexeme(set, Lexeme::Semicolon, more)?;
     Ok((made::force(alloc, place, word, set)?, rest))
 }
 
@@ -215,7 +215,7 @@ fn release<'t>(alloc: Global, depth: usize, at: At<'t>) -> Read<'t, Boxed<Stmt>>
 {
     let ((place, word), more) = release_word(at)?;
     let (target, more) = target(alloc, depth, true, more)?;
-    let (target, rest) = then_sign(target, Sign::Semicolon, more)?;
+    let (target, rest) = then_lexeme(target, Lexeme::Semicolon, more)?;
     Ok((
         made::simple(alloc, place, Simple::Release(word, target))?,
         rest,
@@ -226,10 +226,10 @@ fn release<'t>(alloc: Global, depth: usize, at: At<'t>) -> Read<'t, Boxed<Stmt>>
 pub(crate) fn last_branches<'t>(alloc: Global, depth: usize, at: At<'t>) -> Read<'t, Boxed<Stmt>>
     ensures { Reads stmt_tree depth last_branches at.entry result }
 {
-    if at.next_is(Class::Is(Sign::Arrow)) {
+    if at.next_is(Class::Is(Lexeme::Arrow)) {
         return trigger(alloc, depth, at);
     }
-    if at.next_is(Class::Is(Sign::Disable)) {
+    if at.next_is(Class::Is(Lexeme::Disable)) {
         return disable(alloc, depth, at);
     }
     if at.next_is(Class::Row(Rows::Force)) {

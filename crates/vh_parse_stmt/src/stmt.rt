@@ -3,7 +3,7 @@
 
 ghost use Rattle.std.specs.Prelude.{◌≡◌, Bool, Option, option_map};
 ghost use Rattle.vh_parse_grammar.specs.Reading.{next_is};
-ghost use Rattle.vh_parse_grammar.specs.Marking.{mark_at, joined_marks};
+ghost use Rattle.vh_parse_grammar.specs.Omissions.{omission_at, joined_noted};
 ghost use Rattle.vh_parse_grammar.specs.Says.{Says};
 ghost use Rattle.vh_ast.specs.Views.{stmt_tree, citem_tree};
 ghost use Rattle.vh_parse_syntax.specs.Tokens.{token_seen};
@@ -13,7 +13,7 @@ ghost use Rattle.vh_parse_expr.specs.Views.{Reads, read_from, tokens_seen};
 ghost use Rattle.vh_parse_stmt.specs.Pieces.{control, colon_part, block_part, case_part, all_citems, more_citems, values_item_part};
 ghost use Rattle.vh_parse_stmt.specs.Views.{stmts_seen, citems_seen};
 
-use crate::head::{boxed_event, case_values, turns_in_parens, written_label};
+use crate::head::{boxed_event, case_values, turns_in_parens, written_naming};
 use crate::made;
 use crate::rows::{case_word, loop_word};
 use crate::simple::{by_brace, by_name, empty, last_branches};
@@ -21,16 +21,16 @@ use sqlite_items::{Boxed, Items};
 use std::alloc::Global;
 use vh_ast::{BlockWord, Citem, Stmt};
 use vh_parse_decl::{boxed_delay, in_parens};
-use vh_parse_expr::{At, Read, sign, then_sign};
-use vh_parse_syntax::{Class, Group, Rows, Sign, Start};
+use vh_parse_expr::{At, Read, lexeme, then_lexeme};
+use vh_parse_syntax::{Class, Group, Rows, Lexeme, Start};
 
 // The cursor, where a statement may be next that is left out in a function.
 fn no_timing<'t>(inside: bool, at: At<'t>) -> At<'t>
     ensures tokens { result.tokens.now ≡ at.entry.tokens.now }
-    ensures mark { let seen = tokens_seen at.entry.tokens.now in
-        result.mark ≡ mark_at seen (next_is (shows_timing inside) seen) at.entry.mark }
+    ensures omission { let seen = tokens_seen at.entry.tokens.now in
+        result.omission ≡ omission_at seen (next_is (shows_timing inside) seen) at.entry.omission }
 {
-    at.marked(at.tokens, inside && at.next_is(Class::Among(Group::Timing)))
+    at.noting(at.tokens, inside && at.next_is(Class::Among(Group::Timing)))
 }
 
 /// A statement inside another one, or in an item: a level deeper, with so many levels left for it and
@@ -69,7 +69,7 @@ fn delay_stmt<'t>(alloc: Global, depth: usize, inside: bool, at: At<'t>) -> Read
 fn event_stmt<'t>(alloc: Global, depth: usize, inside: bool, at: At<'t>) -> Read<'t, Boxed<Stmt>>
     ensures { Reads stmt_tree depth (parts.event_stmt inside) at.entry result }
 {
-    let (place, more) = sign(Sign::At, at)?;
+    let (place, more) = lexeme(Lexeme::At, at)?;
     let (event, more) = boxed_event(alloc, depth, more)?;
     let (body, rest) = inner_statement(alloc, depth, inside, more)?;
     Ok((made::awaited(alloc, place, event, body)?, rest))
@@ -81,7 +81,7 @@ fn event_stmt<'t>(alloc: Global, depth: usize, inside: bool, at: At<'t>) -> Read
 fn wait_stmt<'t>(alloc: Global, depth: usize, inside: bool, at: At<'t>) -> Read<'t, Boxed<Stmt>>
     ensures { Reads stmt_tree depth (parts.wait_stmt inside) at.entry result }
 {
-    let (place, more) = sign(Sign::Wait, at)?;
+    let (place, more) = lexeme(Lexeme::Wait, at)?;
     let (test, more) = in_parens(alloc, depth, false, more)?;
     let (body, rest) = inner_statement(alloc, depth, inside, more)?;
     Ok((made::waited(alloc, place, test, body)?, rest))
@@ -98,10 +98,10 @@ fn otherwise<'t>(
 ) -> Read<'t, Option<Boxed<Stmt>>>
     ensures { Reads (option_map stmt_tree) depth (parts.otherwise inside) at.entry result }
 {
-    if !at.next_is(Class::Is(Sign::Else)) {
+    if !at.next_is(Class::Is(Lexeme::Else)) {
         return Ok((None, at));
     }
-    let next = at.take(Class::Is(Sign::Else))?;
+    let next = at.take(Class::Is(Lexeme::Else))?;
     let (body, rest) = inner_statement(alloc, depth, inside, next)?;
     Ok((Some(body), rest))
 }
@@ -112,7 +112,7 @@ fn otherwise<'t>(
 fn if_stmt<'t>(alloc: Global, depth: usize, inside: bool, at: At<'t>) -> Read<'t, Boxed<Stmt>>
     ensures { Reads stmt_tree depth (parts.if_stmt inside) at.entry result }
 {
-    let (place, more) = sign(Sign::If, at)?;
+    let (place, more) = lexeme(Lexeme::If, at)?;
     let (test, more) = in_parens(alloc, depth, true, more)?;
     let (holds, more) = inner_statement(alloc, depth, inside, more)?;
     let (fails, rest) = otherwise(alloc, depth, inside, more)?;
@@ -123,10 +123,10 @@ fn if_stmt<'t>(alloc: Global, depth: usize, inside: bool, at: At<'t>) -> Read<'t
 fn written_colon<'t>(at: At<'t>) -> Read<'t, Option<()>>
     ensures { Reads (λ c. c) 0 colon_part at.entry result }
 {
-    if !at.next_is(Class::Is(Sign::Colon)) {
+    if !at.next_is(Class::Is(Lexeme::Colon)) {
         return Ok((None, at));
     }
-    Ok((Some(()), at.take(Class::Is(Sign::Colon))?))
+    Ok((Some(()), at.take(Class::Is(Lexeme::Colon))?))
 }
 
 // `"default" [ ":" ] stmt`
@@ -140,7 +140,7 @@ fn default_item<'t>(
 ) -> Read<'t, Boxed<Citem<Stmt>>>
     ensures { Reads citem_tree depth (parts.default_item inside) at.entry result }
 {
-    let (place, more) = sign(Sign::Default, at)?;
+    let (place, more) = lexeme(Lexeme::Default, at)?;
     let (_, more) = written_colon(more)?;
     let (body, rest) = inner_statement(alloc, depth, inside, more)?;
     Ok((made::default_item(alloc, place, body)?, rest))
@@ -157,7 +157,7 @@ fn listed_item<'t>(
     ensures { Reads citem_tree depth (values_item_part inside) at.entry result }
 {
     let (values, colon) = case_values(alloc, depth, at)?;
-    let (values, more) = then_sign(values, Sign::Colon, colon)?;
+    let (values, more) = then_lexeme(values, Lexeme::Colon, colon)?;
     let (body, rest) = inner_statement(alloc, depth, inside, more)?;
     Ok((made::values_item(alloc, values, body)?, rest))
 }
@@ -181,7 +181,7 @@ fn values_item<'t>(
 fn citem<'t>(alloc: Global, depth: usize, inside: bool, at: At<'t>) -> Read<'t, Boxed<Citem<Stmt>>>
     ensures { Reads citem_tree depth (parts.citem inside) at.entry result }
 {
-    if at.next_is(Class::Is(Sign::Default)) {
+    if at.next_is(Class::Is(Lexeme::Default)) {
         return default_item(alloc, depth, inside, at);
     }
     values_item(alloc, depth, inside, at)
@@ -212,7 +212,7 @@ fn listed_case<'t>(alloc: Global, depth: usize, inside: bool, at: At<'t>) -> Rea
     let ((place, word), more) = case_word(at)?;
     let (value, more) = in_parens(alloc, depth, true, more)?;
     let (all, more) = citems(alloc, depth, inside, more)?;
-    let (all, rest) = then_sign(all, Sign::Endcase, more)?;
+    let (all, rest) = then_lexeme(all, Lexeme::Endcase, more)?;
     Ok((made::case(alloc, place, word, value, all)?, rest))
 }
 
@@ -230,7 +230,7 @@ fn case_stmt<'t>(alloc: Global, depth: usize, inside: bool, at: At<'t>) -> Read<
 fn for_stmt<'t>(alloc: Global, depth: usize, inside: bool, at: At<'t>) -> Read<'t, Boxed<Stmt>>
     ensures { Reads stmt_tree depth (parts.for_stmt inside) at.entry result }
 {
-    let (place, more) = sign(Sign::For, at)?;
+    let (place, more) = lexeme(Lexeme::For, at)?;
     let (head, more) = turns_in_parens(alloc, depth, more)?;
     let (body, rest) = inner_statement(alloc, depth, inside, more)?;
     Ok((made::for_loop(alloc, place, head, body)?, rest))
@@ -254,7 +254,7 @@ fn loop_stmt<'t>(alloc: Global, depth: usize, inside: bool, at: At<'t>) -> Read<
 fn forever_stmt<'t>(alloc: Global, depth: usize, inside: bool, at: At<'t>) -> Read<'t, Boxed<Stmt>>
     ensures { Reads stmt_tree depth (parts.forever_stmt inside) at.entry result }
 {
-    let (place, more) = sign(Sign::Forever, at)?;
+    let (place, more) = lexeme(Lexeme::Forever, at)?;
     let (body, rest) = inner_statement(alloc, depth, inside, more)?;
     Ok((made::forever(alloc, place, body)?, rest))
 }
@@ -282,16 +282,16 @@ fn block<'t>(
     depth: usize,
     inside: bool,
     word: BlockWord,
-    words: (Sign, Sign),
+    words: (Lexeme, Lexeme),
     at: At<'t>,
 ) -> Read<'t, Boxed<Stmt>>
     ensures { Reads stmt_tree depth (block_part word words inside) at.entry result }
 {
-    let (place, more) = sign(words.0, at)?;
-    let (label, more) = written_label(alloc, depth, more)?;
+    let (place, more) = lexeme(words.0, at)?;
+    let (naming, more) = written_naming(alloc, depth, more)?;
     let (all, more) = stmts(alloc, depth, inside, more)?;
-    let (all, rest) = then_sign(all, words.1, more)?;
-    Ok((made::block(alloc, word, place, label, all)?, rest))
+    let (all, rest) = then_lexeme(all, words.1, more)?;
+    Ok((made::block(alloc, word, place, naming, all)?, rest))
 }
 
 // The statements that begin with a word behind which one stands, or none.
@@ -300,21 +300,21 @@ fn block<'t>(
 fn control<'t>(alloc: Global, depth: usize, inside: bool, at: At<'t>) -> Read<'t, Boxed<Stmt>>
     ensures { Reads stmt_tree depth (control inside) at.entry result }
 {
-    if at.next_is(Class::Is(Sign::For)) {
+    if at.next_is(Class::Is(Lexeme::For)) {
         return for_stmt(alloc, depth, inside, at);
     }
     if at.next_is(Class::Row(Rows::Loop)) {
         return loop_stmt(alloc, depth, inside, at);
     }
-    if at.next_is(Class::Is(Sign::Forever)) {
+    if at.next_is(Class::Is(Lexeme::Forever)) {
         return forever_stmt(alloc, depth, inside, at);
     }
-    if at.next_is(Class::Is(Sign::Begin)) {
-        let words = (Sign::Begin, Sign::End);
+    if at.next_is(Class::Is(Lexeme::Begin)) {
+        let words = (Lexeme::Begin, Lexeme::End);
         return block(alloc, depth, inside, BlockWord::Begin, words, at);
     }
-    if at.next_is(Class::Is(Sign::Fork)) {
-        let words = (Sign::Fork, Sign::Join);
+    if at.next_is(Class::Is(Lexeme::Fork)) {
+        let words = (Lexeme::Fork, Lexeme::Join);
         return block(alloc, depth, inside, BlockWord::Fork, words, at);
     }
     last_branches(alloc, depth, at)
@@ -326,25 +326,25 @@ fn control<'t>(alloc: Global, depth: usize, inside: bool, at: At<'t>) -> Read<'t
 fn statement<'t>(alloc: Global, depth: usize, inside: bool, at: At<'t>) -> Read<'t, Boxed<Stmt>>
     ensures { Reads stmt_tree depth (statement inside) at.entry result }
 {
-    if at.next_is(Class::Is(Sign::Semicolon)) {
+    if at.next_is(Class::Is(Lexeme::Semicolon)) {
         return empty(alloc, depth, at);
     }
     if at.next_is(Class::Name) {
         return by_name(alloc, depth, inside, at);
     }
-    if at.next_is(Class::Is(Sign::LeftBrace)) {
+    if at.next_is(Class::Is(Lexeme::LeftBrace)) {
         return by_brace(alloc, depth, inside, at);
     }
-    if at.next_is(Class::Is(Sign::Hash)) {
+    if at.next_is(Class::Is(Lexeme::Hash)) {
         return delay_stmt(alloc, depth, inside, at);
     }
-    if at.next_is(Class::Is(Sign::At)) {
+    if at.next_is(Class::Is(Lexeme::At)) {
         return event_stmt(alloc, depth, inside, at);
     }
-    if at.next_is(Class::Is(Sign::Wait)) {
+    if at.next_is(Class::Is(Lexeme::Wait)) {
         return wait_stmt(alloc, depth, inside, at);
     }
-    if at.next_is(Class::Is(Sign::If)) {
+    if at.next_is(Class::Is(Lexeme::If)) {
         return if_stmt(alloc, depth, inside, at);
     }
     if at.next_is(Class::Row(Rows::Case)) {

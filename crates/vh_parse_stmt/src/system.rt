@@ -15,8 +15,8 @@ use sqlite_items::{Boxed, Items};
 use std::alloc::Global;
 use vh_ast::{Expr, Id, Simple, Stmt};
 use vh_parse_decl::{Listed, list};
-use vh_parse_expr::{At, Read, calls_in, expression, system_name, then_sign};
-use vh_parse_syntax::{Class, Sign, Start};
+use vh_parse_expr::{At, Read, calls_in, expression, system_name, then_lexeme};
+use vh_parse_syntax::{Class, Lexeme, Start};
 
 // `[ expr ]`
 #[tactic(auto, unfolding(vh_parse_syntax::specs::Statements::slot))]
@@ -73,9 +73,9 @@ fn bracketed_slots<'t>(
 ) -> Read<'t, Items<Option<Expr>>>
     ensures { Reads slots_seen depth (bracketed_slots calls) at.entry result }
 {
-    let opened = at.take(Class::Is(Sign::LeftParen))?;
+    let opened = at.take(Class::Is(Lexeme::LeftParen))?;
     let (all, closing) = any_slots(alloc, depth, calls, opened)?;
-    let (all, rest) = then_sign(all, Sign::RightParen, closing)?;
+    let (all, rest) = then_lexeme(all, Lexeme::RightParen, closing)?;
     Ok((all, rest))
 }
 
@@ -84,7 +84,7 @@ fn bracketed_slots<'t>(
 fn slots<'t>(alloc: Global, depth: usize, calls: bool, at: At<'t>) -> Read<'t, Items<Option<Expr>>>
     ensures { Reads slots_seen depth (slots calls) at.entry result }
 {
-    if !at.next_is(Class::Is(Sign::LeftParen)) {
+    if !at.next_is(Class::Is(Lexeme::LeftParen)) {
         return Ok((Items::new(alloc), at));
     }
     bracketed_slots(alloc, depth, calls, at)
@@ -97,7 +97,7 @@ fn system_task<'t>(alloc: Global, depth: usize, id: Id, at: At<'t>) -> Read<'t, 
 {
     let calls = calls_in(true, &id);
     let (all, more) = slots(alloc, depth, calls, at)?;
-    let (all, rest) = then_sign(all, Sign::Semicolon, more)?;
+    let (all, rest) = then_lexeme(all, Lexeme::Semicolon, more)?;
     let place = id.place;
     Ok((made::simple(alloc, place, Simple::System(id, all))?, rest))
 }

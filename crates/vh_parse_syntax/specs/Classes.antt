@@ -1,6 +1,6 @@
 -- The classes of tokens by which the grammar makes its choices, as the code names them.
 use Rattle.std.specs.Prelude.{Bool, is_some, List}
-use Rattle.vh_parse_syntax.specs.declared.sign.Sign.{Sign}
+use Rattle.vh_parse_syntax.specs.declared.lexeme.Lexeme.{Lexeme}
 use Rattle.vh_parse_syntax.specs.declared.token.Class.{Class}
 use Rattle.vh_parse_syntax.specs.declared.token.Class.TheVariants as class
 use Rattle.vh_parse_syntax.specs.declared.token.Group.{Group}
@@ -11,9 +11,9 @@ use Rattle.vh_parse_syntax.specs.declared.token.Start.{Start}
 use Rattle.vh_parse_syntax.specs.declared.token.Start.TheVariants as start
 use Rattle.vh_parse_syntax.specs.declared.token.Word.{Word}
 use Rattle.vh_parse_syntax.specs.Tokens.{Token, token_seen, in_rows, is, is_any, is_name, is_system, is_text, is_number, is_module, is_call, operator_at, unary_rows, begins_expression}
-use Rattle.vh_parse_syntax.specs.Declarations.{variable_rows, type_signs, decl_signs}
-use Rattle.vh_parse_syntax.specs.Statements.{assign_rows, edge_rows, case_rows, loop_rows, force_rows, release_rows, or_signs, timing_signs, task_signs, begins_statement, begins_citem, begins_slots}
-use Rattle.vh_parse_syntax.specs.Items.{direction_rows, net_rows, port_type_rows, targ_rows, gate_rows, parameter_rows, process_rows, hidden_signs, local_signs, net_end_signs, begins_item, begins_ports, begins_conns}
+use Rattle.vh_parse_syntax.specs.Declarations.{variable_rows, type_lexemes, decl_lexemes}
+use Rattle.vh_parse_syntax.specs.Statements.{assign_rows, edge_rows, case_rows, loop_rows, force_rows, release_rows, or_lexemes, timing_lexemes, task_lexemes, begins_statement, begins_citem, begins_slots}
+use Rattle.vh_parse_syntax.specs.Items.{direction_rows, net_rows, port_type_rows, targ_rows, gate_rows, parameter_rows, process_rows, hidden_lexemes, local_lexemes, net_end_lexemes, begins_item, begins_ports, begins_conns}
 
 -- A token of the lexer that a parser reads, as the grammar sees it (own).
 abbrev pub word_seen : Word → Token
@@ -38,15 +38,15 @@ is_in rows.Parameter t = in_rows parameter_rows t
 is_in rows.Process t = in_rows process_rows t
 
 -- The signs of each group (own).
-abbrev pub group_signs : Group → List Sign
-group_signs group.Decl = decl_signs
-group_signs group.Type = type_signs
-group_signs group.Local = local_signs
-group_signs group.Or = or_signs
-group_signs group.Timing = timing_signs
-group_signs group.Task = task_signs
-group_signs group.NetEnd = net_end_signs
-group_signs group.Hidden = hidden_signs
+abbrev pub group_lexemes : Group → List Lexeme
+group_lexemes group.Decl = decl_lexemes
+group_lexemes group.Type = type_lexemes
+group_lexemes group.Local = local_lexemes
+group_lexemes group.Or = or_lexemes
+group_lexemes group.Timing = timing_lexemes
+group_lexemes group.Task = task_lexemes
+group_lexemes group.NetEnd = net_end_lexemes
+group_lexemes group.Hidden = hidden_lexemes
 
 -- The token is one with which this begins (own).
 abbrev pub starts : Start → Token → Bool
@@ -62,7 +62,7 @@ starts start.Conns t = begins_conns t
 abbrev pub has : Class → Token → Bool
 has (class.Is s) t = is s t
 has (class.Row rows) t = is_in rows t
-has (class.Among group) t = is_any (group_signs group) t
+has (class.Among group) t = is_any (group_lexemes group) t
 has (class.Begins start) t = starts start t
 has (class.Operator level) t = is_some (operator_at level t)
 has class.Name t = is_name t

@@ -3,7 +3,7 @@ use Rattle.std.proofs.Common.{true, refl}
 use Rattle.vh_base.specs.declared.place.Place.{Place}
 use Rattle.vh_parse_grammar.specs.Conditions.{Advances}
 use Rattle.vh_parse_grammar.specs.Choices.{Heeds}
-use Rattle.vh_parse_syntax.specs.declared.sign.Sign.TheVariants as sign
+use Rattle.vh_parse_syntax.specs.declared.lexeme.Lexeme.TheVariants as lexeme
 use Rattle.vh_parse_syntax.specs.Tokens.{Token, Terminal, opening, fixed, name, system, text, number}
 use Rattle.vh_parse_syntax.specs.Expressions.{braces, prim, any_operand, expression}
 use Rattle.vh_parse_syntax.specs.Grammar.{begins}
@@ -64,7 +64,7 @@ range_heeds t = (refl, tt, (refl, (refl, (expression_heeds true t), (refl, tt, (
 pub type_heeds : (kind : Terminal) (place : Place) → Heeds begins a_type (at kind place)
 unfolding a_type a_range
 type_heeds (opening s) place = (refl, (refl, refl, tt, tt), (refl, refl, range_heeds (at (opening s) place), tt))
-type_heeds (fixed sign.Signed) place = (refl, (refl, refl, tt, tt), (refl, refl, range_heeds (at (fixed sign.Signed) place), tt))
+type_heeds (fixed lexeme.Signed) place = (refl, (refl, refl, tt, tt), (refl, refl, range_heeds (at (fixed lexeme.Signed) place), tt))
 type_heeds (fixed s) place = (refl, (refl, refl, tt, tt), (refl, refl, range_heeds (at (fixed s) place), tt))
 type_heeds (name b) place = (refl, (refl, refl, tt, tt), (refl, refl, range_heeds (at (name b) place), tt))
 type_heeds (system b) place = (refl, (refl, refl, tt, tt), (refl, refl, range_heeds (at (system b) place), tt))
@@ -74,7 +74,7 @@ type_heeds (number v z) place = (refl, (refl, refl, tt, tt), (refl, refl, range_
 pub value_heeds : (kind : Terminal) (place : Place) → Heeds begins a_value (at kind place)
 unfolding a_value
 value_heeds (opening s) place = (refl, refl, (refl, tt, (expression_heeds true (at (opening s) place))), tt)
-value_heeds (fixed sign.Equal) place = (refl, refl, (refl, tt, (expression_heeds true (at (fixed sign.Equal) place))), tt)
+value_heeds (fixed lexeme.Equal) place = (refl, refl, (refl, tt, (expression_heeds true (at (fixed lexeme.Equal) place))), tt)
 value_heeds (fixed s) place = (refl, refl, (refl, tt, (expression_heeds true (at (fixed s) place))), tt)
 value_heeds (name b) place = (refl, refl, (refl, tt, (expression_heeds true (at (name b) place))), tt)
 value_heeds (system b) place = (refl, refl, (refl, tt, (expression_heeds true (at (system b) place))), tt)
@@ -96,7 +96,7 @@ init_heeds t = (refl, (refl, tt, tt), value_heeds t.kind t.place)
 part_heeds : (kind : Terminal) (place : Place) → Heeds begins var_part (at kind place)
 unfolding var_part a_range
 part_heeds (opening s) place = (refl, refl, (refl, range_heeds (at (opening s) place), tt), (refl, refl, (refl, tt, (expression_heeds true (at (opening s) place))), tt))
-part_heeds (fixed sign.Equal) place = (refl, refl, (refl, range_heeds (at (fixed sign.Equal) place), tt), (refl, refl, (refl, tt, (expression_heeds true (at (fixed sign.Equal) place))), tt))
+part_heeds (fixed lexeme.Equal) place = (refl, refl, (refl, range_heeds (at (fixed lexeme.Equal) place), tt), (refl, refl, (refl, tt, (expression_heeds true (at (fixed lexeme.Equal) place))), tt))
 part_heeds (fixed s) place = (refl, refl, (refl, range_heeds (at (fixed s) place), tt), (refl, refl, (refl, tt, (expression_heeds true (at (fixed s) place))), tt))
 part_heeds (name b) place = (refl, refl, (refl, range_heeds (at (name b) place), tt), (refl, refl, (refl, tt, (expression_heeds true (at (name b) place))), tt))
 part_heeds (system b) place = (refl, refl, (refl, range_heeds (at (system b) place), tt), (refl, refl, (refl, tt, (expression_heeds true (at (system b) place))), tt))
@@ -110,7 +110,7 @@ var_heeds t = (refl, tt, part_heeds t.kind t.place)
 reg_heeds : (kind : Terminal) (place : Place) → Heeds begins reg_decl (at kind place)
 unfolding reg_decl a_type a_range a_var
 reg_heeds (opening s) place = (refl, tt, (refl, type_heeds (opening s) place, (refl, (refl, var_heeds (at (opening s) place), (refl, (refl, tt, var_heeds (at (opening s) place)))), tt)))
-reg_heeds (fixed sign.Comma) place = (refl, tt, (refl, type_heeds (fixed sign.Comma) place, (refl, (refl, var_heeds (at (fixed sign.Comma) place), (refl, (refl, tt, var_heeds (at (fixed sign.Comma) place)))), tt)))
+reg_heeds (fixed lexeme.Comma) place = (refl, tt, (refl, type_heeds (fixed lexeme.Comma) place, (refl, (refl, var_heeds (at (fixed lexeme.Comma) place), (refl, (refl, tt, var_heeds (at (fixed lexeme.Comma) place)))), tt)))
 reg_heeds (fixed s) place = (refl, tt, (refl, type_heeds (fixed s) place, (refl, (refl, var_heeds (at (fixed s) place), (refl, (refl, tt, var_heeds (at (fixed s) place)))), tt)))
 reg_heeds (name b) place = (refl, tt, (refl, type_heeds (name b) place, (refl, (refl, var_heeds (at (name b) place), (refl, (refl, tt, var_heeds (at (name b) place)))), tt)))
 reg_heeds (system b) place = (refl, tt, (refl, type_heeds (system b) place, (refl, (refl, var_heeds (at (system b) place), (refl, (refl, tt, var_heeds (at (system b) place)))), tt)))
@@ -120,7 +120,7 @@ reg_heeds (number v z) place = (refl, tt, (refl, type_heeds (number v z) place, 
 integer_heeds : (kind : Terminal) (place : Place) → Heeds begins integer_decl (at kind place)
 unfolding integer_decl an_init
 integer_heeds (opening s) place = (refl, tt, (refl, (refl, init_heeds (at (opening s) place), (refl, (refl, tt, init_heeds (at (opening s) place)))), tt))
-integer_heeds (fixed sign.Comma) place = (refl, tt, (refl, (refl, init_heeds (at (fixed sign.Comma) place), (refl, (refl, tt, init_heeds (at (fixed sign.Comma) place)))), tt))
+integer_heeds (fixed lexeme.Comma) place = (refl, tt, (refl, (refl, init_heeds (at (fixed lexeme.Comma) place), (refl, (refl, tt, init_heeds (at (fixed lexeme.Comma) place)))), tt))
 integer_heeds (fixed s) place = (refl, tt, (refl, (refl, init_heeds (at (fixed s) place), (refl, (refl, tt, init_heeds (at (fixed s) place)))), tt))
 integer_heeds (name b) place = (refl, tt, (refl, (refl, init_heeds (at (name b) place), (refl, (refl, tt, init_heeds (at (name b) place)))), tt))
 integer_heeds (system b) place = (refl, tt, (refl, (refl, init_heeds (at (system b) place), (refl, (refl, tt, init_heeds (at (system b) place)))), tt))
@@ -130,7 +130,7 @@ integer_heeds (number v z) place = (refl, tt, (refl, (refl, init_heeds (at (numb
 time_heeds : (kind : Terminal) (place : Place) → Heeds begins time_decl (at kind place)
 unfolding time_decl an_init
 time_heeds (opening s) place = (refl, tt, (refl, (refl, init_heeds (at (opening s) place), (refl, (refl, tt, init_heeds (at (opening s) place)))), tt))
-time_heeds (fixed sign.Comma) place = (refl, tt, (refl, (refl, init_heeds (at (fixed sign.Comma) place), (refl, (refl, tt, init_heeds (at (fixed sign.Comma) place)))), tt))
+time_heeds (fixed lexeme.Comma) place = (refl, tt, (refl, (refl, init_heeds (at (fixed lexeme.Comma) place), (refl, (refl, tt, init_heeds (at (fixed lexeme.Comma) place)))), tt))
 time_heeds (fixed s) place = (refl, tt, (refl, (refl, init_heeds (at (fixed s) place), (refl, (refl, tt, init_heeds (at (fixed s) place)))), tt))
 time_heeds (name b) place = (refl, tt, (refl, (refl, init_heeds (at (name b) place), (refl, (refl, tt, init_heeds (at (name b) place)))), tt))
 time_heeds (system b) place = (refl, tt, (refl, (refl, init_heeds (at (system b) place), (refl, (refl, tt, init_heeds (at (system b) place)))), tt))
@@ -140,7 +140,7 @@ time_heeds (number v z) place = (refl, tt, (refl, (refl, init_heeds (at (number 
 pub decl_heeds : (kind : Terminal) (place : Place) → Heeds begins decl (at kind place)
 unfolding decl reg_decl integer_decl time_decl
 decl_heeds (opening s) place = (refl, refl, reg_heeds (opening s) place, (refl, refl, integer_heeds (opening s) place, time_heeds (opening s) place))
-decl_heeds (fixed sign.Reg) place = (refl, refl, reg_heeds (fixed sign.Reg) place, (refl, refl, integer_heeds (fixed sign.Reg) place, time_heeds (fixed sign.Reg) place))
+decl_heeds (fixed lexeme.Reg) place = (refl, refl, reg_heeds (fixed lexeme.Reg) place, (refl, refl, integer_heeds (fixed lexeme.Reg) place, time_heeds (fixed lexeme.Reg) place))
 decl_heeds (fixed s) place = (refl, refl, reg_heeds (fixed s) place, (refl, refl, integer_heeds (fixed s) place, time_heeds (fixed s) place))
 decl_heeds (name b) place = (refl, refl, reg_heeds (name b) place, (refl, refl, integer_heeds (name b) place, time_heeds (name b) place))
 decl_heeds (system b) place = (refl, refl, reg_heeds (system b) place, (refl, refl, integer_heeds (system b) place, time_heeds (system b) place))

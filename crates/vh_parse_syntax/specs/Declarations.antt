@@ -16,8 +16,8 @@ use Rattle.vh_ast.specs.declared.data_type.Variable.{Variable}
 use Rattle.vh_ast.specs.declared.data_type.Variable.TheVariants as variable
 use Rattle.vh_ast.specs.Expressions.{ExprTree}
 use Rattle.vh_ast.specs.Declarations.{RangeTree, TypeTree, AssignedTree, NetTree, InitTree, VarPartTree, plain, memory, valued, VarTree, DeclTree, reg, integer, time}
-use Rattle.vh_parse_syntax.specs.declared.sign.Sign.{Sign}
-use Rattle.vh_parse_syntax.specs.declared.sign.Sign.TheVariants as sign
+use Rattle.vh_parse_syntax.specs.declared.lexeme.Lexeme.{Lexeme}
+use Rattle.vh_parse_syntax.specs.declared.lexeme.Lexeme.TheVariants as lexeme
 use Rattle.vh_parse_syntax.specs.Tokens.{is}
 use Rattle.vh_parse_syntax.specs.Parts.{G, the, at_the, an_id, comma_list, ended}
 use Rattle.vh_parse_syntax.specs.Expressions.{expression}
@@ -47,25 +47,25 @@ reg_of place r = reg place r.0 r.1
 -- range (IEEE 1364-2005, A.2.5)
 unfoldable pub a_range : G RangeTree
 a_range =
-    two range_of (at_the sign.LeftBracket)
-    (before (seq (expression true) (after (the sign.Colon) (expression true)))
-    (the sign.RightBracket))
+    two range_of (at_the lexeme.LeftBracket)
+    (before (seq (expression true) (after (the lexeme.Colon) (expression true)))
+    (the lexeme.RightBracket))
 
 -- [ "signed" ] (IEEE 1364-2005, A.2.1.3)
-abbrev pub sign_mark : G Bool
-sign_mark = alt (is sign.Signed) (act (λ _. true) (the sign.Signed)) (done false)
+abbrev pub signed_word : G Bool
+signed_word = alt (is lexeme.Signed) (act (λ _. true) (the lexeme.Signed)) (done false)
 
 -- type (IEEE 1364-2005, A.2.1.3)
 unfoldable pub a_type : G TypeTree
-a_type = two type_of sign_mark (opt (is sign.LeftBracket) a_range)
+a_type = two type_of signed_word (opt (is lexeme.LeftBracket) a_range)
 
 -- The tokens with which a type that is written begins (own).
-abbrev pub type_signs : List Sign
-type_signs = sign.Signed ∷ sign.LeftBracket ∷ []
+abbrev pub type_lexemes : List Lexeme
+type_lexemes = lexeme.Signed ∷ lexeme.LeftBracket ∷ []
 
 -- Where it is so, a range is left out here (own).
 abbrev pub no_range : Bool → G (Unit {0})
-no_range barred = unless (λ t. barred && is sign.LeftBracket t) (done tt)
+no_range barred = unless (λ t. barred && is lexeme.LeftBracket t) (done tt)
 
 -- An ID behind which a range is left out, where it is so (own).
 abbrev pub bare_id : Bool → G Id
@@ -73,11 +73,11 @@ bare_id barred = before an_id (no_range barred)
 
 -- [ "=" expr ] (IEEE 1364-2005, A.2.4)
 unfoldable pub a_value : G (Option ExprTree)
-a_value = opt (is sign.Equal) (after (the sign.Equal) (expression true))
+a_value = opt (is lexeme.Equal) (after (the lexeme.Equal) (expression true))
 
 -- ID "=" expr (IEEE 1364-2005, A.2.4)
 unfoldable pub assigned : G AssignedTree
-assigned = two assigned_of an_id (after (the sign.Equal) (expression true))
+assigned = two assigned_of an_id (after (the lexeme.Equal) (expression true))
 
 -- net (IEEE 1364-2005, A.2.4)
 unfoldable pub a_net : G NetTree
@@ -90,8 +90,8 @@ an_init = two init_of (bare_id true) a_value
 -- [ range | "=" expr ] (IEEE 1364-2005, A.2.4 and A.2.5)
 unfoldable pub var_part : G VarPartTree
 var_part =
-    alt (is sign.LeftBracket) (act memory (before a_range (no_range true)))
-    (alt (is sign.Equal) (act valued (after (the sign.Equal) (expression true)))
+    alt (is lexeme.LeftBracket) (act memory (before a_range (no_range true)))
+    (alt (is lexeme.Equal) (act valued (after (the lexeme.Equal) (expression true)))
     (done plain))
 
 -- var (IEEE 1364-2005, A.2.4)
@@ -100,21 +100,21 @@ a_var = two var_of an_id var_part
 
 -- decl (IEEE 1364-2005, A.2.1.3)
 unfoldable pub reg_decl : G DeclTree
-reg_decl = two reg_of (at_the sign.Reg) (seq a_type (ended (comma_list a_var)))
+reg_decl = two reg_of (at_the lexeme.Reg) (seq a_type (ended (comma_list a_var)))
 
 unfoldable pub integer_decl : G DeclTree
-integer_decl = two integer (at_the sign.Integer) (ended (comma_list an_init))
+integer_decl = two integer (at_the lexeme.Integer) (ended (comma_list an_init))
 
 unfoldable pub time_decl : G DeclTree
-time_decl = two time (at_the sign.Time) (ended (comma_list an_init))
+time_decl = two time (at_the lexeme.Time) (ended (comma_list an_init))
 
 unfoldable pub decl : G DeclTree
-decl = alt (is sign.Reg) reg_decl (alt (is sign.Integer) integer_decl time_decl)
+decl = alt (is lexeme.Reg) reg_decl (alt (is lexeme.Integer) integer_decl time_decl)
 
 -- The signs of variables, with which a decl begins (IEEE 1364-2005, A.2.1.3).
-abbrev pub variable_rows : List (Sign × Variable)
+abbrev pub variable_rows : List (Lexeme × Variable)
 variable_rows =
-    (sign.Reg, variable.Reg) ∷ (sign.Integer, variable.Integer) ∷ (sign.Time, variable.Time) ∷ []
+    (lexeme.Reg, variable.Reg) ∷ (lexeme.Integer, variable.Integer) ∷ (lexeme.Time, variable.Time) ∷ []
 
-abbrev pub decl_signs : List Sign
-decl_signs = sign.Reg ∷ sign.Integer ∷ sign.Time ∷ []
+abbrev pub decl_lexemes : List Lexeme
+decl_lexemes = lexeme.Reg ∷ lexeme.Integer ∷ lexeme.Time ∷ []

@@ -9,7 +9,7 @@ use Rattle.vh_parse_grammar.specs.Choices.{Heeds}
 use Rattle.vh_ast.specs.declared.token.Id.{Id}
 use Rattle.vh_ast.specs.Expressions.{ExprTree}
 use Rattle.vh_ast.specs.declared.operator.Binary.{Binary}
-use Rattle.vh_parse_syntax.specs.declared.sign.Sign.TheVariants as sign
+use Rattle.vh_parse_syntax.specs.declared.lexeme.Lexeme.TheVariants as lexeme
 use Rattle.vh_parse_syntax.specs.Tokens.{Token, Terminal, opening, fixed, name, system, text, number, row_at, binary_rows, operator_at, begins_expression}
 use Rattle.vh_parse_syntax.specs.Parts.{G, inner_expr}
 use Rattle.vh_parse_syntax.specs.Names.{Path, path, is_closed}
@@ -75,7 +75,7 @@ none_of_expression calls = refl
 pub first_of_expression : (calls : Bool) (kind : Terminal) (place : Place) → begins_expression (at kind place) ≡ first begins (expression calls) (at kind place)
 unfolding expression any_operand unary_operand prim by_name path by_system parens braces
 first_of_expression calls (opening s) place = refl
-first_of_expression calls (fixed sign.Plus) place = refl
+first_of_expression calls (fixed lexeme.Plus) place = refl
 first_of_expression calls (fixed s) place = refl
 first_of_expression calls (name b) place = refl
 first_of_expression calls (system b) place = refl
@@ -85,7 +85,7 @@ first_of_expression calls (number v z) place = refl
 arguments_heed : (calls : Bool) (kind : Terminal) (place : Place) → Heeds begins (arguments calls) (at kind place)
 unfolding arguments
 arguments_heed calls (opening s) place = (refl, (refl, tt, (refl, (refl, tt, tt))), tt)
-arguments_heed calls (fixed sign.Comma) place = (refl, (refl, tt, (refl, (refl, tt, tt))), tt)
+arguments_heed calls (fixed lexeme.Comma) place = (refl, (refl, tt, (refl, (refl, tt, tt))), tt)
 arguments_heed calls (fixed s) place = (refl, (refl, tt, (refl, (refl, tt, tt))), tt)
 arguments_heed calls (name b) place = (refl, (refl, tt, (refl, (refl, tt, tt))), tt)
 arguments_heed calls (system b) place = (refl, (refl, tt, (refl, (refl, tt, tt))), tt)
@@ -96,7 +96,7 @@ name_end_heeds : (closed calls : Bool) (p : Path) (kind : Terminal) (place : Pla
 unfolding name_end
 name_end_heeds true calls p kind place = tt
 name_end_heeds false calls p (opening s) place = (refl, refl, (refl, tt, arguments_heed calls (opening s) place), tt)
-name_end_heeds false calls p (fixed sign.LeftParen) place = (refl, refl, (refl, tt, arguments_heed calls (fixed sign.LeftParen) place), tt)
+name_end_heeds false calls p (fixed lexeme.LeftParen) place = (refl, refl, (refl, tt, arguments_heed calls (fixed lexeme.LeftParen) place), tt)
 name_end_heeds false calls p (fixed s) place = (refl, refl, (refl, tt, arguments_heed calls (fixed s) place), tt)
 name_end_heeds false calls p (name b) place = (refl, refl, (refl, tt, arguments_heed calls (name b) place), tt)
 name_end_heeds false calls p (system b) place = (refl, refl, (refl, tt, arguments_heed calls (system b) place), tt)
@@ -110,7 +110,7 @@ by_name_heeds calls t = (refl, path_heeds (inner_expr calls) refl true t tt, λ 
 system_end_heeds : (calls : Bool) (id : Id) (kind : Terminal) (place : Place) → Heeds begins (system_end calls id) (at kind place)
 unfolding system_end
 system_end_heeds calls id (opening s) place = (refl, refl, (refl, tt, arguments_heed _ (opening s) place), tt)
-system_end_heeds calls id (fixed sign.LeftParen) place = (refl, refl, (refl, tt, arguments_heed _ (fixed sign.LeftParen) place), tt)
+system_end_heeds calls id (fixed lexeme.LeftParen) place = (refl, refl, (refl, tt, arguments_heed _ (fixed lexeme.LeftParen) place), tt)
 system_end_heeds calls id (fixed s) place = (refl, refl, (refl, tt, arguments_heed _ (fixed s) place), tt)
 system_end_heeds calls id (name b) place = (refl, refl, (refl, tt, arguments_heed _ (name b) place), tt)
 system_end_heeds calls id (system b) place = (refl, refl, (refl, tt, arguments_heed _ (system b) place), tt)
@@ -124,7 +124,7 @@ by_system_heeds calls t = (refl, tt, λ id. system_end_heeds calls id t.kind t.p
 braces_end_heeds : (calls : Bool) (p : Place) (e : ExprTree) (kind : Terminal) (place : Place) → Heeds begins (braces_end calls p e) (at kind place)
 unfolding braces_end
 braces_end_heeds calls p e (opening s) place = (refl, refl, (refl, tt, (refl, (refl, tt, (refl, (refl, tt, tt))), (refl, tt, tt))), (refl, (refl, (refl, tt, tt)), tt))
-braces_end_heeds calls p e (fixed sign.LeftBrace) place = (refl, refl, (refl, tt, (refl, (refl, tt, (refl, (refl, tt, tt))), (refl, tt, tt))), (refl, (refl, (refl, tt, tt)), tt))
+braces_end_heeds calls p e (fixed lexeme.LeftBrace) place = (refl, refl, (refl, tt, (refl, (refl, tt, (refl, (refl, tt, tt))), (refl, tt, tt))), (refl, (refl, (refl, tt, tt)), tt))
 braces_end_heeds calls p e (fixed s) place = (refl, refl, (refl, tt, (refl, (refl, tt, (refl, (refl, tt, tt))), (refl, tt, tt))), (refl, (refl, (refl, tt, tt)), tt))
 braces_end_heeds calls p e (name b) place = (refl, refl, (refl, tt, (refl, (refl, tt, (refl, (refl, tt, tt))), (refl, tt, tt))), (refl, (refl, (refl, tt, tt)), tt))
 braces_end_heeds calls p e (system b) place = (refl, refl, (refl, tt, (refl, (refl, tt, (refl, (refl, tt, tt))), (refl, tt, tt))), (refl, (refl, (refl, tt, tt)), tt))
@@ -138,7 +138,7 @@ braces_heed calls t = (refl, tt, λ p. (refl, tt, λ e. braces_end_heeds calls p
 prim_heeds : (calls : Bool) (kind : Terminal) (place : Place) → Heeds begins (prim calls) (at kind place)
 unfolding prim by_name path by_system parens braces
 prim_heeds calls (opening s) place = (refl, refl, tt, (refl, refl, tt, (refl, refl, by_name_heeds calls (at (opening s) place), (refl, refl, by_system_heeds calls (at (opening s) place), (refl, refl, (refl, tt, (refl, tt, tt)), braces_heed calls (at (opening s) place))))))
-prim_heeds calls (fixed sign.LeftParen) place = (refl, refl, tt, (refl, refl, tt, (refl, refl, by_name_heeds calls (at (fixed sign.LeftParen) place), (refl, refl, by_system_heeds calls (at (fixed sign.LeftParen) place), (refl, refl, (refl, tt, (refl, tt, tt)), braces_heed calls (at (fixed sign.LeftParen) place))))))
+prim_heeds calls (fixed lexeme.LeftParen) place = (refl, refl, tt, (refl, refl, tt, (refl, refl, by_name_heeds calls (at (fixed lexeme.LeftParen) place), (refl, refl, by_system_heeds calls (at (fixed lexeme.LeftParen) place), (refl, refl, (refl, tt, (refl, tt, tt)), braces_heed calls (at (fixed lexeme.LeftParen) place))))))
 prim_heeds calls (fixed s) place = (refl, refl, tt, (refl, refl, tt, (refl, refl, by_name_heeds calls (at (fixed s) place), (refl, refl, by_system_heeds calls (at (fixed s) place), (refl, refl, (refl, tt, (refl, tt, tt)), braces_heed calls (at (fixed s) place))))))
 prim_heeds calls (name b) place = (refl, refl, tt, (refl, refl, tt, (refl, refl, by_name_heeds calls (at (name b) place), (refl, refl, by_system_heeds calls (at (name b) place), (refl, refl, (refl, tt, (refl, tt, tt)), braces_heed calls (at (name b) place))))))
 prim_heeds calls (system b) place = (refl, refl, tt, (refl, refl, tt, (refl, refl, by_name_heeds calls (at (system b) place), (refl, refl, by_system_heeds calls (at (system b) place), (refl, refl, (refl, tt, (refl, tt, tt)), braces_heed calls (at (system b) place))))))
@@ -148,7 +148,7 @@ prim_heeds calls (number v z) place = (refl, refl, tt, (refl, refl, tt, (refl, r
 pub operand_heeds : (calls : Bool) (kind : Terminal) (place : Place) → Heeds begins (any_operand calls) (at kind place)
 unfolding any_operand unary_operand prim by_name path by_system parens braces
 operand_heeds calls (opening s) place = (refl, refl, (refl, tt, tt), prim_heeds calls (opening s) place)
-operand_heeds calls (fixed sign.Plus) place = (refl, refl, (refl, tt, tt), prim_heeds calls (fixed sign.Plus) place)
+operand_heeds calls (fixed lexeme.Plus) place = (refl, refl, (refl, tt, tt), prim_heeds calls (fixed lexeme.Plus) place)
 operand_heeds calls (fixed s) place = (refl, refl, (refl, tt, tt), prim_heeds calls (fixed s) place)
 operand_heeds calls (name b) place = (refl, refl, (refl, tt, tt), prim_heeds calls (name b) place)
 operand_heeds calls (system b) place = (refl, refl, (refl, tt, tt), prim_heeds calls (system b) place)
@@ -192,7 +192,7 @@ chain_heeds (suc level) calls e t h = (
 choice_apart : (calls : Bool) (e : ExprTree) (kind : Terminal) (place : Place) → (first begins (choice_tail calls e) (at kind place) && below 11 (row_at binary_rows (at kind place))) ≡ false
 unfolding choice_tail
 choice_apart calls e (opening s) place = refl
-choice_apart calls e (fixed sign.Question) place = refl
+choice_apart calls e (fixed lexeme.Question) place = refl
 choice_apart calls e (fixed s) place = refl
 choice_apart calls e (name b) place = refl
 choice_apart calls e (system b) place = refl
@@ -202,7 +202,7 @@ choice_apart calls e (number v z) place = refl
 choice_heeds : (calls : Bool) (e : ExprTree) (kind : Terminal) (place : Place) → Heeds begins (choice_tail calls e) (at kind place)
 unfolding choice_tail
 choice_heeds calls e (opening s) place = (refl, refl, (refl, tt, (refl, tt, (refl, tt, tt))), tt)
-choice_heeds calls e (fixed sign.Question) place = (refl, refl, (refl, tt, (refl, tt, (refl, tt, tt))), tt)
+choice_heeds calls e (fixed lexeme.Question) place = (refl, refl, (refl, tt, (refl, tt, (refl, tt, tt))), tt)
 choice_heeds calls e (fixed s) place = (refl, refl, (refl, tt, (refl, tt, (refl, tt, tt))), tt)
 choice_heeds calls e (name b) place = (refl, refl, (refl, tt, (refl, tt, (refl, tt, tt))), tt)
 choice_heeds calls e (system b) place = (refl, refl, (refl, tt, (refl, tt, (refl, tt, tt))), tt)

@@ -11,10 +11,10 @@ use Rattle.vh_parse_grammar.specs.Part.{done, tok, seq, bind, act, alt, rep, unl
 use Rattle.vh_ast.specs.declared.token.Id.{Id}
 use Rattle.vh_lex.specs.declared.token.Number.{Number}
 use Rattle.vh_ast.specs.Expressions.{ExprTree, expr, number, text, system, paren, concat, repeat, exprs, unary_at, chained, chosen, named_at, called}
-use Rattle.vh_parse_syntax.specs.declared.sign.Sign.TheVariants as sign
+use Rattle.vh_parse_syntax.specs.declared.lexeme.Lexeme.TheVariants as lexeme
 use Rattle.vh_parse_syntax.specs.Tokens.{is, is_name, is_system, is_text, is_number, in_rows, unary_rows, operator_at, shows_call, calls_in}
 use Rattle.vh_parse_syntax.specs.Parts.{G, the, at_the, placed_row, a_system, a_text, a_number, inner_expr, inner_operand, comma_list, comma_more}
-use Rattle.vh_parse_syntax.specs.Names.{Path, whole_name, front_name, sel_of, is_closed, path}
+use Rattle.vh_parse_syntax.specs.Names.{Path, whole_name, name_before, sel_of, is_closed, path}
 
 -- Trees of literals, where they stand (IEEE 1364-2005, 3.5 and 3.6).
 abbrev pub number_expr : Place × Number → ExprTree
@@ -40,7 +40,7 @@ repeat_expr place count parts = expr place (repeat count (exprs parts))
 
 -- A name with its select, and a call of a name (IEEE 1364-2005, 5.2 and 10.4.4).
 abbrev pub named_expr : Path → ExprTree
-named_expr p = named_at (front_name p) (sel_of p.last)
+named_expr p = named_at (name_before p) (sel_of p.last)
 
 abbrev pub called_expr : Path → List ExprTree → ExprTree
 called_expr p arguments = called (whole_name p) arguments
@@ -52,27 +52,27 @@ choice_of test (Some branches) = chosen test branches.0 branches.1
 
 -- expr { "," expr } ")" (IEEE 1364-2005, A.8.2)
 unfoldable pub arguments : Bool → G (List ExprTree)
-arguments calls = before (comma_list (inner_expr calls)) (the sign.RightParen)
+arguments calls = before (comma_list (inner_expr calls)) (the lexeme.RightParen)
 
 -- What follows a name: the arguments of a call, where it has no select (IEEE 1364-2005, 10.4.4)
 unfoldable pub name_end : Bool → Bool → Path → G ExprTree
 name_end true calls p = done (named_expr p)
 name_end false calls p =
-    alt (is sign.LeftParen) (act (called_expr p) (after (the sign.LeftParen) (arguments calls)))
+    alt (is lexeme.LeftParen) (act (called_expr p) (after (the lexeme.LeftParen) (arguments calls)))
     (done (named_expr p))
 
 -- name [ sel ] | name "(" expr { "," expr } ")": the "(" shows the call (IEEE 1364-2005, A.8.4)
 unfoldable pub by_name : Bool → G ExprTree
 by_name calls =
-    bind (barred (λ p t. not calls && (not (is_closed p.last) && is sign.LeftParen t))
+    bind (barred (λ p t. not calls && (not (is_closed p.last) && is lexeme.LeftParen t))
     (path (inner_expr calls) true))
     (λ p. name_end (is_closed p.last) calls p)
 
 -- [ "(" expr { "," expr } ")" ], behind a system name (IEEE 1364-2005, A.8.2)
 unfoldable pub system_end : Bool → Id → G ExprTree
 system_end calls id =
-    act (system_expr id) (opt (is sign.LeftParen)
-    (after (the sign.LeftParen) (arguments (calls_in calls id))))
+    act (system_expr id) (opt (is lexeme.LeftParen)
+    (after (the lexeme.LeftParen) (arguments (calls_in calls id))))
 
 -- SYS [ "(" expr { "," expr } ")" ]: the name shows the call (IEEE 1364-2005, A.8.2)
 unfoldable pub by_system : Bool → G ExprTree
@@ -81,20 +81,20 @@ by_system calls = unless (shows_call calls) (bind a_system (system_end calls))
 -- "(" expr ")" (IEEE 1364-2005, A.8.4)
 unfoldable pub parens : Bool → G ExprTree
 parens calls =
-    two paren_expr (at_the sign.LeftParen) (before (inner_expr calls) (the sign.RightParen))
+    two paren_expr (at_the lexeme.LeftParen) (before (inner_expr calls) (the lexeme.RightParen))
 
 -- What follows the first expression in braces (IEEE 1364-2005, A.8.1)
 unfoldable pub braces_end : Bool → Place → ExprTree → G ExprTree
 braces_end calls place e =
-    alt (is sign.LeftBrace)
-    (act (repeat_expr place e) (after (the sign.LeftBrace)
-    (before (comma_list (inner_expr calls)) (seq (the sign.RightBrace) (the sign.RightBrace)))))
-    (act (concat_expr place e) (before (comma_more (inner_expr calls)) (the sign.RightBrace)))
+    alt (is lexeme.LeftBrace)
+    (act (repeat_expr place e) (after (the lexeme.LeftBrace)
+    (before (comma_list (inner_expr calls)) (seq (the lexeme.RightBrace) (the lexeme.RightBrace)))))
+    (act (concat_expr place e) (before (comma_more (inner_expr calls)) (the lexeme.RightBrace)))
 
 -- "{" expr { "," expr } "}" | "{" expr "{" expr { "," expr } "}" "}" (IEEE 1364-2005, A.8.1)
 unfoldable pub braces : Bool → G ExprTree
 braces calls =
-    bind (at_the sign.LeftBrace) (λ place. bind (inner_expr calls) (braces_end calls place))
+    bind (at_the lexeme.LeftBrace) (λ place. bind (inner_expr calls) (braces_end calls place))
 
 -- prim (IEEE 1364-2005, A.8.4)
 unfoldable pub prim : Bool → G ExprTree
@@ -103,7 +103,7 @@ prim calls =
     (alt is_text (act text_expr a_text)
     (alt is_name (by_name calls)
     (alt is_system (by_system calls)
-    (alt (is sign.LeftParen) (parens calls) (braces calls)))))
+    (alt (is lexeme.LeftParen) (parens calls) (braces calls)))))
 
 -- An operand: a prim, or a unary operator and its operand (IEEE 1364-2005, A.8.3 and 5.1.2)
 unfoldable pub unary_operand : Bool → G ExprTree
@@ -125,9 +125,9 @@ chain_tail (suc level) calls first =
 -- [ "?" expr ":" expr ] (IEEE 1364-2005, 5.1.13)
 unfoldable pub choice_tail : Bool → ExprTree → G ExprTree
 choice_tail calls test =
-    act (choice_of test) (opt (is sign.Question)
-    (after (the sign.Question) (seq (inner_expr calls)
-    (after (the sign.Colon) (inner_expr calls)))))
+    act (choice_of test) (opt (is lexeme.Question)
+    (after (the lexeme.Question) (seq (inner_expr calls)
+    (after (the lexeme.Colon) (inner_expr calls)))))
 
 -- What follows the first operand of an expression: eleven levels of binary operators, and a choice
 -- (own)

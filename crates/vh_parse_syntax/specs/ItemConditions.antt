@@ -4,7 +4,7 @@ use Rattle.vh_base.specs.declared.place.Place.{Place}
 use Rattle.vh_parse_grammar.specs.Conditions.{eats, Advances}
 use Rattle.vh_parse_grammar.specs.Firsts.{behind, without_token, first}
 use Rattle.vh_parse_grammar.specs.Choices.{Heeds}
-use Rattle.vh_parse_syntax.specs.declared.sign.Sign.TheVariants as sign
+use Rattle.vh_parse_syntax.specs.declared.lexeme.Lexeme.TheVariants as lexeme
 use Rattle.vh_parse_syntax.specs.Tokens.{Token, Terminal, opening, fixed, name, system, text, number, is}
 use Rattle.vh_parse_syntax.specs.Names.{path, lv, braced}
 use Rattle.vh_parse_syntax.specs.Expressions.{by_name, by_system, parens, braces, prim, unary_operand, any_operand, expression}
@@ -213,7 +213,7 @@ source_advances = (
 head_heeds : (kind : Terminal) (place : Place) → Heeds begins port_head (at kind place)
 unfolding port_head a_type a_range
 head_heeds (opening s) place = (refl, tt, (refl, (refl, refl, tt, tt), type_heeds (opening s) place))
-head_heeds (fixed sign.Wire) place = (refl, tt, (refl, (refl, refl, tt, tt), type_heeds (fixed sign.Wire) place))
+head_heeds (fixed lexeme.Wire) place = (refl, tt, (refl, (refl, refl, tt, tt), type_heeds (fixed lexeme.Wire) place))
 head_heeds (fixed s) place = (refl, tt, (refl, (refl, refl, tt, tt), type_heeds (fixed s) place))
 head_heeds (name b) place = (refl, tt, (refl, (refl, refl, tt, tt), type_heeds (name b) place))
 head_heeds (system b) place = (refl, tt, (refl, (refl, refl, tt, tt), type_heeds (system b) place))
@@ -224,10 +224,10 @@ pdecl_heeds : (t : Token) → Heeds begins pdecl t
 unfolding pdecl port_head
 pdecl_heeds t = (refl, head_heeds t.kind t.place, λ h. (refl, tt, tt))
 
-next_port_heeds : (d : Declared) (kind : Terminal) (place : Place) → (is sign.Comma (at kind place) ≡ first begins (next_port d) (at kind place)) × Heeds begins (next_port d) (at kind place)
+next_port_heeds : (d : Declared) (kind : Terminal) (place : Place) → (is lexeme.Comma (at kind place) ≡ first begins (next_port d) (at kind place)) × Heeds begins (next_port d) (at kind place)
 unfolding next_port pdecl port_head
 next_port_heeds d (opening s) place = (refl, (refl, tt, (refl, refl, pdecl_heeds (at (opening s) place), (refl, tt, tt))))
-next_port_heeds d (fixed sign.Comma) place = (refl, (refl, tt, (refl, refl, pdecl_heeds (at (fixed sign.Comma) place), (refl, tt, tt))))
+next_port_heeds d (fixed lexeme.Comma) place = (refl, (refl, tt, (refl, refl, pdecl_heeds (at (fixed lexeme.Comma) place), (refl, tt, tt))))
 next_port_heeds d (fixed s) place = (refl, (refl, tt, (refl, refl, pdecl_heeds (at (fixed s) place), (refl, tt, tt))))
 next_port_heeds d (name b) place = (refl, (refl, tt, (refl, refl, pdecl_heeds (at (name b) place), (refl, tt, tt))))
 next_port_heeds d (system b) place = (refl, (refl, tt, (refl, refl, pdecl_heeds (at (system b) place), (refl, tt, tt))))
@@ -237,7 +237,7 @@ next_port_heeds d (number v z) place = (refl, (refl, tt, (refl, refl, pdecl_heed
 ports_heed : (kind : Terminal) (place : Place) → Heeds begins ports (at kind place)
 unfolding ports next_ports pdecl port_head
 ports_heed (opening s) place = (refl, refl, (refl, tt, (refl, (refl, tt, tt))), (refl, pdecl_heeds (at (opening s) place), λ p d. next_port_heeds d (opening s) place))
-ports_heed (fixed sign.Comma) place = (refl, refl, (refl, tt, (refl, (refl, tt, tt))), (refl, pdecl_heeds (at (fixed sign.Comma) place), λ p d. next_port_heeds d (fixed sign.Comma) place))
+ports_heed (fixed lexeme.Comma) place = (refl, refl, (refl, tt, (refl, (refl, tt, tt))), (refl, pdecl_heeds (at (fixed lexeme.Comma) place), λ p d. next_port_heeds d (fixed lexeme.Comma) place))
 ports_heed (fixed s) place = (refl, refl, (refl, tt, (refl, (refl, tt, tt))), (refl, pdecl_heeds (at (fixed s) place), λ p d. next_port_heeds d (fixed s) place))
 ports_heed (name b) place = (refl, refl, (refl, tt, (refl, (refl, tt, tt))), (refl, pdecl_heeds (at (name b) place), λ p d. next_port_heeds d (name b) place))
 ports_heed (system b) place = (refl, refl, (refl, tt, (refl, (refl, tt, tt))), (refl, pdecl_heeds (at (system b) place), λ p d. next_port_heeds d (system b) place))
@@ -247,7 +247,7 @@ ports_heed (number v z) place = (refl, refl, (refl, tt, (refl, (refl, tt, tt))),
 par_apart : (kind : Terminal) (place : Place) → (behind (without_token a_type) (λ _. first begins assigned (at kind place)) && first begins a_type (at kind place)) ≡ false
 unfolding a_type a_range assigned
 par_apart (opening s) place = refl
-par_apart (fixed sign.Signed) place = refl
+par_apart (fixed lexeme.Signed) place = refl
 par_apart (fixed s) place = refl
 par_apart (name b) place = refl
 par_apart (system b) place = refl
@@ -257,7 +257,7 @@ par_apart (number v z) place = refl
 par_heeds : (kind : Terminal) (place : Place) → Heeds begins par (at kind place)
 unfolding par assigned
 par_heeds (opening s) place = (refl, refl, (refl, tt, (par_apart (opening s) place, type_heeds (opening s) place, assigned_heeds (at (opening s) place))), assigned_heeds (at (opening s) place))
-par_heeds (fixed sign.Parameter) place = (refl, refl, (refl, tt, (par_apart (fixed sign.Parameter) place, type_heeds (fixed sign.Parameter) place, assigned_heeds (at (fixed sign.Parameter) place))), assigned_heeds (at (fixed sign.Parameter) place))
+par_heeds (fixed lexeme.Parameter) place = (refl, refl, (refl, tt, (par_apart (fixed lexeme.Parameter) place, type_heeds (fixed lexeme.Parameter) place, assigned_heeds (at (fixed lexeme.Parameter) place))), assigned_heeds (at (fixed lexeme.Parameter) place))
 par_heeds (fixed s) place = (refl, refl, (refl, tt, (par_apart (fixed s) place, type_heeds (fixed s) place, assigned_heeds (at (fixed s) place))), assigned_heeds (at (fixed s) place))
 par_heeds (name b) place = (refl, refl, (refl, tt, (par_apart (name b) place, type_heeds (name b) place, assigned_heeds (at (name b) place))), assigned_heeds (at (name b) place))
 par_heeds (system b) place = (refl, refl, (refl, tt, (par_apart (system b) place, type_heeds (system b) place, assigned_heeds (at (system b) place))), assigned_heeds (at (system b) place))
@@ -267,7 +267,7 @@ par_heeds (number v z) place = (refl, refl, (refl, tt, (par_apart (number v z) p
 port_ids_heed : (h : PortHead) (kind : Terminal) (place : Place) → Heeds begins (port_ids h) (at kind place)
 unfolding port_ids
 port_ids_heed h (opening s) place = (refl, (refl, (refl, tt, tt), (refl, (refl, tt, (refl, tt, tt)))), tt)
-port_ids_heed h (fixed sign.Comma) place = (refl, (refl, (refl, tt, tt), (refl, (refl, tt, (refl, tt, tt)))), tt)
+port_ids_heed h (fixed lexeme.Comma) place = (refl, (refl, (refl, tt, tt), (refl, (refl, tt, (refl, tt, tt)))), tt)
 port_ids_heed h (fixed s) place = (refl, (refl, (refl, tt, tt), (refl, (refl, tt, (refl, tt, tt)))), tt)
 port_ids_heed h (name b) place = (refl, (refl, (refl, tt, tt), (refl, (refl, tt, (refl, tt, tt)))), tt)
 port_ids_heed h (system b) place = (refl, (refl, (refl, tt, tt), (refl, (refl, tt, (refl, tt, tt)))), tt)
@@ -281,7 +281,7 @@ port_item_heeds t = (refl, head_heeds t.kind t.place, λ h. port_ids_heed h t.ki
 next_delayed_heeds : (valued : Bool) (d : Delayed) (kind : Terminal) (place : Place) → (delayed_goes valued (at kind place) ≡ first begins (next_delayed valued d) (at kind place)) × Heeds begins (next_delayed valued d) (at kind place)
 unfolding next_delayed
 next_delayed_heeds true d (opening s) place = (refl, (refl, tt, net_heeds (at (opening s) place)))
-next_delayed_heeds true d (fixed sign.Comma) place = (refl, (refl, tt, net_heeds (at (fixed sign.Comma) place)))
+next_delayed_heeds true d (fixed lexeme.Comma) place = (refl, (refl, tt, net_heeds (at (fixed lexeme.Comma) place)))
 next_delayed_heeds true d (fixed s) place = (refl, (refl, tt, net_heeds (at (fixed s) place)))
 next_delayed_heeds true d (name b) place = (refl, (refl, tt, net_heeds (at (name b) place)))
 next_delayed_heeds true d (system b) place = (refl, (refl, tt, net_heeds (at (system b) place)))
@@ -296,7 +296,7 @@ delayed_heeds t = (refl, (refl, delay_heeds t, net_heeds t), λ r u. next_delaye
 all_nets_heed : (kind : Terminal) (place : Place) → Heeds begins all_nets (at kind place)
 unfolding all_nets delayed_nets delay a_net
 all_nets_heed (opening s) place = (refl, refl, (refl, delayed_heeds (at (opening s) place), (refl, (refl, tt, net_heeds (at (opening s) place)))), (refl, net_heeds (at (opening s) place), (refl, (refl, tt, net_heeds (at (opening s) place)))))
-all_nets_heed (fixed sign.Hash) place = (refl, refl, (refl, delayed_heeds (at (fixed sign.Hash) place), (refl, (refl, tt, net_heeds (at (fixed sign.Hash) place)))), (refl, net_heeds (at (fixed sign.Hash) place), (refl, (refl, tt, net_heeds (at (fixed sign.Hash) place)))))
+all_nets_heed (fixed lexeme.Hash) place = (refl, refl, (refl, delayed_heeds (at (fixed lexeme.Hash) place), (refl, (refl, tt, net_heeds (at (fixed lexeme.Hash) place)))), (refl, net_heeds (at (fixed lexeme.Hash) place), (refl, (refl, tt, net_heeds (at (fixed lexeme.Hash) place)))))
 all_nets_heed (fixed s) place = (refl, refl, (refl, delayed_heeds (at (fixed s) place), (refl, (refl, tt, net_heeds (at (fixed s) place)))), (refl, net_heeds (at (fixed s) place), (refl, (refl, tt, net_heeds (at (fixed s) place)))))
 all_nets_heed (name b) place = (refl, refl, (refl, delayed_heeds (at (name b) place), (refl, (refl, tt, net_heeds (at (name b) place)))), (refl, net_heeds (at (name b) place), (refl, (refl, tt, net_heeds (at (name b) place)))))
 all_nets_heed (system b) place = (refl, refl, (refl, delayed_heeds (at (system b) place), (refl, (refl, tt, net_heeds (at (system b) place)))), (refl, net_heeds (at (system b) place), (refl, (refl, tt, net_heeds (at (system b) place)))))
@@ -306,7 +306,7 @@ all_nets_heed (number v z) place = (refl, refl, (refl, delayed_heeds (at (number
 net_item_heeds : (kind : Terminal) (place : Place) → Heeds begins net_item (at kind place)
 unfolding net_item all_nets delayed_nets delay a_net a_type a_range
 net_item_heeds (opening s) place = (refl, tt, (refl, type_heeds (opening s) place, (refl, all_nets_heed (opening s) place, tt)))
-net_item_heeds (fixed sign.Hash) place = (refl, tt, (refl, type_heeds (fixed sign.Hash) place, (refl, all_nets_heed (fixed sign.Hash) place, tt)))
+net_item_heeds (fixed lexeme.Hash) place = (refl, tt, (refl, type_heeds (fixed lexeme.Hash) place, (refl, all_nets_heed (fixed lexeme.Hash) place, tt)))
 net_item_heeds (fixed s) place = (refl, tt, (refl, type_heeds (fixed s) place, (refl, all_nets_heed (fixed s) place, tt)))
 net_item_heeds (name b) place = (refl, tt, (refl, type_heeds (name b) place, (refl, all_nets_heed (name b) place, tt)))
 net_item_heeds (system b) place = (refl, tt, (refl, type_heeds (system b) place, (refl, all_nets_heed (system b) place, tt)))
@@ -320,7 +320,7 @@ decl_item_heeds t = decl_heeds t.kind t.place
 event_item_heeds : (kind : Terminal) (place : Place) → Heeds begins event_item (at kind place)
 unfolding event_item
 event_item_heeds (opening s) place = (refl, tt, (refl, (refl, tt, (refl, (refl, tt, tt))), tt))
-event_item_heeds (fixed sign.Comma) place = (refl, tt, (refl, (refl, tt, (refl, (refl, tt, tt))), tt))
+event_item_heeds (fixed lexeme.Comma) place = (refl, tt, (refl, (refl, tt, (refl, (refl, tt, tt))), tt))
 event_item_heeds (fixed s) place = (refl, tt, (refl, (refl, tt, (refl, (refl, tt, tt))), tt))
 event_item_heeds (name b) place = (refl, tt, (refl, (refl, tt, (refl, (refl, tt, tt))), tt))
 event_item_heeds (system b) place = (refl, tt, (refl, (refl, tt, (refl, (refl, tt, tt))), tt))
@@ -330,7 +330,7 @@ event_item_heeds (number v z) place = (refl, tt, (refl, (refl, tt, (refl, (refl,
 genvar_item_heeds : (kind : Terminal) (place : Place) → Heeds begins genvar_item (at kind place)
 unfolding genvar_item
 genvar_item_heeds (opening s) place = (refl, tt, (refl, (refl, tt, (refl, (refl, tt, tt))), tt))
-genvar_item_heeds (fixed sign.Comma) place = (refl, tt, (refl, (refl, tt, (refl, (refl, tt, tt))), tt))
+genvar_item_heeds (fixed lexeme.Comma) place = (refl, tt, (refl, (refl, tt, (refl, (refl, tt, tt))), tt))
 genvar_item_heeds (fixed s) place = (refl, tt, (refl, (refl, tt, (refl, (refl, tt, tt))), tt))
 genvar_item_heeds (name b) place = (refl, tt, (refl, (refl, tt, (refl, (refl, tt, tt))), tt))
 genvar_item_heeds (system b) place = (refl, tt, (refl, (refl, tt, (refl, (refl, tt, tt))), tt))
@@ -340,7 +340,7 @@ genvar_item_heeds (number v z) place = (refl, tt, (refl, (refl, tt, (refl, (refl
 parameter_heeds : (kind : Terminal) (place : Place) → Heeds begins parameter_item (at kind place)
 unfolding parameter_item a_type a_range assigned
 parameter_heeds (opening s) place = (refl, tt, (refl, type_heeds (opening s) place, (refl, (refl, assigned_heeds (at (opening s) place), (refl, (refl, tt, assigned_heeds (at (opening s) place)))), tt)))
-parameter_heeds (fixed sign.Comma) place = (refl, tt, (refl, type_heeds (fixed sign.Comma) place, (refl, (refl, assigned_heeds (at (fixed sign.Comma) place), (refl, (refl, tt, assigned_heeds (at (fixed sign.Comma) place)))), tt)))
+parameter_heeds (fixed lexeme.Comma) place = (refl, tt, (refl, type_heeds (fixed lexeme.Comma) place, (refl, (refl, assigned_heeds (at (fixed lexeme.Comma) place), (refl, (refl, tt, assigned_heeds (at (fixed lexeme.Comma) place)))), tt)))
 parameter_heeds (fixed s) place = (refl, tt, (refl, type_heeds (fixed s) place, (refl, (refl, assigned_heeds (at (fixed s) place), (refl, (refl, tt, assigned_heeds (at (fixed s) place)))), tt)))
 parameter_heeds (name b) place = (refl, tt, (refl, type_heeds (name b) place, (refl, (refl, assigned_heeds (at (name b) place), (refl, (refl, tt, assigned_heeds (at (name b) place)))), tt)))
 parameter_heeds (system b) place = (refl, tt, (refl, type_heeds (system b) place, (refl, (refl, assigned_heeds (at (system b) place), (refl, (refl, tt, assigned_heeds (at (system b) place)))), tt)))
@@ -350,7 +350,7 @@ parameter_heeds (number v z) place = (refl, tt, (refl, type_heeds (number v z) p
 assign_heeds : (kind : Terminal) (place : Place) → Heeds begins assign_item (at kind place)
 unfolding assign_item delay set lv braced path
 assign_heeds (opening s) place = (refl, tt, (refl, (refl, refl, delay_heeds (at (opening s) place), tt), (refl, (refl, set_heeds true (at (opening s) place), (refl, (refl, tt, set_heeds true (at (opening s) place)))), tt)))
-assign_heeds (fixed sign.Hash) place = (refl, tt, (refl, (refl, refl, delay_heeds (at (fixed sign.Hash) place), tt), (refl, (refl, set_heeds true (at (fixed sign.Hash) place), (refl, (refl, tt, set_heeds true (at (fixed sign.Hash) place)))), tt)))
+assign_heeds (fixed lexeme.Hash) place = (refl, tt, (refl, (refl, refl, delay_heeds (at (fixed lexeme.Hash) place), tt), (refl, (refl, set_heeds true (at (fixed lexeme.Hash) place), (refl, (refl, tt, set_heeds true (at (fixed lexeme.Hash) place)))), tt)))
 assign_heeds (fixed s) place = (refl, tt, (refl, (refl, refl, delay_heeds (at (fixed s) place), tt), (refl, (refl, set_heeds true (at (fixed s) place), (refl, (refl, tt, set_heeds true (at (fixed s) place)))), tt)))
 assign_heeds (name b) place = (refl, tt, (refl, (refl, refl, delay_heeds (at (name b) place), tt), (refl, (refl, set_heeds true (at (name b) place), (refl, (refl, tt, set_heeds true (at (name b) place)))), tt)))
 assign_heeds (system b) place = (refl, tt, (refl, (refl, refl, delay_heeds (at (system b) place), tt), (refl, (refl, set_heeds true (at (system b) place), (refl, (refl, tt, set_heeds true (at (system b) place)))), tt)))
@@ -360,7 +360,7 @@ assign_heeds (number v z) place = (refl, tt, (refl, (refl, refl, delay_heeds (at
 gate_heeds : (kind : Terminal) (place : Place) → Heeds begins gate (at kind place)
 unfolding gate expression any_operand prim braces
 gate_heeds (opening s) place = (refl, refl, (refl, tt, (refl, tt, (refl, (refl, (expression_heeds true (at (opening s) place)), (refl, (refl, tt, (expression_heeds true (at (opening s) place))))), tt))), (refl, tt, (refl, (refl, (expression_heeds true (at (opening s) place)), (refl, (refl, tt, (expression_heeds true (at (opening s) place))))), tt)))
-gate_heeds (fixed sign.LeftParen) place = (refl, refl, (refl, tt, (refl, tt, (refl, (refl, (expression_heeds true (at (fixed sign.LeftParen) place)), (refl, (refl, tt, (expression_heeds true (at (fixed sign.LeftParen) place))))), tt))), (refl, tt, (refl, (refl, (expression_heeds true (at (fixed sign.LeftParen) place)), (refl, (refl, tt, (expression_heeds true (at (fixed sign.LeftParen) place))))), tt)))
+gate_heeds (fixed lexeme.LeftParen) place = (refl, refl, (refl, tt, (refl, tt, (refl, (refl, (expression_heeds true (at (fixed lexeme.LeftParen) place)), (refl, (refl, tt, (expression_heeds true (at (fixed lexeme.LeftParen) place))))), tt))), (refl, tt, (refl, (refl, (expression_heeds true (at (fixed lexeme.LeftParen) place)), (refl, (refl, tt, (expression_heeds true (at (fixed lexeme.LeftParen) place))))), tt)))
 gate_heeds (fixed s) place = (refl, refl, (refl, tt, (refl, tt, (refl, (refl, (expression_heeds true (at (fixed s) place)), (refl, (refl, tt, (expression_heeds true (at (fixed s) place))))), tt))), (refl, tt, (refl, (refl, (expression_heeds true (at (fixed s) place)), (refl, (refl, tt, (expression_heeds true (at (fixed s) place))))), tt)))
 gate_heeds (name b) place = (refl, refl, (refl, tt, (refl, tt, (refl, (refl, (expression_heeds true (at (name b) place)), (refl, (refl, tt, (expression_heeds true (at (name b) place))))), tt))), (refl, tt, (refl, (refl, (expression_heeds true (at (name b) place)), (refl, (refl, tt, (expression_heeds true (at (name b) place))))), tt)))
 gate_heeds (system b) place = (refl, refl, (refl, tt, (refl, tt, (refl, (refl, (expression_heeds true (at (system b) place)), (refl, (refl, tt, (expression_heeds true (at (system b) place))))), tt))), (refl, tt, (refl, (refl, (expression_heeds true (at (system b) place)), (refl, (refl, tt, (expression_heeds true (at (system b) place))))), tt)))
@@ -370,7 +370,7 @@ gate_heeds (number v z) place = (refl, refl, (refl, tt, (refl, tt, (refl, (refl,
 gates_heed : (kind : Terminal) (place : Place) → Heeds begins gate_item (at kind place)
 unfolding gate_item delay gate
 gates_heed (opening s) place = (refl, tt, (refl, (refl, refl, delay_heeds (at (opening s) place), tt), (refl, (refl, gate_heeds (opening s) place, (refl, (refl, tt, gate_heeds (opening s) place))), tt)))
-gates_heed (fixed sign.Hash) place = (refl, tt, (refl, (refl, refl, delay_heeds (at (fixed sign.Hash) place), tt), (refl, (refl, gate_heeds (fixed sign.Hash) place, (refl, (refl, tt, gate_heeds (fixed sign.Hash) place))), tt)))
+gates_heed (fixed lexeme.Hash) place = (refl, tt, (refl, (refl, refl, delay_heeds (at (fixed lexeme.Hash) place), tt), (refl, (refl, gate_heeds (fixed lexeme.Hash) place, (refl, (refl, tt, gate_heeds (fixed lexeme.Hash) place))), tt)))
 gates_heed (fixed s) place = (refl, tt, (refl, (refl, refl, delay_heeds (at (fixed s) place), tt), (refl, (refl, gate_heeds (fixed s) place, (refl, (refl, tt, gate_heeds (fixed s) place))), tt)))
 gates_heed (name b) place = (refl, tt, (refl, (refl, refl, delay_heeds (at (name b) place), tt), (refl, (refl, gate_heeds (name b) place, (refl, (refl, tt, gate_heeds (name b) place))), tt)))
 gates_heed (system b) place = (refl, tt, (refl, (refl, refl, delay_heeds (at (system b) place), tt), (refl, (refl, gate_heeds (system b) place, (refl, (refl, tt, gate_heeds (system b) place))), tt)))
@@ -380,7 +380,7 @@ gates_heed (number v z) place = (refl, tt, (refl, (refl, refl, delay_heeds (at (
 conn_heeds : (kind : Terminal) (place : Place) → Heeds begins conn (at kind place)
 unfolding conn conn_by_name expression any_operand unary_operand prim by_name path by_system parens braces
 conn_heeds (opening s) place = (refl, refl, (refl, tt, (refl, tt, (refl, tt, (refl, (refl, refl, (expression_heeds true (at (opening s) place)), tt), tt)))), (refl, refl, (expression_heeds true (at (opening s) place)), tt))
-conn_heeds (fixed sign.Dot) place = (refl, refl, (refl, tt, (refl, tt, (refl, tt, (refl, (refl, refl, (expression_heeds true (at (fixed sign.Dot) place)), tt), tt)))), (refl, refl, (expression_heeds true (at (fixed sign.Dot) place)), tt))
+conn_heeds (fixed lexeme.Dot) place = (refl, refl, (refl, tt, (refl, tt, (refl, tt, (refl, (refl, refl, (expression_heeds true (at (fixed lexeme.Dot) place)), tt), tt)))), (refl, refl, (expression_heeds true (at (fixed lexeme.Dot) place)), tt))
 conn_heeds (fixed s) place = (refl, refl, (refl, tt, (refl, tt, (refl, tt, (refl, (refl, refl, (expression_heeds true (at (fixed s) place)), tt), tt)))), (refl, refl, (expression_heeds true (at (fixed s) place)), tt))
 conn_heeds (name b) place = (refl, refl, (refl, tt, (refl, tt, (refl, tt, (refl, (refl, refl, (expression_heeds true (at (name b) place)), tt), tt)))), (refl, refl, (expression_heeds true (at (name b) place)), tt))
 conn_heeds (system b) place = (refl, refl, (refl, tt, (refl, tt, (refl, tt, (refl, (refl, refl, (expression_heeds true (at (system b) place)), tt), tt)))), (refl, refl, (expression_heeds true (at (system b) place)), tt))
@@ -390,7 +390,7 @@ conn_heeds (number v z) place = (refl, refl, (refl, tt, (refl, tt, (refl, tt, (r
 conns_heed : (kind : Terminal) (place : Place) → Heeds begins conns (at kind place)
 unfolding conns conn conn_by_name expression any_operand unary_operand prim by_name path by_system parens braces
 conns_heed (opening s) place = (refl, conn_heeds (opening s) place, (refl, (refl, tt, conn_heeds (opening s) place)))
-conns_heed (fixed sign.Dot) place = (refl, conn_heeds (fixed sign.Dot) place, (refl, (refl, tt, conn_heeds (fixed sign.Dot) place)))
+conns_heed (fixed lexeme.Dot) place = (refl, conn_heeds (fixed lexeme.Dot) place, (refl, (refl, tt, conn_heeds (fixed lexeme.Dot) place)))
 conns_heed (fixed s) place = (refl, conn_heeds (fixed s) place, (refl, (refl, tt, conn_heeds (fixed s) place)))
 conns_heed (name b) place = (refl, conn_heeds (name b) place, (refl, (refl, tt, conn_heeds (name b) place)))
 conns_heed (system b) place = (refl, conn_heeds (system b) place, (refl, (refl, tt, conn_heeds (system b) place)))
@@ -400,7 +400,7 @@ conns_heed (number v z) place = (refl, conn_heeds (number v z) place, (refl, (re
 inst_heeds : (kind : Terminal) (place : Place) → Heeds begins inst (at kind place)
 unfolding inst conns conn conn_by_name expression any_operand unary_operand prim by_name path by_system parens braces
 inst_heeds (opening s) place = (refl, tt, (refl, tt, (refl, (refl, refl, conns_heed (opening s) place, tt), tt)))
-inst_heeds (fixed sign.Dot) place = (refl, tt, (refl, tt, (refl, (refl, refl, conns_heed (fixed sign.Dot) place, tt), tt)))
+inst_heeds (fixed lexeme.Dot) place = (refl, tt, (refl, tt, (refl, (refl, refl, conns_heed (fixed lexeme.Dot) place, tt), tt)))
 inst_heeds (fixed s) place = (refl, tt, (refl, tt, (refl, (refl, refl, conns_heed (fixed s) place, tt), tt)))
 inst_heeds (name b) place = (refl, tt, (refl, tt, (refl, (refl, refl, conns_heed (name b) place, tt), tt)))
 inst_heeds (system b) place = (refl, tt, (refl, tt, (refl, (refl, refl, conns_heed (system b) place, tt), tt)))
@@ -410,7 +410,7 @@ inst_heeds (number v z) place = (refl, tt, (refl, tt, (refl, (refl, refl, conns_
 instance_heeds : (kind : Terminal) (place : Place) → Heeds begins instance_item (at kind place)
 unfolding instance_item conns conn conn_by_name inst expression any_operand unary_operand prim by_name path by_system parens braces
 instance_heeds (opening s) place = (refl, tt, (refl, (refl, refl, (refl, tt, (refl, tt, (refl, conns_heed (opening s) place, tt))), tt), (refl, (refl, inst_heeds (opening s) place, (refl, (refl, tt, inst_heeds (opening s) place))), tt)))
-instance_heeds (fixed sign.Dot) place = (refl, tt, (refl, (refl, refl, (refl, tt, (refl, tt, (refl, conns_heed (fixed sign.Dot) place, tt))), tt), (refl, (refl, inst_heeds (fixed sign.Dot) place, (refl, (refl, tt, inst_heeds (fixed sign.Dot) place))), tt)))
+instance_heeds (fixed lexeme.Dot) place = (refl, tt, (refl, (refl, refl, (refl, tt, (refl, tt, (refl, conns_heed (fixed lexeme.Dot) place, tt))), tt), (refl, (refl, inst_heeds (fixed lexeme.Dot) place, (refl, (refl, tt, inst_heeds (fixed lexeme.Dot) place))), tt)))
 instance_heeds (fixed s) place = (refl, tt, (refl, (refl, refl, (refl, tt, (refl, tt, (refl, conns_heed (fixed s) place, tt))), tt), (refl, (refl, inst_heeds (fixed s) place, (refl, (refl, tt, inst_heeds (fixed s) place))), tt)))
 instance_heeds (name b) place = (refl, tt, (refl, (refl, refl, (refl, tt, (refl, tt, (refl, conns_heed (name b) place, tt))), tt), (refl, (refl, inst_heeds (name b) place, (refl, (refl, tt, inst_heeds (name b) place))), tt)))
 instance_heeds (system b) place = (refl, tt, (refl, (refl, refl, (refl, tt, (refl, tt, (refl, conns_heed (system b) place, tt))), tt), (refl, (refl, inst_heeds (system b) place, (refl, (refl, tt, inst_heeds (system b) place))), tt)))
@@ -424,7 +424,7 @@ process_heeds t = (refl, tt, tt)
 targ_head_heeds : (kind : Terminal) (place : Place) → Heeds begins targ_head (at kind place)
 unfolding targ_head a_type a_range
 targ_head_heeds (opening s) place = (refl, tt, (refl, (refl, refl, tt, tt), type_heeds (opening s) place))
-targ_head_heeds (fixed sign.Reg) place = (refl, tt, (refl, (refl, refl, tt, tt), type_heeds (fixed sign.Reg) place))
+targ_head_heeds (fixed lexeme.Reg) place = (refl, tt, (refl, (refl, refl, tt, tt), type_heeds (fixed lexeme.Reg) place))
 targ_head_heeds (fixed s) place = (refl, tt, (refl, (refl, refl, tt, tt), type_heeds (fixed s) place))
 targ_head_heeds (name b) place = (refl, tt, (refl, (refl, refl, tt, tt), type_heeds (name b) place))
 targ_head_heeds (system b) place = (refl, tt, (refl, (refl, refl, tt, tt), type_heeds (system b) place))
@@ -434,7 +434,7 @@ targ_head_heeds (number v z) place = (refl, tt, (refl, (refl, refl, tt, tt), typ
 targ_ids_heed : (h : TargHead) (kind : Terminal) (place : Place) → Heeds begins (targ_ids h) (at kind place)
 unfolding targ_ids
 targ_ids_heed h (opening s) place = (refl, (refl, tt, tt), (refl, (refl, tt, (refl, tt, tt))))
-targ_ids_heed h (fixed sign.Comma) place = (refl, (refl, tt, tt), (refl, (refl, tt, (refl, tt, tt))))
+targ_ids_heed h (fixed lexeme.Comma) place = (refl, (refl, tt, tt), (refl, (refl, tt, (refl, tt, tt))))
 targ_ids_heed h (fixed s) place = (refl, (refl, tt, tt), (refl, (refl, tt, (refl, tt, tt))))
 targ_ids_heed h (name b) place = (refl, (refl, tt, tt), (refl, (refl, tt, (refl, tt, tt))))
 targ_ids_heed h (system b) place = (refl, (refl, tt, tt), (refl, (refl, tt, (refl, tt, tt))))
@@ -449,10 +449,10 @@ targ_one_heeds : (t : Token) → Heeds begins targ_one t
 unfolding targ_one targ_id targ_head
 targ_one_heeds t = (refl, targ_head_heeds t.kind t.place, λ h. (refl, tt, tt))
 
-next_targ_heeds : (u : Targs) (kind : Terminal) (place : Place) → (is sign.Comma (at kind place) ≡ first begins (next_targ u) (at kind place)) × Heeds begins (next_targ u) (at kind place)
+next_targ_heeds : (u : Targs) (kind : Terminal) (place : Place) → (is lexeme.Comma (at kind place) ≡ first begins (next_targ u) (at kind place)) × Heeds begins (next_targ u) (at kind place)
 unfolding next_targ targ_one targ_head
 next_targ_heeds u (opening s) place = (refl, (refl, tt, (refl, refl, targ_one_heeds (at (opening s) place), (refl, tt, tt))))
-next_targ_heeds u (fixed sign.Comma) place = (refl, (refl, tt, (refl, refl, targ_one_heeds (at (fixed sign.Comma) place), (refl, tt, tt))))
+next_targ_heeds u (fixed lexeme.Comma) place = (refl, (refl, tt, (refl, refl, targ_one_heeds (at (fixed lexeme.Comma) place), (refl, tt, tt))))
 next_targ_heeds u (fixed s) place = (refl, (refl, tt, (refl, refl, targ_one_heeds (at (fixed s) place), (refl, tt, tt))))
 next_targ_heeds u (name b) place = (refl, (refl, tt, (refl, refl, targ_one_heeds (at (name b) place), (refl, tt, tt))))
 next_targ_heeds u (system b) place = (refl, (refl, tt, (refl, refl, targ_one_heeds (at (system b) place), (refl, tt, tt))))
@@ -466,7 +466,7 @@ targs_heed t = (refl, targ_one_heeds t, λ u s. next_targ_heeds s t.kind t.place
 local_heeds : (kind : Terminal) (place : Place) → Heeds begins local (at kind place)
 unfolding local targ targ_head decl reg_decl integer_decl time_decl
 local_heeds (opening s) place = (refl, refl, (refl, targ_heeds (at (opening s) place), tt), decl_heeds (opening s) place)
-local_heeds (fixed sign.Input) place = (refl, refl, (refl, targ_heeds (at (fixed sign.Input) place), tt), decl_heeds (fixed sign.Input) place)
+local_heeds (fixed lexeme.Input) place = (refl, refl, (refl, targ_heeds (at (fixed lexeme.Input) place), tt), decl_heeds (fixed lexeme.Input) place)
 local_heeds (fixed s) place = (refl, refl, (refl, targ_heeds (at (fixed s) place), tt), decl_heeds (fixed s) place)
 local_heeds (name b) place = (refl, refl, (refl, targ_heeds (at (name b) place), tt), decl_heeds (name b) place)
 local_heeds (system b) place = (refl, refl, (refl, targ_heeds (at (system b) place), tt), decl_heeds (system b) place)
@@ -476,7 +476,7 @@ local_heeds (number v z) place = (refl, refl, (refl, targ_heeds (at (number v z)
 routine_heeds : (inside : Bool) (kind : Terminal) (place : Place) → Heeds begins (routine inside) (at kind place)
 unfolding routine targs targ_one targ_head local targ decl reg_decl integer_decl time_decl statement empty_stmt by_name_stmt path by_brace_stmt braced delay_stmt delay event_stmt wait_stmt if_stmt case_stmt for_stmt loop_stmt forever_stmt begin_stmt fork_stmt trigger_stmt disable_stmt force_stmt release_stmt system_stmt
 routine_heeds inside (opening s) place = (refl, tt, (refl, (refl, (refl, refl, (refl, tt, (refl, targs_heed (at (opening s) place), tt)), tt), tt), (refl, (refl, local_heeds (opening s) place), tt)))
-routine_heeds inside (fixed sign.Input) place = (refl, tt, (refl, (refl, (refl, refl, (refl, tt, (refl, targs_heed (at (fixed sign.Input) place), tt)), tt), tt), (refl, (refl, local_heeds (fixed sign.Input) place), tt)))
+routine_heeds inside (fixed lexeme.Input) place = (refl, tt, (refl, (refl, (refl, refl, (refl, tt, (refl, targs_heed (at (fixed lexeme.Input) place), tt)), tt), tt), (refl, (refl, local_heeds (fixed lexeme.Input) place), tt)))
 routine_heeds inside (fixed s) place = (refl, tt, (refl, (refl, (refl, refl, (refl, tt, (refl, targs_heed (at (fixed s) place), tt)), tt), tt), (refl, (refl, local_heeds (fixed s) place), tt)))
 routine_heeds inside (name b) place = (refl, tt, (refl, (refl, (refl, refl, (refl, tt, (refl, targs_heed (at (name b) place), tt)), tt), tt), (refl, (refl, local_heeds (name b) place), tt)))
 routine_heeds inside (system b) place = (refl, tt, (refl, (refl, (refl, refl, (refl, tt, (refl, targs_heed (at (system b) place), tt)), tt), tt), (refl, (refl, local_heeds (system b) place), tt)))
@@ -490,7 +490,7 @@ task_heeds t = (refl, tt, (refl, routine_heeds false t.kind t.place, tt))
 result_heeds : (kind : Terminal) (place : Place) → Heeds begins result_type (at kind place)
 unfolding result_type a_type a_range
 result_heeds (opening s) place = (refl, refl, tt, (refl, refl, tt, (refl, refl, type_heeds (opening s) place, tt)))
-result_heeds (fixed sign.Signed) place = (refl, refl, tt, (refl, refl, tt, (refl, refl, type_heeds (fixed sign.Signed) place, tt)))
+result_heeds (fixed lexeme.Signed) place = (refl, refl, tt, (refl, refl, tt, (refl, refl, type_heeds (fixed lexeme.Signed) place, tt)))
 result_heeds (fixed s) place = (refl, refl, tt, (refl, refl, tt, (refl, refl, type_heeds (fixed s) place, tt)))
 result_heeds (name b) place = (refl, refl, tt, (refl, refl, tt, (refl, refl, type_heeds (name b) place, tt)))
 result_heeds (system b) place = (refl, refl, tt, (refl, refl, tt, (refl, refl, type_heeds (system b) place, tt)))
@@ -500,7 +500,7 @@ result_heeds (number v z) place = (refl, refl, tt, (refl, refl, tt, (refl, refl,
 function_heeds : (kind : Terminal) (place : Place) → Heeds begins function_item (at kind place)
 unfolding function_item result_type a_type a_range routine
 function_heeds (opening s) place = (refl, tt, (refl, (refl, result_heeds (opening s) place, routine_heeds true (opening s) place), tt))
-function_heeds (fixed sign.Signed) place = (refl, tt, (refl, (refl, result_heeds (fixed sign.Signed) place, routine_heeds true (fixed sign.Signed) place), tt))
+function_heeds (fixed lexeme.Signed) place = (refl, tt, (refl, (refl, result_heeds (fixed lexeme.Signed) place, routine_heeds true (fixed lexeme.Signed) place), tt))
 function_heeds (fixed s) place = (refl, tt, (refl, (refl, result_heeds (fixed s) place, routine_heeds true (fixed s) place), tt))
 function_heeds (name b) place = (refl, tt, (refl, (refl, result_heeds (name b) place, routine_heeds true (name b) place), tt))
 function_heeds (system b) place = (refl, tt, (refl, (refl, result_heeds (system b) place, routine_heeds true (system b) place), tt))
@@ -518,7 +518,7 @@ for_heeds t = (refl, tt, (refl, (refl, tt, (refl, generate_head_heeds t, tt)), t
 other_gblock_heeds : (kind : Terminal) (place : Place) → Heeds begins other_gblock (at kind place)
 unfolding other_gblock
 other_gblock_heeds (opening s) place = (refl, refl, (refl, tt, tt), tt)
-other_gblock_heeds (fixed sign.Else) place = (refl, refl, (refl, tt, tt), tt)
+other_gblock_heeds (fixed lexeme.Else) place = (refl, refl, (refl, tt, tt), tt)
 other_gblock_heeds (fixed s) place = (refl, refl, (refl, tt, tt), tt)
 other_gblock_heeds (name b) place = (refl, refl, (refl, tt, tt), tt)
 other_gblock_heeds (system b) place = (refl, refl, (refl, tt, tt), tt)
@@ -532,7 +532,7 @@ if_heeds t = (refl, tt, (refl, (refl, tt, (refl, (expression_heeds true t), tt))
 item_heeds : (kind : Terminal) (place : Place) → Heeds begins item (at kind place)
 unfolding item port_item port_head net_item decl_item decl reg_decl integer_decl time_decl event_item genvar_item parameter_item assign_item gate_item instance_item process_item task_item function_item for_item if_item
 item_heeds (opening s) place = (refl, refl, port_item_heeds (at (opening s) place), (refl, refl, net_item_heeds (opening s) place, (refl, refl, decl_item_heeds (at (opening s) place), (refl, refl, event_item_heeds (opening s) place, (refl, refl, genvar_item_heeds (opening s) place, (refl, refl, parameter_heeds (opening s) place, (refl, refl, assign_heeds (opening s) place, (refl, refl, gates_heed (opening s) place, (refl, refl, instance_heeds (opening s) place, (refl, refl, process_heeds (at (opening s) place), (refl, refl, task_heeds (at (opening s) place), (refl, refl, function_heeds (opening s) place, (refl, refl, for_heeds (at (opening s) place), if_heeds (at (opening s) place))))))))))))))
-item_heeds (fixed sign.If) place = (refl, refl, port_item_heeds (at (fixed sign.If) place), (refl, refl, net_item_heeds (fixed sign.If) place, (refl, refl, decl_item_heeds (at (fixed sign.If) place), (refl, refl, event_item_heeds (fixed sign.If) place, (refl, refl, genvar_item_heeds (fixed sign.If) place, (refl, refl, parameter_heeds (fixed sign.If) place, (refl, refl, assign_heeds (fixed sign.If) place, (refl, refl, gates_heed (fixed sign.If) place, (refl, refl, instance_heeds (fixed sign.If) place, (refl, refl, process_heeds (at (fixed sign.If) place), (refl, refl, task_heeds (at (fixed sign.If) place), (refl, refl, function_heeds (fixed sign.If) place, (refl, refl, for_heeds (at (fixed sign.If) place), if_heeds (at (fixed sign.If) place))))))))))))))
+item_heeds (fixed lexeme.If) place = (refl, refl, port_item_heeds (at (fixed lexeme.If) place), (refl, refl, net_item_heeds (fixed lexeme.If) place, (refl, refl, decl_item_heeds (at (fixed lexeme.If) place), (refl, refl, event_item_heeds (fixed lexeme.If) place, (refl, refl, genvar_item_heeds (fixed lexeme.If) place, (refl, refl, parameter_heeds (fixed lexeme.If) place, (refl, refl, assign_heeds (fixed lexeme.If) place, (refl, refl, gates_heed (fixed lexeme.If) place, (refl, refl, instance_heeds (fixed lexeme.If) place, (refl, refl, process_heeds (at (fixed lexeme.If) place), (refl, refl, task_heeds (at (fixed lexeme.If) place), (refl, refl, function_heeds (fixed lexeme.If) place, (refl, refl, for_heeds (at (fixed lexeme.If) place), if_heeds (at (fixed lexeme.If) place))))))))))))))
 item_heeds (fixed s) place = (refl, refl, port_item_heeds (at (fixed s) place), (refl, refl, net_item_heeds (fixed s) place, (refl, refl, decl_item_heeds (at (fixed s) place), (refl, refl, event_item_heeds (fixed s) place, (refl, refl, genvar_item_heeds (fixed s) place, (refl, refl, parameter_heeds (fixed s) place, (refl, refl, assign_heeds (fixed s) place, (refl, refl, gates_heed (fixed s) place, (refl, refl, instance_heeds (fixed s) place, (refl, refl, process_heeds (at (fixed s) place), (refl, refl, task_heeds (at (fixed s) place), (refl, refl, function_heeds (fixed s) place, (refl, refl, for_heeds (at (fixed s) place), if_heeds (at (fixed s) place))))))))))))))
 item_heeds (name b) place = (refl, refl, port_item_heeds (at (name b) place), (refl, refl, net_item_heeds (name b) place, (refl, refl, decl_item_heeds (at (name b) place), (refl, refl, event_item_heeds (name b) place, (refl, refl, genvar_item_heeds (name b) place, (refl, refl, parameter_heeds (name b) place, (refl, refl, assign_heeds (name b) place, (refl, refl, gates_heed (name b) place, (refl, refl, instance_heeds (name b) place, (refl, refl, process_heeds (at (name b) place), (refl, refl, task_heeds (at (name b) place), (refl, refl, function_heeds (name b) place, (refl, refl, for_heeds (at (name b) place), if_heeds (at (name b) place))))))))))))))
 item_heeds (system b) place = (refl, refl, port_item_heeds (at (system b) place), (refl, refl, net_item_heeds (system b) place, (refl, refl, decl_item_heeds (at (system b) place), (refl, refl, event_item_heeds (system b) place, (refl, refl, genvar_item_heeds (system b) place, (refl, refl, parameter_heeds (system b) place, (refl, refl, assign_heeds (system b) place, (refl, refl, gates_heed (system b) place, (refl, refl, instance_heeds (system b) place, (refl, refl, process_heeds (at (system b) place), (refl, refl, task_heeds (at (system b) place), (refl, refl, function_heeds (system b) place, (refl, refl, for_heeds (at (system b) place), if_heeds (at (system b) place))))))))))))))
@@ -542,14 +542,14 @@ item_heeds (number v z) place = (refl, refl, port_item_heeds (at (number v z) pl
 word_heeds : (depth : ℕ) (r : Region) (kind : Terminal) (place : Place) → (region_goes depth (at kind place) ≡ first begins (region_turn depth r) (at kind place)) × Heeds begins (region_turn depth r) (at kind place)
 unfolding region_word item port_item port_head net_item decl_item decl reg_decl integer_decl time_decl event_item genvar_item parameter_item assign_item gate_item instance_item process_item task_item function_item for_item if_item
 word_heeds zero r (opening s) place = (refl, (refl, (refl, refl, tt, item_heeds (opening s) place), tt))
-word_heeds zero r (fixed sign.If) place = (refl, (refl, (refl, refl, tt, item_heeds (fixed sign.If) place), tt))
+word_heeds zero r (fixed lexeme.If) place = (refl, (refl, (refl, refl, tt, item_heeds (fixed lexeme.If) place), tt))
 word_heeds zero r (fixed s) place = (refl, (refl, (refl, refl, tt, item_heeds (fixed s) place), tt))
 word_heeds zero r (name b) place = (refl, (refl, (refl, refl, tt, item_heeds (name b) place), tt))
 word_heeds zero r (system b) place = (refl, (refl, (refl, refl, tt, item_heeds (system b) place), tt))
 word_heeds zero r (text b) place = (refl, (refl, (refl, refl, tt, item_heeds (text b) place), tt))
 word_heeds zero r (number v z) place = (refl, (refl, (refl, refl, tt, item_heeds (number v z) place), tt))
 word_heeds (suc depth) r (opening s) place = (refl, (refl, (refl, refl, tt, (refl, refl, tt, item_heeds (opening s) place)), tt))
-word_heeds (suc depth) r (fixed sign.If) place = (refl, (refl, (refl, refl, tt, (refl, refl, tt, item_heeds (fixed sign.If) place)), tt))
+word_heeds (suc depth) r (fixed lexeme.If) place = (refl, (refl, (refl, refl, tt, (refl, refl, tt, item_heeds (fixed lexeme.If) place)), tt))
 word_heeds (suc depth) r (fixed s) place = (refl, (refl, (refl, refl, tt, (refl, refl, tt, item_heeds (fixed s) place)), tt))
 word_heeds (suc depth) r (name b) place = (refl, (refl, (refl, refl, tt, (refl, refl, tt, item_heeds (name b) place)), tt))
 word_heeds (suc depth) r (system b) place = (refl, (refl, (refl, refl, tt, (refl, refl, tt, item_heeds (system b) place)), tt))
@@ -586,7 +586,7 @@ region_rest_heeds r t = (
 first_word_heeds : (kind : Terminal) (place : Place) → Heeds begins first_word (at kind place)
 unfolding first_word item port_item port_head net_item decl_item decl reg_decl integer_decl time_decl event_item genvar_item parameter_item assign_item gate_item instance_item process_item task_item function_item for_item if_item
 first_word_heeds (opening s) place = (refl, refl, tt, item_heeds (opening s) place)
-first_word_heeds (fixed sign.If) place = (refl, refl, tt, item_heeds (fixed sign.If) place)
+first_word_heeds (fixed lexeme.If) place = (refl, refl, tt, item_heeds (fixed lexeme.If) place)
 first_word_heeds (fixed s) place = (refl, refl, tt, item_heeds (fixed s) place)
 first_word_heeds (name b) place = (refl, refl, tt, item_heeds (name b) place)
 first_word_heeds (system b) place = (refl, refl, tt, item_heeds (system b) place)
@@ -600,7 +600,7 @@ one_item_heeds t = (refl, (refl, first_word_heeds t.kind t.place, tt), λ w. reg
 block_heeds : (kind : Terminal) (place : Place) → Heeds begins item_block (at kind place)
 unfolding item_block items region_word region_end item port_item port_head net_item decl_item decl reg_decl integer_decl time_decl event_item genvar_item parameter_item assign_item gate_item instance_item process_item task_item function_item for_item if_item
 block_heeds (opening s) place = (refl, tt, (refl, (refl, (refl, refl, (refl, tt, tt), tt), items_heed (at (opening s) place)), tt))
-block_heeds (fixed sign.If) place = (refl, tt, (refl, (refl, (refl, refl, (refl, tt, tt), tt), items_heed (at (fixed sign.If) place)), tt))
+block_heeds (fixed lexeme.If) place = (refl, tt, (refl, (refl, (refl, refl, (refl, tt, tt), tt), items_heed (at (fixed lexeme.If) place)), tt))
 block_heeds (fixed s) place = (refl, tt, (refl, (refl, (refl, refl, (refl, tt, tt), tt), items_heed (at (fixed s) place)), tt))
 block_heeds (name b) place = (refl, tt, (refl, (refl, (refl, refl, (refl, tt, tt), tt), items_heed (at (name b) place)), tt))
 block_heeds (system b) place = (refl, tt, (refl, (refl, (refl, refl, (refl, tt, tt), tt), items_heed (at (system b) place)), tt))
@@ -610,7 +610,7 @@ block_heeds (number v z) place = (refl, tt, (refl, (refl, (refl, refl, (refl, tt
 pub gblock_heeds : (kind : Terminal) (place : Place) → Heeds begins a_gblock (at kind place)
 unfolding a_gblock item_block one_item first_word item port_item port_head net_item decl_item decl reg_decl integer_decl time_decl event_item genvar_item parameter_item assign_item gate_item instance_item process_item task_item function_item for_item if_item
 gblock_heeds (opening s) place = (refl, refl, block_heeds (opening s) place, one_item_heeds (at (opening s) place))
-gblock_heeds (fixed sign.If) place = (refl, refl, block_heeds (fixed sign.If) place, one_item_heeds (at (fixed sign.If) place))
+gblock_heeds (fixed lexeme.If) place = (refl, refl, block_heeds (fixed lexeme.If) place, one_item_heeds (at (fixed lexeme.If) place))
 gblock_heeds (fixed s) place = (refl, refl, block_heeds (fixed s) place, one_item_heeds (at (fixed s) place))
 gblock_heeds (name b) place = (refl, refl, block_heeds (name b) place, one_item_heeds (at (name b) place))
 gblock_heeds (system b) place = (refl, refl, block_heeds (system b) place, one_item_heeds (at (system b) place))
@@ -620,7 +620,7 @@ gblock_heeds (number v z) place = (refl, refl, block_heeds (number v z) place, o
 pars_heed : (kind : Terminal) (place : Place) → Heeds begins pars (at kind place)
 unfolding pars par assigned
 pars_heed (opening s) place = (refl, refl, (refl, tt, (refl, tt, (refl, (refl, par_heeds (opening s) place, (refl, (refl, tt, par_heeds (opening s) place))), tt))), tt)
-pars_heed (fixed sign.Hash) place = (refl, refl, (refl, tt, (refl, tt, (refl, (refl, par_heeds (fixed sign.Hash) place, (refl, (refl, tt, par_heeds (fixed sign.Hash) place))), tt))), tt)
+pars_heed (fixed lexeme.Hash) place = (refl, refl, (refl, tt, (refl, tt, (refl, (refl, par_heeds (fixed lexeme.Hash) place, (refl, (refl, tt, par_heeds (fixed lexeme.Hash) place))), tt))), tt)
 pars_heed (fixed s) place = (refl, refl, (refl, tt, (refl, tt, (refl, (refl, par_heeds (fixed s) place, (refl, (refl, tt, par_heeds (fixed s) place))), tt))), tt)
 pars_heed (name b) place = (refl, refl, (refl, tt, (refl, tt, (refl, (refl, par_heeds (name b) place, (refl, (refl, tt, par_heeds (name b) place))), tt))), tt)
 pars_heed (system b) place = (refl, refl, (refl, tt, (refl, tt, (refl, (refl, par_heeds (system b) place, (refl, (refl, tt, par_heeds (system b) place))), tt))), tt)
@@ -630,7 +630,7 @@ pars_heed (number v z) place = (refl, refl, (refl, tt, (refl, tt, (refl, (refl, 
 port_list_heeds : (kind : Terminal) (place : Place) → Heeds begins port_list (at kind place)
 unfolding port_list ports pdecl port_head
 port_list_heeds (opening s) place = (refl, refl, (refl, tt, (refl, (refl, refl, ports_heed (opening s) place, tt), tt)), tt)
-port_list_heeds (fixed sign.Input) place = (refl, refl, (refl, tt, (refl, (refl, refl, ports_heed (fixed sign.Input) place, tt), tt)), tt)
+port_list_heeds (fixed lexeme.Input) place = (refl, refl, (refl, tt, (refl, (refl, refl, ports_heed (fixed lexeme.Input) place, tt), tt)), tt)
 port_list_heeds (fixed s) place = (refl, refl, (refl, tt, (refl, (refl, refl, ports_heed (fixed s) place, tt), tt)), tt)
 port_list_heeds (name b) place = (refl, refl, (refl, tt, (refl, (refl, refl, ports_heed (name b) place, tt), tt)), tt)
 port_list_heeds (system b) place = (refl, refl, (refl, tt, (refl, (refl, refl, ports_heed (system b) place, tt), tt)), tt)
@@ -640,7 +640,7 @@ port_list_heeds (number v z) place = (refl, refl, (refl, tt, (refl, (refl, refl,
 module_heeds : (kind : Terminal) (place : Place) → Heeds begins a_module (at kind place)
 unfolding a_module pars port_list items region_word region_end item port_item port_head net_item decl_item decl reg_decl integer_decl time_decl event_item genvar_item parameter_item assign_item gate_item instance_item process_item task_item function_item for_item if_item
 module_heeds (opening s) place = (refl, tt, (refl, tt, (refl, pars_heed (opening s) place, (refl, (refl, port_list_heeds (opening s) place, tt), (refl, items_heed (at (opening s) place), tt)))))
-module_heeds (fixed sign.If) place = (refl, tt, (refl, tt, (refl, pars_heed (fixed sign.If) place, (refl, (refl, port_list_heeds (fixed sign.If) place, tt), (refl, items_heed (at (fixed sign.If) place), tt)))))
+module_heeds (fixed lexeme.If) place = (refl, tt, (refl, tt, (refl, pars_heed (fixed lexeme.If) place, (refl, (refl, port_list_heeds (fixed lexeme.If) place, tt), (refl, items_heed (at (fixed lexeme.If) place), tt)))))
 module_heeds (fixed s) place = (refl, tt, (refl, tt, (refl, pars_heed (fixed s) place, (refl, (refl, port_list_heeds (fixed s) place, tt), (refl, items_heed (at (fixed s) place), tt)))))
 module_heeds (name b) place = (refl, tt, (refl, tt, (refl, pars_heed (name b) place, (refl, (refl, port_list_heeds (name b) place, tt), (refl, items_heed (at (name b) place), tt)))))
 module_heeds (system b) place = (refl, tt, (refl, tt, (refl, pars_heed (system b) place, (refl, (refl, port_list_heeds (system b) place, tt), (refl, items_heed (at (system b) place), tt)))))
@@ -650,7 +650,7 @@ module_heeds (number v z) place = (refl, tt, (refl, tt, (refl, pars_heed (number
 pub source_heeds : (kind : Terminal) (place : Place) → Heeds begins source (at kind place)
 unfolding source a_module
 source_heeds (opening s) place = (refl, module_heeds (opening s) place)
-source_heeds (fixed sign.If) place = (refl, module_heeds (fixed sign.If) place)
+source_heeds (fixed lexeme.If) place = (refl, module_heeds (fixed lexeme.If) place)
 source_heeds (fixed s) place = (refl, module_heeds (fixed s) place)
 source_heeds (name b) place = (refl, module_heeds (name b) place)
 source_heeds (system b) place = (refl, module_heeds (system b) place)

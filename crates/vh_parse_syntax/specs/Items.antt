@@ -27,70 +27,70 @@ use Rattle.vh_ast.specs.Declarations.{TypeTree, AssignedTree, NetTree, DeclTree,
 use Rattle.vh_ast.specs.Statements.{DelayTree, SetTree, StmtTree}
 use Rattle.vh_ast.specs.Items.{GateTree, ConnTree, ordered, by_name, InstTree, TaskTree, FunctionTree, PlainTree, ItemTree, ItemFormTree, GblockTree, ElseTree, ModuleTree, SourceTree}
 use Rattle.vh_ast.specs.Items as I
-use Rattle.vh_parse_syntax.specs.declared.sign.Sign.{Sign}
-use Rattle.vh_parse_syntax.specs.declared.sign.Sign.TheVariants as sign
+use Rattle.vh_parse_syntax.specs.declared.lexeme.Lexeme.{Lexeme}
+use Rattle.vh_parse_syntax.specs.declared.lexeme.Lexeme.TheVariants as lexeme
 use Rattle.vh_parse_syntax.specs.Tokens.{Token, is, is_any, is_name, is_module, in_rows, setting_of, with_place, begins_expression}
 use Rattle.vh_parse_syntax.specs.Parts.{G, gblock, the, at_the, row_in, placed_row, an_id, nothing, comma_list, comma_more, in_parens, ended}
 use Rattle.vh_parse_syntax.specs.Expressions.{expression}
-use Rattle.vh_parse_syntax.specs.Declarations.{a_type, type_signs, bare_id, assigned, a_net, decl, variable_rows, decl_signs}
+use Rattle.vh_parse_syntax.specs.Declarations.{a_type, type_lexemes, bare_id, assigned, a_net, decl, variable_rows, decl_lexemes}
 use Rattle.vh_parse_syntax.specs.Statements.{all_of, delay, set, inner_stmt}
 
 -- The words of choices (IEEE 1364-2005, A.1 and A.2).
-abbrev pub direction_rows : List (Sign × Direction)
-direction_rows = (sign.Input, direction.Input) ∷ (sign.Output, direction.Output) ∷ []
+abbrev pub direction_rows : List (Lexeme × Direction)
+direction_rows = (lexeme.Input, direction.Input) ∷ (lexeme.Output, direction.Output) ∷ []
 
-abbrev pub net_rows : List (Sign × NetType)
+abbrev pub net_rows : List (Lexeme × NetType)
 net_rows =
-    (sign.Wire, nets.Wire) ∷ (sign.Tri, nets.Tri) ∷ (sign.Wand, nets.Wand) ∷
-    (sign.Triand, nets.Triand) ∷
-    (sign.Wor, nets.Wor) ∷ (sign.Trior, nets.Trior) ∷ []
+    (lexeme.Wire, nets.Wire) ∷ (lexeme.Tri, nets.Tri) ∷ (lexeme.Wand, nets.Wand) ∷
+    (lexeme.Triand, nets.Triand) ∷
+    (lexeme.Wor, nets.Wor) ∷ (lexeme.Trior, nets.Trior) ∷ []
 
-abbrev pub port_type_rows : List (Sign × PortType)
+abbrev pub port_type_rows : List (Lexeme × PortType)
 port_type_rows =
-    (sign.Wire, ports_.Net nets.Wire) ∷ (sign.Tri, ports_.Net nets.Tri) ∷
-    (sign.Wand, ports_.Net nets.Wand) ∷
-    (sign.Triand, ports_.Net nets.Triand) ∷ (sign.Wor, ports_.Net nets.Wor) ∷
-    (sign.Trior, ports_.Net nets.Trior) ∷
-    (sign.Reg, ports_.Variable variable.Reg) ∷ (sign.Integer, ports_.Variable variable.Integer) ∷
-    (sign.Time, ports_.Variable variable.Time) ∷ []
+    (lexeme.Wire, ports_.Net nets.Wire) ∷ (lexeme.Tri, ports_.Net nets.Tri) ∷
+    (lexeme.Wand, ports_.Net nets.Wand) ∷
+    (lexeme.Triand, ports_.Net nets.Triand) ∷ (lexeme.Wor, ports_.Net nets.Wor) ∷
+    (lexeme.Trior, ports_.Net nets.Trior) ∷
+    (lexeme.Reg, ports_.Variable variable.Reg) ∷ (lexeme.Integer, ports_.Variable variable.Integer) ∷
+    (lexeme.Time, ports_.Variable variable.Time) ∷ []
 
-abbrev pub targ_rows : List (Sign × TaskDirection)
+abbrev pub targ_rows : List (Lexeme × TaskDirection)
 targ_rows =
-    (sign.Input, routed.Input) ∷ (sign.Output, routed.Output) ∷ (sign.Inout, routed.Inout) ∷ []
+    (lexeme.Input, routed.Input) ∷ (lexeme.Output, routed.Output) ∷ (lexeme.Inout, routed.Inout) ∷ []
 
-abbrev pub gate_rows : List (Sign × GateType)
+abbrev pub gate_rows : List (Lexeme × GateType)
 gate_rows =
-    (sign.And, gates.And) ∷ (sign.Nand, gates.Nand) ∷ (sign.Or, gates.Or) ∷ (sign.Nor, gates.Nor) ∷
-    (sign.Xor, gates.Xor) ∷ (sign.Xnor, gates.Xnor) ∷ (sign.Buf, gates.Buf) ∷
-    (sign.Not, gates.Not) ∷ []
+    (lexeme.And, gates.And) ∷ (lexeme.Nand, gates.Nand) ∷ (lexeme.Or, gates.Or) ∷ (lexeme.Nor, gates.Nor) ∷
+    (lexeme.Xor, gates.Xor) ∷ (lexeme.Xnor, gates.Xnor) ∷ (lexeme.Buf, gates.Buf) ∷
+    (lexeme.Not, gates.Not) ∷ []
 
-abbrev pub parameter_rows : List (Sign × ParameterWord)
+abbrev pub parameter_rows : List (Lexeme × ParameterWord)
 parameter_rows =
-    (sign.Parameter, parameters.Parameter) ∷ (sign.Localparam, parameters.Localparam) ∷ []
+    (lexeme.Parameter, parameters.Parameter) ∷ (lexeme.Localparam, parameters.Localparam) ∷ []
 
-abbrev pub process_rows : List (Sign × ProcessWord)
-process_rows = (sign.Initial, processes.Initial) ∷ (sign.Always, processes.Always) ∷ []
+abbrev pub process_rows : List (Lexeme × ProcessWord)
+process_rows = (lexeme.Initial, processes.Initial) ∷ (lexeme.Always, processes.Always) ∷ []
 
 -- The signs with which an item begins, beside ID and `generate` (IEEE 1364-2005, A.1.4).
-abbrev pub item_signs : List Sign
-item_signs =
-    sign.Input ∷ sign.Output ∷ sign.Wire ∷ sign.Tri ∷ sign.Wand ∷ sign.Triand ∷ sign.Wor ∷
-    sign.Trior ∷ sign.Reg ∷
-    sign.Integer ∷ sign.Time ∷ sign.Event ∷ sign.Genvar ∷ sign.Parameter ∷ sign.Localparam ∷
-    sign.Assign ∷
-    sign.And ∷ sign.Nand ∷ sign.Or ∷ sign.Nor ∷ sign.Xor ∷ sign.Xnor ∷ sign.Buf ∷ sign.Not ∷
-    sign.Initial ∷
-    sign.Always ∷ sign.Task ∷ sign.Function ∷ sign.For ∷ sign.If ∷ []
+abbrev pub item_lexemes : List Lexeme
+item_lexemes =
+    lexeme.Input ∷ lexeme.Output ∷ lexeme.Wire ∷ lexeme.Tri ∷ lexeme.Wand ∷ lexeme.Triand ∷ lexeme.Wor ∷
+    lexeme.Trior ∷ lexeme.Reg ∷
+    lexeme.Integer ∷ lexeme.Time ∷ lexeme.Event ∷ lexeme.Genvar ∷ lexeme.Parameter ∷ lexeme.Localparam ∷
+    lexeme.Assign ∷
+    lexeme.And ∷ lexeme.Nand ∷ lexeme.Or ∷ lexeme.Nor ∷ lexeme.Xor ∷ lexeme.Xnor ∷ lexeme.Buf ∷ lexeme.Not ∷
+    lexeme.Initial ∷
+    lexeme.Always ∷ lexeme.Task ∷ lexeme.Function ∷ lexeme.For ∷ lexeme.If ∷ []
 
 abbrev pub begins_item : Token → Bool
-begins_item t = is_name t || is_any item_signs t
+begins_item t = is_name t || is_any item_lexemes t
 
 -- The token shows an item that is left out (own).
-abbrev pub hidden_signs : List Sign
-hidden_signs = sign.Inout ∷ sign.Case ∷ []
+abbrev pub hidden_lexemes : List Lexeme
+hidden_lexemes = lexeme.Inout ∷ lexeme.Case ∷ []
 
 abbrev pub shows_item : Token → Bool
-shows_item = is_any hidden_signs
+shows_item = is_any hidden_lexemes
 
 -- An item could begin here (own).
 abbrev pub item_here : G (Unit {0})
@@ -144,13 +144,13 @@ ports_of d = declared_ports d.first d.more
 -- "," ( pdecl | ID ) (IEEE 1364-2005, A.1.3)
 unfoldable pub next_port : Declared → G Declared
 next_port d =
-    after (the sign.Comma) (unless (is sign.Inout)
+    after (the lexeme.Comma) (unless (is lexeme.Inout)
     (alt (in_rows direction_rows) (act (with_pdecl d) pdecl)
     (act (with_port d) (bare_id (port_bare d.port_type)))))
 
 -- ports = ID { "," ID } | pdecl { "," ( pdecl | ID ) } (IEEE 1364-2005, A.1.3)
 unfoldable pub next_ports : PdeclTree → G PortsTree
-next_ports p = act ports_of (iter (λ d. is sign.Comma) next_port (declared_first p))
+next_ports p = act ports_of (iter (λ d. is lexeme.Comma) next_port (declared_first p))
 
 unfoldable pub ports : G PortsTree
 ports = alt is_name (act plain_ports (comma_list an_id)) (bind pdecl next_ports)
@@ -167,7 +167,7 @@ bare_par a = record { place = a.id.place; data_type = None; id = a.id; value = a
 
 unfoldable pub par : G ParTree
 par =
-    alt (is sign.Parameter) (two written_par (at_the sign.Parameter) (seq a_type assigned))
+    alt (is lexeme.Parameter) (two written_par (at_the lexeme.Parameter) (seq a_type assigned))
     (act bare_par assigned)
 
 -- ( "input" | "output" ) [ NET | "reg" | "integer" | "time" ] type ID { "," ID } ";" (IEEE
@@ -197,25 +197,25 @@ abbrev pub with_net : Delayed → NetTree → Delayed
 with_net d n = record { delay = d.delay; nets = d.nets ++ n ∷ []; valued = is_some n.value }
 
 abbrev pub delayed_goes : Bool → Token → Bool
-delayed_goes true t = is sign.Comma t
+delayed_goes true t = is lexeme.Comma t
 delayed_goes false t = false
 
 unfoldable pub next_delayed : Bool → Delayed → G Delayed
-next_delayed true d = after (the sign.Comma) (act (with_net d) a_net)
+next_delayed true d = after (the lexeme.Comma) (act (with_net d) a_net)
 next_delayed false d = nothing
 
 unfoldable pub more_delayed : Delayed → G Delayed
 more_delayed d = iter (λ u t. delayed_goes u.valued t) (λ u. next_delayed u.valued u) d
 
 -- The tokens behind a net (own).
-abbrev pub net_end_signs : List Sign
-net_end_signs = sign.Comma ∷ sign.Semicolon ∷ []
+abbrev pub net_end_lexemes : List Lexeme
+net_end_lexemes = lexeme.Comma ∷ lexeme.Semicolon ∷ []
 
 -- delay net { "," net }, up to the first net without a value: the "," or ";" behind that net shows
 -- that the declaration is left out (own)
 unfoldable pub delayed_nets : G Delayed
 delayed_nets =
-    barred (λ d t. not d.valued && is_any net_end_signs t)
+    barred (λ d t. not d.valued && is_any net_end_lexemes t)
     (bind (seq delay a_net) (λ r. more_delayed (delayed_first r)))
 
 -- [ delay ] net { "," net } (IEEE 1364-2005, A.2.1.3)
@@ -227,7 +227,7 @@ no_delay all = (None, all)
 
 unfoldable pub all_nets : G (Option DelayTree × List NetTree)
 all_nets =
-    alt (is sign.Hash) (two with_delay delayed_nets (comma_more a_net))
+    alt (is lexeme.Hash) (two with_delay delayed_nets (comma_more a_net))
     (act no_delay (comma_list a_net))
 
 -- NET type [ delay ] net { "," net } ";" (IEEE 1364-2005, A.2.1.3)
@@ -257,10 +257,10 @@ abbrev pub genvar_of : Place → List Id → ItemTree
 genvar_of place ids = plain_at place (I.genvar ids)
 
 unfoldable pub event_item : G ItemTree
-event_item = two event_of (at_the sign.Event) (ended (comma_list an_id))
+event_item = two event_of (at_the lexeme.Event) (ended (comma_list an_id))
 
 unfoldable pub genvar_item : G ItemTree
-genvar_item = two genvar_of (at_the sign.Genvar) (ended (comma_list an_id))
+genvar_item = two genvar_of (at_the lexeme.Genvar) (ended (comma_list an_id))
 
 -- ( "parameter" | "localparam" ) type ID "=" expr { "," ID "=" expr } ";" (IEEE 1364-2005, A.2.1.1)
 abbrev pub parameter_of : Place × ParameterWord → TypeTree × List AssignedTree → ItemTree
@@ -276,8 +276,8 @@ assign_of place r = plain_at place (I.assign r.0 r.1)
 
 unfoldable pub assign_item : G ItemTree
 assign_item =
-    two assign_of (at_the sign.Assign)
-    (seq (opt (is sign.Hash) delay) (ended (comma_list (set true))))
+    two assign_of (at_the lexeme.Assign)
+    (seq (opt (is lexeme.Hash) delay) (ended (comma_list (set true))))
 
 -- gate = [ ID ] "(" expr { "," expr } ")" (IEEE 1364-2005, A.3.1)
 abbrev pub named_gate : Id → List ExprTree → GateTree
@@ -287,12 +287,12 @@ abbrev pub bare_gate : Place → List ExprTree → GateTree
 bare_gate place es = record { place = place; id = None; terminals = es }
 
 abbrev pub terminals : G (List ExprTree)
-terminals = before (comma_list (expression true)) (the sign.RightParen)
+terminals = before (comma_list (expression true)) (the lexeme.RightParen)
 
 unfoldable pub gate : G GateTree
 gate =
-    alt is_name (two named_gate an_id (after (the sign.LeftParen) terminals))
-    (two bare_gate (at_the sign.LeftParen) terminals)
+    alt is_name (two named_gate an_id (after (the lexeme.LeftParen) terminals))
+    (two bare_gate (at_the lexeme.LeftParen) terminals)
 
 -- GATE [ delay ] gate { "," gate } ";" (IEEE 1364-2005, A.3.1)
 abbrev pub gate_of : Place × GateType → Option DelayTree × List GateTree → ItemTree
@@ -301,7 +301,7 @@ gate_of w r = plain_at w.0 (I.gate w.1 r.0 r.1)
 unfoldable pub gate_item : G ItemTree
 gate_item =
     two gate_of (placed_row gate_rows)
-    (seq (opt (is sign.Hash) delay) (ended (comma_list gate)))
+    (seq (opt (is lexeme.Hash) delay) (ended (comma_list gate)))
 
 -- conn = [ expr ] | "." ID "(" [ expr ] ")" (IEEE 1364-2005, A.4.1)
 abbrev pub maybe_expr : G (Option ExprTree)
@@ -311,17 +311,17 @@ abbrev pub named_conn : Place → Id × Option ExprTree → ConnTree
 named_conn place r = by_name place r.0 r.1
 
 unfoldable pub conn_by_name : G ConnTree
-conn_by_name = two named_conn (at_the sign.Dot) (seq an_id (in_parens maybe_expr))
+conn_by_name = two named_conn (at_the lexeme.Dot) (seq an_id (in_parens maybe_expr))
 
 unfoldable pub conn : G ConnTree
-conn = alt (is sign.Dot) conn_by_name (act ordered maybe_expr)
+conn = alt (is lexeme.Dot) conn_by_name (act ordered maybe_expr)
 
 -- conns = conn { "," conn } (IEEE 1364-2005, A.4.1)
 unfoldable pub conns : G (List ConnTree)
 conns = comma_list conn
 
 abbrev pub begins_conns : Token → Bool
-begins_conns t = begins_expression t || is_any (sign.Dot ∷ sign.Comma ∷ []) t
+begins_conns t = begins_expression t || is_any (lexeme.Dot ∷ lexeme.Comma ∷ []) t
 
 -- inst = ID "(" [ conns ] ")": nothing between the brackets is no conns (IEEE 1364-2005, A.4.1)
 abbrev pub inst_of : Id → List ConnTree → InstTree
@@ -337,7 +337,7 @@ instance_of id r = plain_at id.place (I.instance id (all_of r.0) r.1)
 unfoldable pub instance_item : G ItemTree
 instance_item =
     two instance_of an_id
-    (seq (opt (is sign.Hash) (after (the sign.Hash) (in_parens conns)))
+    (seq (opt (is lexeme.Hash) (after (the lexeme.Hash) (in_parens conns)))
     (ended (comma_list inst)))
 
 -- ( "initial" | "always" ) stmt (IEEE 1364-2005, A.6.2)
@@ -376,20 +376,20 @@ targ = bind targ_head targ_ids
 -- targ { "," ( targ | ID ) }, where an ID goes on with the `targ` before it: the arguments that are
 -- whole, and the last one (own).
 pub record Targs : Type 0 where
-  pub front : List TargTree
+  pub earlier : List TargTree
   pub last : TargTree
 
 abbrev pub targs_first : TargTree → Targs
-targs_first t = record { front = []; last = t }
+targs_first t = record { earlier = []; last = t }
 
 abbrev pub with_targ : Targs → TargTree → Targs
-with_targ s t = record { front = s.front ++ s.last ∷ []; last = t }
+with_targ s t = record { earlier = s.earlier ++ s.last ∷ []; last = t }
 
 abbrev pub with_id : Targs → Id → Targs
 with_id s id = record s { last = record s.last { ids = (s.last).ids ++ id ∷ [] } }
 
 abbrev pub targs_of : Targs → List TargTree
-targs_of s = s.front ++ s.last ∷ []
+targs_of s = s.earlier ++ s.last ∷ []
 
 -- A `targ` with its first ID (own)
 unfoldable pub targ_id : TargHead → G TargTree
@@ -401,29 +401,29 @@ targ_one = bind targ_head targ_id
 -- "," ( targ | ID ) (IEEE 1364-2005, A.2.7)
 unfoldable pub next_targ : Targs → G Targs
 next_targ s =
-    after (the sign.Comma) (alt (in_rows targ_rows) (act (with_targ s) targ_one)
+    after (the lexeme.Comma) (alt (in_rows targ_rows) (act (with_targ s) targ_one)
     (act (with_id s) (bare_id (targ_bare (s.last).variable))))
 
 -- targs = targ { "," ( targ | ID ) } (IEEE 1364-2005, A.2.7)
 unfoldable pub next_targs : TargTree → G (List TargTree)
-next_targs t = act targs_of (iter (λ s. is sign.Comma) next_targ (targs_first t))
+next_targs t = act targs_of (iter (λ s. is lexeme.Comma) next_targ (targs_first t))
 
 unfoldable pub targs : G (List TargTree)
 targs = bind targ_one next_targs
 
 -- [ "(" targs ")" ] (IEEE 1364-2005, A.2.6 and A.2.7)
 abbrev pub maybe_targs : G (List TargTree)
-maybe_targs = act all_of (opt (is sign.LeftParen) (in_parens targs))
+maybe_targs = act all_of (opt (is lexeme.LeftParen) (in_parens targs))
 
 -- { targ ";" | decl } (IEEE 1364-2005, A.2.6 and A.2.7)
 unfoldable pub local : G LocalTree
 local = alt (in_rows targ_rows) (act local_targ (ended targ)) (act local_decl decl)
 
-abbrev pub local_signs : List Sign
-local_signs = sign.Input ∷ sign.Output ∷ sign.Inout ∷ decl_signs
+abbrev pub local_lexemes : List Lexeme
+local_lexemes = lexeme.Input ∷ lexeme.Output ∷ lexeme.Inout ∷ decl_lexemes
 
 abbrev pub begins_local : Token → Bool
-begins_local = is_any local_signs
+begins_local = is_any local_lexemes
 
 -- ID [ "(" targs ")" ] ";" { targ ";" | decl } stmt, with whether it is a function's (own)
 abbrev pub Routine : Type 0
@@ -440,14 +440,14 @@ task_item_of place r =
     plain_at place (I.task (record { id = r.0; targs = r.1.0; locals = r.1.1.0; body = r.1.1.1 }))
 
 unfoldable pub task_item : G ItemTree
-task_item = two task_item_of (at_the sign.Task) (before (routine false) (the sign.Endtask))
+task_item = two task_item_of (at_the lexeme.Task) (before (routine false) (the lexeme.Endtask))
 
 -- [ "integer" | "time" | type ], where no type is a type that is written (IEEE 1364-2005, A.2.6)
 unfoldable pub result_type : G (Option ResultTree)
 result_type =
-    alt (is sign.Integer) (act (λ _. Some integer_result) (the sign.Integer))
-    (alt (is sign.Time) (act (λ _. Some time_result) (the sign.Time))
-    (alt (is_any type_signs) (act (λ t. Some (data_result t)) a_type)
+    alt (is lexeme.Integer) (act (λ _. Some integer_result) (the lexeme.Integer))
+    (alt (is lexeme.Time) (act (λ _. Some time_result) (the lexeme.Time))
+    (alt (is_any type_lexemes) (act (λ t. Some (data_result t)) a_type)
     (done None)))
 
 -- "function" .. "endfunction" (IEEE 1364-2005, A.2.6)
@@ -463,8 +463,8 @@ function_of place f =
 
 unfoldable pub function_item : G ItemTree
 function_item =
-    two function_of (at_the sign.Function) (before (seq result_type (routine true))
-    (the sign.Endfunction))
+    two function_of (at_the lexeme.Function) (before (seq result_type (routine true))
+    (the lexeme.Endfunction))
 
 -- A block of items: one of the wrong kind of item is left out also past the last level (own).
 abbrev pub inner_gblock : G GblockTree
@@ -476,14 +476,14 @@ GenerateHead = AssignedTree × (ExprTree × AssignedTree)
 
 unfoldable pub generate_head : G GenerateHead
 generate_head =
-    seq assigned (after (the sign.Semicolon) (seq (expression true)
-    (after (the sign.Semicolon) assigned)))
+    seq assigned (after (the lexeme.Semicolon) (seq (expression true)
+    (after (the lexeme.Semicolon) assigned)))
 
 abbrev pub for_item_of : Place → GenerateHead × GblockTree → ItemTree
 for_item_of place r = I.item place (I.for_item r.0.0 r.0.1.0 r.0.1.1 r.1)
 
 unfoldable pub for_item : G ItemTree
-for_item = two for_item_of (at_the sign.For) (seq (in_parens generate_head) inner_gblock)
+for_item = two for_item_of (at_the lexeme.For) (seq (in_parens generate_head) inner_gblock)
 
 -- "if" "(" expr ")" gblock [ "else" gblock ] (IEEE 1364-2005, A.4.2)
 abbrev pub else_gblock_of : Option GblockTree → ElseTree
@@ -494,28 +494,28 @@ abbrev pub if_item_of : Place → ExprTree × (GblockTree × Option GblockTree) 
 if_item_of place r = I.item place (I.if_item r.0 r.1.0 (else_gblock_of r.1.1))
 
 unfoldable pub other_gblock : G (Option GblockTree)
-other_gblock = opt (is sign.Else) (after (the sign.Else) inner_gblock)
+other_gblock = opt (is lexeme.Else) (after (the lexeme.Else) inner_gblock)
 
 unfoldable pub if_item : G ItemTree
 if_item =
-    two if_item_of (at_the sign.If) (seq (in_parens (expression true)) (seq inner_gblock other_gblock))
+    two if_item_of (at_the lexeme.If) (seq (in_parens (expression true)) (seq inner_gblock other_gblock))
 
 -- item, but for `generate` regions (IEEE 1364-2005, A.1.4)
 unfoldable pub item : G ItemTree
 item =
     alt (in_rows direction_rows) port_item
     (alt (in_rows net_rows) net_item
-    (alt (is_any decl_signs) decl_item
-    (alt (is sign.Event) event_item
-    (alt (is sign.Genvar) genvar_item
+    (alt (is_any decl_lexemes) decl_item
+    (alt (is lexeme.Event) event_item
+    (alt (is lexeme.Genvar) genvar_item
     (alt (in_rows parameter_rows) parameter_item
-    (alt (is sign.Assign) assign_item
+    (alt (is lexeme.Assign) assign_item
     (alt (in_rows gate_rows) gate_item
     (alt is_name instance_item
     (alt (in_rows process_rows) process_item
-    (alt (is sign.Task) task_item
-    (alt (is sign.Function) function_item
-    (alt (is sign.For) for_item if_item))))))))))))
+    (alt (is lexeme.Task) task_item
+    (alt (is lexeme.Function) function_item
+    (alt (is lexeme.For) for_item if_item))))))))))))
 
 -- "generate" { item } "endgenerate": regions take no level, so items are read flat, with their two
 -- words among them in a row (IEEE 1364-2005, A.4.2). How many regions are open, and the items so
@@ -541,10 +541,10 @@ with_endgenerate depth r place =
 -- "generate", an item, and where a region is open "endgenerate" (own)
 unfoldable pub region_word : ℕ → Region → G Region
 region_word zero r =
-    alt (is sign.Generate) (act (with_generate r) (at_the sign.Generate)) (act (with_item r) item)
+    alt (is lexeme.Generate) (act (with_generate r) (at_the lexeme.Generate)) (act (with_item r) item)
 region_word (suc depth) r =
-    alt (is sign.Generate) (act (with_generate r) (at_the sign.Generate))
-    (alt (is sign.Endgenerate) (act (with_endgenerate depth r) (at_the sign.Endgenerate))
+    alt (is lexeme.Generate) (act (with_generate r) (at_the lexeme.Generate))
+    (alt (is lexeme.Endgenerate) (act (with_endgenerate depth r) (at_the lexeme.Endgenerate))
     (act (with_item r) item))
 
 -- The same, behind which an item could stand (own).
@@ -553,8 +553,8 @@ region_turn depth r = before (region_word depth r) item_here
 
 -- The tokens with which items go on (own).
 abbrev pub region_goes : ℕ → Token → Bool
-region_goes zero t = is sign.Generate t || begins_item t
-region_goes (suc depth) t = is sign.Generate t || (is sign.Endgenerate t || begins_item t)
+region_goes zero t = is lexeme.Generate t || begins_item t
+region_goes (suc depth) t = is lexeme.Generate t || (is lexeme.Endgenerate t || begins_item t)
 
 -- The end of items: each region is closed (own).
 unfoldable pub region_end : ℕ → Region → G (List ItemTree)
@@ -588,7 +588,7 @@ opened_word place = (1, I.item place I.generate_word)
 
 unfoldable pub first_word : G (ℕ × ItemTree)
 first_word =
-    alt (is sign.Generate) (act opened_word (at_the sign.Generate)) (act (λ i. (0, i)) item)
+    alt (is lexeme.Generate) (act opened_word (at_the lexeme.Generate)) (act (λ i. (0, i)) item)
 
 abbrev pub place_of_item : ItemTree → Place
 place_of_item (I.item place form) = place
@@ -612,11 +612,11 @@ item_block_of place r = I.item_block place r.0 (I.items r.1)
 
 unfoldable pub item_block : G GblockTree
 item_block =
-    two item_block_of (at_the sign.Begin)
-    (before (seq (opt (is sign.Colon) (after (the sign.Colon) an_id)) items) (the sign.End))
+    two item_block_of (at_the lexeme.Begin)
+    (before (seq (opt (is lexeme.Colon) (after (the lexeme.Colon) an_id)) items) (the lexeme.End))
 
 unfoldable pub a_gblock : G GblockTree
-a_gblock = alt (is sign.Begin) item_block one_item
+a_gblock = alt (is lexeme.Begin) item_block one_item
 
 -- module = "module" ID [ "#" "(" par { "," par } ")" ] [ "(" [ ports ] ")" ] ";" { item }
 -- "endmodule" (IEEE 1364-2005, A.1.2)
@@ -624,7 +624,7 @@ abbrev pub a_module_word : G (Place × Setting)
 a_module_word = tok (λ t. with_place (setting_of t.kind) t.place)
 
 unfoldable pub pars : G (List ParTree)
-pars = act all_of (opt (is sign.Hash) (after (the sign.Hash) (in_parens (comma_list par))))
+pars = act all_of (opt (is lexeme.Hash) (after (the lexeme.Hash) (in_parens (comma_list par))))
 
 abbrev pub ports_in : Option (Option PortsTree) → Option PortsTree
 ports_in None = None
@@ -632,8 +632,8 @@ ports_in (Some all) = all
 
 unfoldable pub port_list : G (Option PortsTree)
 port_list =
-    act ports_in (opt (is sign.LeftParen) (in_parens
-    (unless (is sign.Inout) (opt begins_ports ports))))
+    act ports_in (opt (is lexeme.LeftParen) (in_parens
+    (unless (is lexeme.Inout) (opt begins_ports ports))))
 
 abbrev pub module_of : Place × Setting → Id × (List ParTree × (Option PortsTree × List ItemTree)) →
     ModuleTree
@@ -643,7 +643,7 @@ module_of w r =
 unfoldable pub a_module : G ModuleTree
 a_module =
     two module_of a_module_word
-    (seq an_id (seq pars (seq (ended port_list) (before items (the sign.Endmodule)))))
+    (seq an_id (seq pars (seq (ended port_list) (before items (the lexeme.Endmodule)))))
 
 -- source = { module } (IEEE 1364-2005, A.1.2)
 unfoldable pub source : G SourceTree

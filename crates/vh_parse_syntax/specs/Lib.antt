@@ -1,5 +1,5 @@
 -- The tokens that are always spelled the same
-pub mod Signs
+pub mod Lexemes
 -- The tokens, what each means, and their classes
 pub mod Tokens
 -- The productions that are nested, and small parts

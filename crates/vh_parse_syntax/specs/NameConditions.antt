@@ -6,7 +6,7 @@ use Rattle.vh_parse_grammar.specs.Conditions.{eats, Advances}
 use Rattle.vh_parse_grammar.specs.Firsts.{decided, without_token, first}
 use Rattle.vh_parse_grammar.specs.Choices.{Heeds}
 use Rattle.vh_ast.specs.Expressions.{ExprTree}
-use Rattle.vh_parse_syntax.specs.declared.sign.Sign.TheVariants as sign
+use Rattle.vh_parse_syntax.specs.declared.lexeme.Lexeme.TheVariants as lexeme
 use Rattle.vh_parse_syntax.specs.Tokens.{Token, Terminal, opening, fixed, name, system, text, number}
 use Rattle.vh_parse_syntax.specs.Parts.{G, the}
 use Rattle.vh_parse_syntax.specs.Names.{Last, plain, indexed, closed, Path, Target, path_goes, row_goes, esel_end, esel, dotted, bracketed, selected, reselected, path_turn, path_rest, path, row_turn, braced_rest, braced, lv}
@@ -64,7 +64,7 @@ module _ (x : G ExprTree) (n : without_token x ≡ None) where
   esel_end_heeds : (e : ExprTree) (kind : Terminal) (place : Place) → Heeds begins x (at kind place) → Heeds begins (esel_end x e) (at kind place)
   unfolding esel_end
   esel_end_heeds e (opening s) place h = (refl, refl, (refl, tt, h), (refl, refl, (refl, tt, h), (refl, refl, (refl, tt, h), tt)))
-  esel_end_heeds e (fixed sign.Colon) place h = (refl, refl, (refl, tt, h), (refl, refl, (refl, tt, h), (refl, refl, (refl, tt, h), tt)))
+  esel_end_heeds e (fixed lexeme.Colon) place h = (refl, refl, (refl, tt, h), (refl, refl, (refl, tt, h), (refl, refl, (refl, tt, h), tt)))
   esel_end_heeds e (fixed s) place h = (refl, refl, (refl, tt, h), (refl, refl, (refl, tt, h), (refl, refl, (refl, tt, h), tt)))
   esel_end_heeds e (name b) place h = (refl, refl, (refl, tt, h), (refl, refl, (refl, tt, h), (refl, refl, (refl, tt, h), tt)))
   esel_end_heeds e (system b) place h = (refl, refl, (refl, tt, h), (refl, refl, (refl, tt, h), (refl, refl, (refl, tt, h), tt)))
@@ -82,42 +82,42 @@ module _ (x : G ExprTree) (n : without_token x ≡ None) where
 
   bracketed_heeds : (p : Path) (t : Token) → Heeds begins x t → Heeds begins (bracketed x p) t
   unfolding bracketed
-  bracketed_heeds p t h = (refl, tt, (skip (without_token x) (λ _. first begins (the sign.RightBracket) t) (first begins x t) n, h, tt))
+  bracketed_heeds p t h = (refl, tt, (skip (without_token x) (λ _. first begins (the lexeme.RightBracket) t) (first begins x t) n, h, tt))
 
   selected_heeds : (p : Path) (t : Token) → Heeds begins x t → Heeds begins (selected x p) t
   unfolding selected
-  selected_heeds p t h = (refl, tt, (skip (without_token (esel x)) (λ _. first begins (the sign.RightBracket) t) (first begins (esel x) t) none_of_esel, esel_heeds t h, tt))
+  selected_heeds p t h = (refl, tt, (skip (without_token (esel x)) (λ _. first begins (the lexeme.RightBracket) t) (first begins (esel x) t) none_of_esel, esel_heeds t h, tt))
 
   reselected_heeds : (p : Path) (place : Place) (e : ExprTree) (t : Token) → Heeds begins x t → Heeds begins (reselected x p place e) t
   unfolding reselected
-  reselected_heeds p place e t h = (refl, tt, (skip (without_token (esel x)) (λ _. first begins (the sign.RightBracket) t) (first begins (esel x) t) none_of_esel, esel_heeds t h, tt))
+  reselected_heeds p place e t h = (refl, tt, (skip (without_token (esel x)) (λ _. first begins (the lexeme.RightBracket) t) (first begins (esel x) t) none_of_esel, esel_heeds t h, tt))
 
   pub path_turn_heeds : (sel : Bool) (last : Last) (p : Path) (kind : Terminal) (place : Place) → Heeds begins x (at kind place) →
       (path_goes sel last (at kind place) ≡ first begins (path_turn x sel last p) (at kind place)) × Heeds begins (path_turn x sel last p) (at kind place)
   unfolding path_turn dotted bracketed selected reselected
   path_turn_heeds true plain p (opening s) place h = (refl, (refl, refl, (refl, tt, tt), selected_heeds p (at (opening s) place) h))
-  path_turn_heeds true plain p (fixed sign.Dot) place h = (refl, (refl, refl, (refl, tt, tt), selected_heeds p (at (fixed sign.Dot) place) h))
+  path_turn_heeds true plain p (fixed lexeme.Dot) place h = (refl, (refl, refl, (refl, tt, tt), selected_heeds p (at (fixed lexeme.Dot) place) h))
   path_turn_heeds true plain p (fixed s) place h = (refl, (refl, refl, (refl, tt, tt), selected_heeds p (at (fixed s) place) h))
   path_turn_heeds true plain p (name b) place h = (refl, (refl, refl, (refl, tt, tt), selected_heeds p (at (name b) place) h))
   path_turn_heeds true plain p (system b) place h = (refl, (refl, refl, (refl, tt, tt), selected_heeds p (at (system b) place) h))
   path_turn_heeds true plain p (text b) place h = (refl, (refl, refl, (refl, tt, tt), selected_heeds p (at (text b) place) h))
   path_turn_heeds true plain p (number v z) place h = (refl, (refl, refl, (refl, tt, tt), selected_heeds p (at (number v z) place) h))
   path_turn_heeds false plain p (opening s) place h = (refl, (refl, refl, (refl, tt, tt), bracketed_heeds p (at (opening s) place) h))
-  path_turn_heeds false plain p (fixed sign.Dot) place h = (refl, (refl, refl, (refl, tt, tt), bracketed_heeds p (at (fixed sign.Dot) place) h))
+  path_turn_heeds false plain p (fixed lexeme.Dot) place h = (refl, (refl, refl, (refl, tt, tt), bracketed_heeds p (at (fixed lexeme.Dot) place) h))
   path_turn_heeds false plain p (fixed s) place h = (refl, (refl, refl, (refl, tt, tt), bracketed_heeds p (at (fixed s) place) h))
   path_turn_heeds false plain p (name b) place h = (refl, (refl, refl, (refl, tt, tt), bracketed_heeds p (at (name b) place) h))
   path_turn_heeds false plain p (system b) place h = (refl, (refl, refl, (refl, tt, tt), bracketed_heeds p (at (system b) place) h))
   path_turn_heeds false plain p (text b) place h = (refl, (refl, refl, (refl, tt, tt), bracketed_heeds p (at (text b) place) h))
   path_turn_heeds false plain p (number v z) place h = (refl, (refl, refl, (refl, tt, tt), bracketed_heeds p (at (number v z) place) h))
   path_turn_heeds true (indexed w e) p (opening s) place h = (refl, (refl, refl, (refl, tt, tt), reselected_heeds p w e (at (opening s) place) h))
-  path_turn_heeds true (indexed w e) p (fixed sign.Dot) place h = (refl, (refl, refl, (refl, tt, tt), reselected_heeds p w e (at (fixed sign.Dot) place) h))
+  path_turn_heeds true (indexed w e) p (fixed lexeme.Dot) place h = (refl, (refl, refl, (refl, tt, tt), reselected_heeds p w e (at (fixed lexeme.Dot) place) h))
   path_turn_heeds true (indexed w e) p (fixed s) place h = (refl, (refl, refl, (refl, tt, tt), reselected_heeds p w e (at (fixed s) place) h))
   path_turn_heeds true (indexed w e) p (name b) place h = (refl, (refl, refl, (refl, tt, tt), reselected_heeds p w e (at (name b) place) h))
   path_turn_heeds true (indexed w e) p (system b) place h = (refl, (refl, refl, (refl, tt, tt), reselected_heeds p w e (at (system b) place) h))
   path_turn_heeds true (indexed w e) p (text b) place h = (refl, (refl, refl, (refl, tt, tt), reselected_heeds p w e (at (text b) place) h))
   path_turn_heeds true (indexed w e) p (number v z) place h = (refl, (refl, refl, (refl, tt, tt), reselected_heeds p w e (at (number v z) place) h))
   path_turn_heeds false (indexed w e) p (opening s) place h = (refl, (refl, tt, tt))
-  path_turn_heeds false (indexed w e) p (fixed sign.Dot) place h = (refl, (refl, tt, tt))
+  path_turn_heeds false (indexed w e) p (fixed lexeme.Dot) place h = (refl, (refl, tt, tt))
   path_turn_heeds false (indexed w e) p (fixed s) place h = (refl, (refl, tt, tt))
   path_turn_heeds false (indexed w e) p (name b) place h = (refl, (refl, tt, tt))
   path_turn_heeds false (indexed w e) p (system b) place h = (refl, (refl, tt, tt))
@@ -135,7 +135,7 @@ module _ (x : G ExprTree) (n : without_token x ≡ None) where
       (row_goes wants depth (at kind place) ≡ first begins (row_turn x wants depth r) (at kind place)) × Heeds begins (row_turn x wants depth r) (at kind place)
   unfolding row_turn path
   row_turn_heeds true depth r (opening s) place h = (refl, (refl, refl, tt, path_heeds true (at (opening s) place) h))
-  row_turn_heeds true depth r (fixed sign.LeftBrace) place h = (refl, (refl, refl, tt, path_heeds true (at (fixed sign.LeftBrace) place) h))
+  row_turn_heeds true depth r (fixed lexeme.LeftBrace) place h = (refl, (refl, refl, tt, path_heeds true (at (fixed lexeme.LeftBrace) place) h))
   row_turn_heeds true depth r (fixed s) place h = (refl, (refl, refl, tt, path_heeds true (at (fixed s) place) h))
   row_turn_heeds true depth r (name b) place h = (refl, (refl, refl, tt, path_heeds true (at (name b) place) h))
   row_turn_heeds true depth r (system b) place h = (refl, (refl, refl, tt, path_heeds true (at (system b) place) h))
@@ -143,7 +143,7 @@ module _ (x : G ExprTree) (n : without_token x ≡ None) where
   row_turn_heeds true depth r (number v z) place h = (refl, (refl, refl, tt, path_heeds true (at (number v z) place) h))
   row_turn_heeds false zero r kind place h = (refl, tt)
   row_turn_heeds false (suc depth) r (opening s) place h = (refl, (refl, refl, tt, tt))
-  row_turn_heeds false (suc depth) r (fixed sign.Comma) place h = (refl, (refl, refl, tt, tt))
+  row_turn_heeds false (suc depth) r (fixed lexeme.Comma) place h = (refl, (refl, refl, tt, tt))
   row_turn_heeds false (suc depth) r (fixed s) place h = (refl, (refl, refl, tt, tt))
   row_turn_heeds false (suc depth) r (name b) place h = (refl, (refl, refl, tt, tt))
   row_turn_heeds false (suc depth) r (system b) place h = (refl, (refl, refl, tt, tt))
@@ -162,7 +162,7 @@ module _ (x : G ExprTree) (n : without_token x ≡ None) where
   pub lv_heeds : (kind : Terminal) (place : Place) → Heeds begins x (at kind place) → Heeds begins (lv x) (at kind place)
   unfolding lv braced path
   lv_heeds (opening s) place h = (refl, refl, braced_heeds (at (opening s) place) h, path_heeds true (at (opening s) place) h)
-  lv_heeds (fixed sign.LeftBrace) place h = (refl, refl, braced_heeds (at (fixed sign.LeftBrace) place) h, path_heeds true (at (fixed sign.LeftBrace) place) h)
+  lv_heeds (fixed lexeme.LeftBrace) place h = (refl, refl, braced_heeds (at (fixed lexeme.LeftBrace) place) h, path_heeds true (at (fixed lexeme.LeftBrace) place) h)
   lv_heeds (fixed s) place h = (refl, refl, braced_heeds (at (fixed s) place) h, path_heeds true (at (fixed s) place) h)
   lv_heeds (name b) place h = (refl, refl, braced_heeds (at (name b) place) h, path_heeds true (at (name b) place) h)
   lv_heeds (system b) place h = (refl, refl, braced_heeds (at (system b) place) h, path_heeds true (at (system b) place) h)

@@ -14,7 +14,7 @@ use Rattle.vh_ast.specs.declared.token.Id.{Id}
 use Rattle.vh_ast.specs.Expressions.{ExprTree, NameTree, name, start_of, no_step, steps, IndexTree, no_index, index, SelTree, no_sel, index_sel, both_sel, part_sel, PartTree, at, range, up, down}
 use Rattle.vh_ast.specs.Statements.{LvPartTree, LvTree}
 use Rattle.vh_ast.specs.Statements as S
-use Rattle.vh_parse_syntax.specs.declared.sign.Sign.TheVariants as sign
+use Rattle.vh_parse_syntax.specs.declared.lexeme.Lexeme.TheVariants as lexeme
 use Rattle.vh_parse_syntax.specs.Tokens.{Token, is, is_name}
 use Rattle.vh_parse_syntax.specs.Parts.{G, the, at_the, an_id, nothing}
 
@@ -27,17 +27,17 @@ pub data Last : Type 0 where
 
 -- A name so far: the steps that are whole, the last ID, and what stands behind it (own).
 pub record Path : Type 0 where
-  pub front : List (Id × IndexTree)
+  pub earlier : List (Id × IndexTree)
   pub id : Id
   pub last : Last
 
 -- Before all steps (own).
 abbrev pub path_of : Id → Path
-path_of id = record { front = []; id = id; last = plain }
+path_of id = record { earlier = []; id = id; last = plain }
 
 -- The path with another ID, the index staying with the one before it (own).
 abbrev pub with_step : Path → IndexTree → Id → Path
-with_step p i id = record { front = p.front ++ (p.id, i) ∷ []; id = id; last = plain }
+with_step p i id = record { earlier = p.earlier ++ (p.id, i) ∷ []; id = id; last = plain }
 
 -- The path with a first bracket, and with a second one (own).
 abbrev pub last_of : Place → PartTree → Last
@@ -71,10 +71,10 @@ sel_of (closed s) = s
 
 -- A path as a name alone, and as a name with a select (own).
 abbrev pub whole_name : Path → NameTree
-whole_name p = name_by p.front p.id (index_of p.last)
+whole_name p = name_by p.earlier p.id (index_of p.last)
 
-abbrev pub front_name : Path → NameTree
-front_name p = name_by p.front p.id no_index
+abbrev pub name_before : Path → NameTree
+name_before p = name_by p.earlier p.id no_index
 
 -- Nothing goes on with it but what needs a select (own).
 abbrev pub is_closed : Last → Bool
@@ -87,12 +87,12 @@ abbrev pub Target : Type 0
 Target = NameTree × SelTree
 
 abbrev pub target_of : Path → Target
-target_of p = (front_name p, sel_of p.last)
+target_of p = (name_before p, sel_of p.last)
 
 -- The tokens with which a path goes on, by whether it may have a select (own).
 abbrev pub path_goes : Bool → Last → Token → Bool
-path_goes sel plain t = is sign.Dot t || is sign.LeftBracket t
-path_goes sel (indexed place e) t = is sign.Dot t || (sel && is sign.LeftBracket t)
+path_goes sel plain t = is lexeme.Dot t || is lexeme.LeftBracket t
+path_goes sel (indexed place e) t = is lexeme.Dot t || (sel && is lexeme.LeftBracket t)
 path_goes sel (closed s) t = false
 
 -- What stands in a row of targets (own).
@@ -106,21 +106,21 @@ lv_of place pieces = record { place = place; parts = map lv_part pieces }
 
 -- A single target (own).
 abbrev pub single : Path → LvTree
-single p = lv_of (start_of (front_name p)) (nest.item (target_of p) ∷ [])
+single p = lv_of (start_of (name_before p)) (nest.item (target_of p) ∷ [])
 
 -- The tokens with which a row of targets goes on (own).
 abbrev pub row_goes : Bool → ℕ → Token → Bool
 row_goes wants depth =
-    goes_by (is sign.LeftBrace) (is sign.Comma) (is sign.RightBrace) is_name wants depth
+    goes_by (is lexeme.LeftBrace) (is lexeme.Comma) (is lexeme.RightBrace) is_name wants depth
 
 -- `index_at` is the expression in a bracket: inside another expression it is a level deeper.
 module _ (index_at : G ExprTree) where
   -- What follows the first expression of an esel (own).
   unfoldable pub esel_end : ExprTree → G PartTree
   esel_end e =
-      alt (is sign.Colon) (act (range e) (after (the sign.Colon) index_at))
-      (alt (is sign.PlusColon) (act (up e) (after (the sign.PlusColon) index_at))
-      (alt (is sign.MinusColon) (act (down e) (after (the sign.MinusColon) index_at))
+      alt (is lexeme.Colon) (act (range e) (after (the lexeme.Colon) index_at))
+      (alt (is lexeme.PlusColon) (act (up e) (after (the lexeme.PlusColon) index_at))
+      (alt (is lexeme.MinusColon) (act (down e) (after (the lexeme.MinusColon) index_at))
       (done (at e))))
 
   -- esel = expr | expr ":" expr | expr "+:" expr | expr "-:" expr (IEEE 1364-2005, 5.2.1)
@@ -129,30 +129,30 @@ module _ (index_at : G ExprTree) where
 
   -- "." ID (IEEE 1364-2005, 12.5)
   unfoldable pub dotted : IndexTree → Path → G Path
-  dotted i p = act (with_step p i) (after (the sign.Dot) an_id)
+  dotted i p = act (with_step p i) (after (the lexeme.Dot) an_id)
 
   -- "[" expr "]", of a name without a select (IEEE 1364-2005, 12.5)
   unfoldable pub bracketed : Path → G Path
   bracketed p =
-      two (λ place e. with_bracket p place (at e)) (at_the sign.LeftBracket)
-      (before index_at (the sign.RightBracket))
+      two (λ place e. with_bracket p place (at e)) (at_the lexeme.LeftBracket)
+      (before index_at (the lexeme.RightBracket))
 
   -- "[" esel "]", the first bracket where a select may stand (IEEE 1364-2005, 5.2)
   unfoldable pub selected : Path → G Path
-  selected p = two (with_bracket p) (at_the sign.LeftBracket) (before esel (the sign.RightBracket))
+  selected p = two (with_bracket p) (at_the lexeme.LeftBracket) (before esel (the lexeme.RightBracket))
 
   -- "[" esel "]", the second bracket of a select (IEEE 1364-2005, 5.2.2)
   unfoldable pub reselected : Path → Place → ExprTree → G Path
   reselected p place e =
-      two (with_second p place e) (at_the sign.LeftBracket) (before esel (the sign.RightBracket))
+      two (with_second p place e) (at_the lexeme.LeftBracket) (before esel (the lexeme.RightBracket))
 
   -- What comes next in a path, by whether it may have a select and by what stands behind the last
   -- ID (own).
   unfoldable pub path_turn : Bool → Last → Path → G Path
-  path_turn true plain p = alt (is sign.Dot) (dotted no_index p) (selected p)
-  path_turn false plain p = alt (is sign.Dot) (dotted no_index p) (bracketed p)
+  path_turn true plain p = alt (is lexeme.Dot) (dotted no_index p) (selected p)
+  path_turn false plain p = alt (is lexeme.Dot) (dotted no_index p) (bracketed p)
   path_turn true (indexed place e) p =
-      alt (is sign.Dot) (dotted (index e) p) (reselected p place e)
+      alt (is lexeme.Dot) (dotted (index e) p) (reselected p place e)
   path_turn false (indexed place e) p = dotted (index e) p
   path_turn sel (closed s) p = nothing
 
@@ -167,7 +167,7 @@ module _ (index_at : G ExprTree) where
   -- What comes next in a row of targets (own).
   unfoldable pub row_turn : Bool → ℕ → Row Target → G (Row Target)
   row_turn wants depth r =
-      turn_by (is sign.LeftBrace) (is sign.Comma) (is sign.RightBrace) (act target_of (path true))
+      turn_by (is lexeme.LeftBrace) (is lexeme.Comma) (is lexeme.RightBrace) (act target_of (path true))
       wants depth r
 
   -- The rest of a row of targets behind its first brace (own).
@@ -179,8 +179,8 @@ module _ (index_at : G ExprTree) where
 
   -- "{" lv { "," lv } "}", of any depth and on one level (IEEE 1364-2005, A.8.5)
   unfoldable pub braced : G LvTree
-  braced = bind (at_the sign.LeftBrace) (λ place. act (lv_of place) braced_rest)
+  braced = bind (at_the lexeme.LeftBrace) (λ place. act (lv_of place) braced_rest)
 
   -- lv = name [ sel ] | "{" lv { "," lv } "}" (IEEE 1364-2005, A.8.5)
   unfoldable pub lv : G LvTree
-  lv = alt (is sign.LeftBrace) braced (act single (path true))
+  lv = alt (is lexeme.LeftBrace) braced (act single (path true))

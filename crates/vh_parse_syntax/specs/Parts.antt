@@ -7,8 +7,8 @@ use Rattle.vh_lex.specs.declared.token.Number.{Number}
 use Rattle.vh_ast.specs.Expressions.{ExprTree}
 use Rattle.vh_ast.specs.Statements.{StmtTree}
 use Rattle.vh_ast.specs.Items.{GblockTree}
-use Rattle.vh_parse_syntax.specs.declared.sign.Sign.{Sign}
-use Rattle.vh_parse_syntax.specs.declared.sign.Sign.TheVariants as sign
+use Rattle.vh_parse_syntax.specs.declared.lexeme.Lexeme.{Lexeme}
+use Rattle.vh_parse_syntax.specs.declared.lexeme.Lexeme.TheVariants as lexeme
 use Rattle.vh_parse_syntax.specs.Tokens.{Token, is, row_at, name_of, system_of, text_of, number_of, with_place, place_if, id_with, shows_call}
 
 -- The productions that are nested: an expression inside another one and an operand of a unary
@@ -32,18 +32,18 @@ abbrev pub G : Type 0 → Type 1
 G A = Part Token tree_of A
 
 -- The sign (own).
-abbrev pub the : Sign → G (Unit {0})
+abbrev pub the : Lexeme → G (Unit {0})
 the s = only (is s)
 
 -- The sign, where it stands (own).
-abbrev pub at_the : Sign → G Place
+abbrev pub at_the : Lexeme → G Place
 at_the s = tok (λ t. place_if (is s t) t.place)
 
 -- A token of the rows, with what its row says; and where it stands (own).
-abbrev pub row_in : {A : Type 0} → List (Sign × A) → G A
+abbrev pub row_in : {A : Type 0} → List (Lexeme × A) → G A
 row_in rows = tok (row_at rows)
 
-abbrev pub placed_row : {A : Type 0} → List (Sign × A) → G (Place × A)
+abbrev pub placed_row : {A : Type 0} → List (Lexeme × A) → G (Place × A)
 placed_row rows = tok (λ t. with_place (row_at rows t) t.place)
 
 -- ID, SYS, STRING and NUMBER (own).
@@ -72,16 +72,16 @@ inner_operand calls = unless (shows_call calls) (nested (operand calls))
 
 -- The part, and further ones behind commas (own).
 abbrev pub comma_list : {A : Type 0} → G A → G (List A)
-comma_list part = listed (is sign.Comma) (the sign.Comma) part
+comma_list part = listed (is lexeme.Comma) (the lexeme.Comma) part
 
 -- Further ones alone (own).
 abbrev pub comma_more : {A : Type 0} → G A → G (List A)
-comma_more part = rep (is sign.Comma) (after (the sign.Comma) part)
+comma_more part = rep (is lexeme.Comma) (after (the lexeme.Comma) part)
 
 -- The part in parentheses (own).
 abbrev pub in_parens : {A : Type 0} → G A → G A
-in_parens part = after (the sign.LeftParen) (before part (the sign.RightParen))
+in_parens part = after (the lexeme.LeftParen) (before part (the lexeme.RightParen))
 
 -- The part and a ";" (own).
 abbrev pub ended : {A : Type 0} → G A → G A
-ended part = before part (the sign.Semicolon)
+ended part = before part (the lexeme.Semicolon)

@@ -13,16 +13,16 @@ use Rattle.vh_ast.specs.declared.operator.Unary.{Unary}
 use Rattle.vh_ast.specs.declared.operator.Unary.TheVariants as unary
 use Rattle.vh_ast.specs.declared.operator.Binary.{Binary}
 use Rattle.vh_ast.specs.declared.operator.Binary.TheVariants as binary
-use Rattle.vh_parse_syntax.specs.declared.sign.Sign.{Sign}
-use Rattle.vh_parse_syntax.specs.declared.sign.Sign.TheVariants as sign
-use Rattle.vh_parse_syntax.specs.Signs.{same, one_of, row_of, word_sign, mark_sign}
+use Rattle.vh_parse_syntax.specs.declared.lexeme.Lexeme.{Lexeme}
+use Rattle.vh_parse_syntax.specs.declared.lexeme.Lexeme.TheVariants as lexeme
+use Rattle.vh_parse_syntax.specs.Lexemes.{same, one_of, row_of, word_lexeme, symbol_lexeme}
 
 -- What a token is: the terminals of the grammar (IEEE 1364-2005, Annex A).
 pub data Terminal : Type 0 where
   -- `module`, with what the directives before it set
   opening : Setting → Terminal
-  -- another reserved word, or a mark
-  fixed : Sign → Terminal
+  -- another reserved word, or a symbol
+  fixed : Lexeme → Terminal
   -- ID, SYS, STRING and NUMBER
   name : List ℕ → Terminal
   system : List ℕ → Terminal
@@ -37,8 +37,8 @@ pub record Token : Type 0 where
 -- What a token of the lexer is (own).
 abbrev pub terminal_of : lexed.Kind → Terminal
 terminal_of (lexed_kind.Module setting) = opening setting
-terminal_of (lexed_kind.Word word) = fixed (word_sign word)
-terminal_of (lexed_kind.Mark mark) = fixed (mark_sign mark)
+terminal_of (lexed_kind.Word word) = fixed (word_lexeme word)
+terminal_of (lexed_kind.Symbol symbol) = fixed (symbol_lexeme symbol)
 terminal_of (lexed_kind.Name bytes) = name bytes
 terminal_of (lexed_kind.SysName bytes) = system bytes
 terminal_of (lexed_kind.Text bytes) = text bytes
@@ -49,45 +49,45 @@ abbrev pub token_seen : lexed_token.Token → Token
 token_seen t = record { kind = terminal_of t.kind; place = t.place }
 
 -- What the sign says of a terminal that is one (own).
-abbrev pub of_sign : {A : Type 0} → (Sign → Option A) → Terminal → Option A
-of_sign meaning (opening setting) = None
-of_sign meaning (fixed s) = meaning s
-of_sign meaning (name bytes) = None
-of_sign meaning (system bytes) = None
-of_sign meaning (text bytes) = None
-of_sign meaning (number value sized) = None
+abbrev pub of_lexeme : {A : Type 0} → (Lexeme → Option A) → Terminal → Option A
+of_lexeme meaning (opening setting) = None
+of_lexeme meaning (fixed s) = meaning s
+of_lexeme meaning (name bytes) = None
+of_lexeme meaning (system bytes) = None
+of_lexeme meaning (text bytes) = None
+of_lexeme meaning (number value sized) = None
 
 -- The terminal is a sign of which this holds (own).
-abbrev pub sign_is : (Sign → Bool) → Terminal → Bool
-sign_is holds (opening setting) = false
-sign_is holds (fixed s) = holds s
-sign_is holds (name bytes) = false
-sign_is holds (system bytes) = false
-sign_is holds (text bytes) = false
-sign_is holds (number value sized) = false
+abbrev pub lexeme_is : (Lexeme → Bool) → Terminal → Bool
+lexeme_is holds (opening setting) = false
+lexeme_is holds (fixed s) = holds s
+lexeme_is holds (name bytes) = false
+lexeme_is holds (system bytes) = false
+lexeme_is holds (text bytes) = false
+lexeme_is holds (number value sized) = false
 
 -- The sign that a terminal is, if it is one (own).
-abbrev pub sign_of : Terminal → Option Sign
-sign_of kind = of_sign (λ s. Some s) kind
+abbrev pub lexeme_of : Terminal → Option Lexeme
+lexeme_of kind = of_lexeme (λ s. Some s) kind
 
 -- The token is this sign, or one of these (own).
-abbrev pub is : Sign → Token → Bool
-is s t = sign_is (same s) t.kind
+abbrev pub is : Lexeme → Token → Bool
+is s t = lexeme_is (same s) t.kind
 
-abbrev pub is_any : List Sign → Token → Bool
-is_any all t = sign_is (one_of all) t.kind
+abbrev pub is_any : List Lexeme → Token → Bool
+is_any all t = lexeme_is (one_of all) t.kind
 
 -- What the first row of the token's sign says, if it has one (own).
-abbrev pub row_at : {A : Type 0} → List (Sign × A) → Token → Option A
-row_at rows t = of_sign (row_of rows) t.kind
+abbrev pub row_at : {A : Type 0} → List (Lexeme × A) → Token → Option A
+row_at rows t = of_lexeme (row_of rows) t.kind
 
 -- The token is the sign of one of the rows (own).
-abbrev pub in_rows : {A : Type 0} → List (Sign × A) → Token → Bool
+abbrev pub in_rows : {A : Type 0} → List (Lexeme × A) → Token → Bool
 in_rows rows t = is_some (row_at rows t)
 
 -- A reserved word that stands in no production (IEEE 1364-2005, Annex B).
 abbrev pub is_unused : Token → Bool
-is_unused t = is sign.Unused t
+is_unused t = is lexeme.Unused t
 
 -- What `module` carries, if the token is that (IEEE 1364-2005, 19).
 abbrev pub setting_of : Terminal → Option Setting
@@ -163,50 +163,50 @@ id_with None place = None
 id_with (Some bytes) place = Some (record { place = place; name = bytes })
 
 -- The unary operators (IEEE 1364-2005, Table 5-1).
-abbrev pub unary_rows : List (Sign × Unary)
+abbrev pub unary_rows : List (Lexeme × Unary)
 unary_rows =
-    (sign.Plus, unary.Plus) ∷
-    (sign.Minus, unary.Minus) ∷
-    (sign.Bang, unary.Not) ∷
-    (sign.Tilde, unary.Invert) ∷
-    (sign.Ampersand, unary.ReduceAnd) ∷
-    (sign.TildeAnd, unary.ReduceNand) ∷
-    (sign.Bar, unary.ReduceOr) ∷
-    (sign.TildeOr, unary.ReduceNor) ∷
-    (sign.Caret, unary.ReduceXor) ∷
-    (sign.TildeCaret, unary.ReduceXnor) ∷
-    (sign.CaretTilde, unary.ReduceXnor) ∷
+    (lexeme.Plus, unary.Plus) ∷
+    (lexeme.Minus, unary.Minus) ∷
+    (lexeme.Bang, unary.Not) ∷
+    (lexeme.Tilde, unary.Invert) ∷
+    (lexeme.Ampersand, unary.ReduceAnd) ∷
+    (lexeme.TildeAnd, unary.ReduceNand) ∷
+    (lexeme.Bar, unary.ReduceOr) ∷
+    (lexeme.TildeOr, unary.ReduceNor) ∷
+    (lexeme.Caret, unary.ReduceXor) ∷
+    (lexeme.TildeCaret, unary.ReduceXnor) ∷
+    (lexeme.CaretTilde, unary.ReduceXnor) ∷
     []
 
 -- The binary operators, each with its level, the one that binds closest being 0 (IEEE 1364-2005,
 -- Table 5-4).
-abbrev pub binary_rows : List (Sign × (ℕ × Binary))
+abbrev pub binary_rows : List (Lexeme × (ℕ × Binary))
 binary_rows =
-    (sign.StarStar, (0, binary.Power)) ∷
-    (sign.Star, (1, binary.Times)) ∷
-    (sign.Slash, (1, binary.Divide)) ∷
-    (sign.Percent, (1, binary.Modulus)) ∷
-    (sign.Plus, (2, binary.Plus)) ∷
-    (sign.Minus, (2, binary.Minus)) ∷
-    (sign.ShiftLeft, (3, binary.ShiftLeft)) ∷
-    (sign.ShiftRight, (3, binary.ShiftRight)) ∷
-    (sign.ArithmeticShiftLeft, (3, binary.ArithmeticShiftLeft)) ∷
-    (sign.ArithmeticShiftRight, (3, binary.ArithmeticShiftRight)) ∷
-    (sign.Less, (4, binary.Less)) ∷
-    (sign.LessEqual, (4, binary.LessEqual)) ∷
-    (sign.Greater, (4, binary.Greater)) ∷
-    (sign.GreaterEqual, (4, binary.GreaterEqual)) ∷
-    (sign.LogicalEqual, (5, binary.LogicalEqual)) ∷
-    (sign.LogicalUnequal, (5, binary.LogicalUnequal)) ∷
-    (sign.CaseEqual, (5, binary.CaseEqual)) ∷
-    (sign.CaseUnequal, (5, binary.CaseUnequal)) ∷
-    (sign.Ampersand, (6, binary.And)) ∷
-    (sign.Caret, (7, binary.Xor)) ∷
-    (sign.CaretTilde, (7, binary.Xnor)) ∷
-    (sign.TildeCaret, (7, binary.Xnor)) ∷
-    (sign.Bar, (8, binary.Or)) ∷
-    (sign.AndAnd, (9, binary.AndAnd)) ∷
-    (sign.OrOr, (10, binary.OrOr)) ∷
+    (lexeme.StarStar, (0, binary.Power)) ∷
+    (lexeme.Star, (1, binary.Times)) ∷
+    (lexeme.Slash, (1, binary.Divide)) ∷
+    (lexeme.Percent, (1, binary.Modulus)) ∷
+    (lexeme.Plus, (2, binary.Plus)) ∷
+    (lexeme.Minus, (2, binary.Minus)) ∷
+    (lexeme.ShiftLeft, (3, binary.ShiftLeft)) ∷
+    (lexeme.ShiftRight, (3, binary.ShiftRight)) ∷
+    (lexeme.ArithmeticShiftLeft, (3, binary.ArithmeticShiftLeft)) ∷
+    (lexeme.ArithmeticShiftRight, (3, binary.ArithmeticShiftRight)) ∷
+    (lexeme.Less, (4, binary.Less)) ∷
+    (lexeme.LessEqual, (4, binary.LessEqual)) ∷
+    (lexeme.Greater, (4, binary.Greater)) ∷
+    (lexeme.GreaterEqual, (4, binary.GreaterEqual)) ∷
+    (lexeme.LogicalEqual, (5, binary.LogicalEqual)) ∷
+    (lexeme.LogicalUnequal, (5, binary.LogicalUnequal)) ∷
+    (lexeme.CaseEqual, (5, binary.CaseEqual)) ∷
+    (lexeme.CaseUnequal, (5, binary.CaseUnequal)) ∷
+    (lexeme.Ampersand, (6, binary.And)) ∷
+    (lexeme.Caret, (7, binary.Xor)) ∷
+    (lexeme.CaretTilde, (7, binary.Xnor)) ∷
+    (lexeme.TildeCaret, (7, binary.Xnor)) ∷
+    (lexeme.Bar, (8, binary.Or)) ∷
+    (lexeme.AndAnd, (9, binary.AndAnd)) ∷
+    (lexeme.OrOr, (10, binary.OrOr)) ∷
     []
 
 -- The operator, if it is of the level (own).
@@ -219,16 +219,16 @@ abbrev pub operator_at : ℕ → Token → Option Binary
 operator_at level t = of_level level (row_at binary_rows t)
 
 -- The signs with which an expression begins (IEEE 1364-2005, A.8).
-abbrev pub expression_signs : List Sign
-expression_signs =
-    sign.LeftParen ∷ sign.LeftBrace ∷ sign.Plus ∷ sign.Minus ∷ sign.Bang ∷ sign.Tilde ∷
-    sign.Ampersand ∷
-    sign.TildeAnd ∷ sign.Bar ∷ sign.TildeOr ∷ sign.Caret ∷ sign.TildeCaret ∷ sign.CaretTilde ∷ []
+abbrev pub expression_lexemes : List Lexeme
+expression_lexemes =
+    lexeme.LeftParen ∷ lexeme.LeftBrace ∷ lexeme.Plus ∷ lexeme.Minus ∷ lexeme.Bang ∷ lexeme.Tilde ∷
+    lexeme.Ampersand ∷
+    lexeme.TildeAnd ∷ lexeme.Bar ∷ lexeme.TildeOr ∷ lexeme.Caret ∷ lexeme.TildeCaret ∷ lexeme.CaretTilde ∷ []
 
 -- The token begins an expression (IEEE 1364-2005, A.8).
 abbrev pub begins_expression : Token → Bool
 begins_expression t =
-    is_number t || is_text t || is_name t || is_system t || is_any expression_signs t
+    is_number t || is_text t || is_name t || is_system t || is_any expression_lexemes t
 
 -- The system names that are no calls, where calls are left out (own).
 abbrev pub plain_systems : List (List ℕ)

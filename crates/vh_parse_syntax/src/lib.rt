@@ -10,10 +10,10 @@
 #![tactic(auto)]
 
 mod laws;
-mod sign;
+mod lexeme;
 pub mod tables;
 mod token;
 
 pub use laws::{Syntax, syntax_laws};
-pub use sign::Sign;
+pub use lexeme::Lexeme;
 pub use token::{Class, Group, Rows, Start, Word};

@@ -1,126 +1,126 @@
-//! Signs that each mean something, by what they mean.
+//! Lexemes that each mean something, by what they mean.
 
-use crate::Sign;
+use crate::Lexeme;
 use vh_ast::{
     AssignWord, CaseWord, Direction, Edge, ForceWord, GateType, LoopWord, NetType, ParameterWord,
     PortType, ProcessWord, ReleaseWord, TaskDirection, Unary, Variable,
 };
 
 /// The unary operators (IEEE 1364-2005, 5.1).
-pub static UNARY: [(Sign, Unary); 11] = [
-    (Sign::Plus, Unary::Plus),
-    (Sign::Minus, Unary::Minus),
-    (Sign::Bang, Unary::Not),
-    (Sign::Tilde, Unary::Invert),
-    (Sign::Ampersand, Unary::ReduceAnd),
-    (Sign::TildeAnd, Unary::ReduceNand),
-    (Sign::Bar, Unary::ReduceOr),
-    (Sign::TildeOr, Unary::ReduceNor),
-    (Sign::Caret, Unary::ReduceXor),
-    (Sign::TildeCaret, Unary::ReduceXnor),
-    (Sign::CaretTilde, Unary::ReduceXnor),
+pub static UNARY: [(Lexeme, Unary); 11] = [
+    (Lexeme::Plus, Unary::Plus),
+    (Lexeme::Minus, Unary::Minus),
+    (Lexeme::Bang, Unary::Not),
+    (Lexeme::Tilde, Unary::Invert),
+    (Lexeme::Ampersand, Unary::ReduceAnd),
+    (Lexeme::TildeAnd, Unary::ReduceNand),
+    (Lexeme::Bar, Unary::ReduceOr),
+    (Lexeme::TildeOr, Unary::ReduceNor),
+    (Lexeme::Caret, Unary::ReduceXor),
+    (Lexeme::TildeCaret, Unary::ReduceXnor),
+    (Lexeme::CaretTilde, Unary::ReduceXnor),
 ];
 
 /// The signs of assignments.
-pub static ASSIGN: [(Sign, AssignWord); 2] = [
-    (Sign::Equal, AssignWord::Blocking),
-    (Sign::LessEqual, AssignWord::Nonblocking),
+pub static ASSIGN: [(Lexeme, AssignWord); 2] = [
+    (Lexeme::Equal, AssignWord::Blocking),
+    (Lexeme::LessEqual, AssignWord::Nonblocking),
 ];
 
 /// Edges.
-pub static EDGE: [(Sign, Edge); 2] = [
-    (Sign::Posedge, Edge::Positive),
-    (Sign::Negedge, Edge::Negative),
+pub static EDGE: [(Lexeme, Edge); 2] = [
+    (Lexeme::Posedge, Edge::Positive),
+    (Lexeme::Negedge, Edge::Negative),
 ];
 
 /// The words of a `case`.
-pub static CASE: [(Sign, CaseWord); 3] = [
-    (Sign::Case, CaseWord::Case),
-    (Sign::Casez, CaseWord::Casez),
-    (Sign::Casex, CaseWord::Casex),
+pub static CASE: [(Lexeme, CaseWord); 3] = [
+    (Lexeme::Case, CaseWord::Case),
+    (Lexeme::Casez, CaseWord::Casez),
+    (Lexeme::Casex, CaseWord::Casex),
 ];
 
 /// The words of a loop.
-pub static LOOP: [(Sign, LoopWord); 2] = [
-    (Sign::While, LoopWord::While),
-    (Sign::Repeat, LoopWord::Repeat),
+pub static LOOP: [(Lexeme, LoopWord); 2] = [
+    (Lexeme::While, LoopWord::While),
+    (Lexeme::Repeat, LoopWord::Repeat),
 ];
 
 /// `force` and the `assign` of a statement.
-pub static FORCE: [(Sign, ForceWord); 2] = [
-    (Sign::Force, ForceWord::Force),
-    (Sign::Assign, ForceWord::Assign),
+pub static FORCE: [(Lexeme, ForceWord); 2] = [
+    (Lexeme::Force, ForceWord::Force),
+    (Lexeme::Assign, ForceWord::Assign),
 ];
 
 /// `release` and `deassign`.
-pub static RELEASE: [(Sign, ReleaseWord); 2] = [
-    (Sign::Release, ReleaseWord::Release),
-    (Sign::Deassign, ReleaseWord::Deassign),
+pub static RELEASE: [(Lexeme, ReleaseWord); 2] = [
+    (Lexeme::Release, ReleaseWord::Release),
+    (Lexeme::Deassign, ReleaseWord::Deassign),
 ];
 
 /// The types of variables.
-pub static VARIABLE: [(Sign, Variable); 3] = [
-    (Sign::Reg, Variable::Reg),
-    (Sign::Integer, Variable::Integer),
-    (Sign::Time, Variable::Time),
+pub static VARIABLE: [(Lexeme, Variable); 3] = [
+    (Lexeme::Reg, Variable::Reg),
+    (Lexeme::Integer, Variable::Integer),
+    (Lexeme::Time, Variable::Time),
 ];
 
 /// The directions of ports.
-pub static DIRECTION: [(Sign, Direction); 2] = [
-    (Sign::Input, Direction::Input),
-    (Sign::Output, Direction::Output),
+pub static DIRECTION: [(Lexeme, Direction); 2] = [
+    (Lexeme::Input, Direction::Input),
+    (Lexeme::Output, Direction::Output),
 ];
 
 /// The net types.
-pub static NET: [(Sign, NetType); 6] = [
-    (Sign::Wire, NetType::Wire),
-    (Sign::Tri, NetType::Tri),
-    (Sign::Wand, NetType::Wand),
-    (Sign::Triand, NetType::Triand),
-    (Sign::Wor, NetType::Wor),
-    (Sign::Trior, NetType::Trior),
+pub static NET: [(Lexeme, NetType); 6] = [
+    (Lexeme::Wire, NetType::Wire),
+    (Lexeme::Tri, NetType::Tri),
+    (Lexeme::Wand, NetType::Wand),
+    (Lexeme::Triand, NetType::Triand),
+    (Lexeme::Wor, NetType::Wor),
+    (Lexeme::Trior, NetType::Trior),
 ];
 
 /// The types of ports.
-pub static PORT_TYPE: [(Sign, PortType); 9] = [
-    (Sign::Wire, PortType::Net(NetType::Wire)),
-    (Sign::Tri, PortType::Net(NetType::Tri)),
-    (Sign::Wand, PortType::Net(NetType::Wand)),
-    (Sign::Triand, PortType::Net(NetType::Triand)),
-    (Sign::Wor, PortType::Net(NetType::Wor)),
-    (Sign::Trior, PortType::Net(NetType::Trior)),
-    (Sign::Reg, PortType::Variable(Variable::Reg)),
-    (Sign::Integer, PortType::Variable(Variable::Integer)),
-    (Sign::Time, PortType::Variable(Variable::Time)),
+pub static PORT_TYPE: [(Lexeme, PortType); 9] = [
+    (Lexeme::Wire, PortType::Net(NetType::Wire)),
+    (Lexeme::Tri, PortType::Net(NetType::Tri)),
+    (Lexeme::Wand, PortType::Net(NetType::Wand)),
+    (Lexeme::Triand, PortType::Net(NetType::Triand)),
+    (Lexeme::Wor, PortType::Net(NetType::Wor)),
+    (Lexeme::Trior, PortType::Net(NetType::Trior)),
+    (Lexeme::Reg, PortType::Variable(Variable::Reg)),
+    (Lexeme::Integer, PortType::Variable(Variable::Integer)),
+    (Lexeme::Time, PortType::Variable(Variable::Time)),
 ];
 
 /// The directions of the arguments of tasks.
-pub static TARG: [(Sign, TaskDirection); 3] = [
-    (Sign::Input, TaskDirection::Input),
-    (Sign::Output, TaskDirection::Output),
-    (Sign::Inout, TaskDirection::Inout),
+pub static TARG: [(Lexeme, TaskDirection); 3] = [
+    (Lexeme::Input, TaskDirection::Input),
+    (Lexeme::Output, TaskDirection::Output),
+    (Lexeme::Inout, TaskDirection::Inout),
 ];
 
 /// The gates.
-pub static GATE: [(Sign, GateType); 8] = [
-    (Sign::And, GateType::And),
-    (Sign::Nand, GateType::Nand),
-    (Sign::Or, GateType::Or),
-    (Sign::Nor, GateType::Nor),
-    (Sign::Xor, GateType::Xor),
-    (Sign::Xnor, GateType::Xnor),
-    (Sign::Buf, GateType::Buf),
-    (Sign::Not, GateType::Not),
+pub static GATE: [(Lexeme, GateType); 8] = [
+    (Lexeme::And, GateType::And),
+    (Lexeme::Nand, GateType::Nand),
+    (Lexeme::Or, GateType::Or),
+    (Lexeme::Nor, GateType::Nor),
+    (Lexeme::Xor, GateType::Xor),
+    (Lexeme::Xnor, GateType::Xnor),
+    (Lexeme::Buf, GateType::Buf),
+    (Lexeme::Not, GateType::Not),
 ];
 
 /// `parameter` and `localparam`.
-pub static PARAMETER: [(Sign, ParameterWord); 2] = [
-    (Sign::Parameter, ParameterWord::Parameter),
-    (Sign::Localparam, ParameterWord::Localparam),
+pub static PARAMETER: [(Lexeme, ParameterWord); 2] = [
+    (Lexeme::Parameter, ParameterWord::Parameter),
+    (Lexeme::Localparam, ParameterWord::Localparam),
 ];
 
 /// `initial` and `always`.
-pub static PROCESS: [(Sign, ProcessWord); 2] = [
-    (Sign::Initial, ProcessWord::Initial),
-    (Sign::Always, ProcessWord::Always),
+pub static PROCESS: [(Lexeme, ProcessWord); 2] = [
+    (Lexeme::Initial, ProcessWord::Initial),
+    (Lexeme::Always, ProcessWord::Always),
 ];

@@ -1,14 +1,14 @@
 //! The tokens of the lexer as the grammar sees them, and the classes by which it makes its choices.
 
 ghost use Rattle.std.specs.Prelude.{◌≡◌};
-ghost use Rattle.vh_parse_syntax.specs.Signs;
-ghost use Rattle.vh_parse_syntax.specs.Signs.{one_of};
+ghost use Rattle.vh_parse_syntax.specs.Lexemes;
+ghost use Rattle.vh_parse_syntax.specs.Lexemes.{one_of};
 ghost use Rattle.vh_parse_syntax.specs.Tokens;
-ghost use Rattle.vh_parse_syntax.specs.Tokens.{token_seen, sign_of, row_at, operator_at, is, is_any, is_name, is_system, is_text, is_number, is_call, is_unused, named_in, plain_systems, begins_expression};
-ghost use Rattle.vh_parse_syntax.specs.Classes.{word_seen, is_in, group_signs, starts, has};
+ghost use Rattle.vh_parse_syntax.specs.Tokens.{token_seen, lexeme_of, row_at, operator_at, is, is_any, is_name, is_system, is_text, is_number, is_call, is_unused, named_in, plain_systems, begins_expression};
+ghost use Rattle.vh_parse_syntax.specs.Classes.{word_seen, is_in, group_lexemes, starts, has};
 
-use crate::Sign;
-use crate::sign::{code, mark_sign, word_sign};
+use crate::Lexeme;
+use crate::lexeme::{code, symbol_lexeme, word_lexeme};
 use crate::tables::{
     ASSIGN, CASE, DIRECTION, EDGE, FORCE, GATE, LOOP, NET, PARAMETER, PORT_TYPE, PROCESS, RELEASE,
     TARG, UNARY, VARIABLE,
@@ -16,7 +16,7 @@ use crate::tables::{
 use vh_ast::Binary;
 use vh_lex::{Kind, Token};
 
-/// Signs that each mean something, by what they mean.
+/// Lexemes that each mean something, by what they mean.
 #[derive(Clone, Copy, Debug, PartialEq, Eq)]
 pub enum Rows {
     Unary,
@@ -75,7 +75,7 @@ pub enum Start {
 /// The classes of tokens by which the grammar makes its choices.
 #[derive(Clone, Copy, Debug, PartialEq, Eq)]
 pub enum Class {
-    Is(Sign),
+    Is(Lexeme),
     Row(Rows),
     Among(Group),
     Begins(Start),
@@ -97,149 +97,149 @@ pub struct Word<'t> {
 }
 
 // The binary operators, each with its level.
-static BINARY: [(Sign, (usize, Binary)); 25] = [
-    (Sign::StarStar, (0, Binary::Power)),
-    (Sign::Star, (1, Binary::Times)),
-    (Sign::Slash, (1, Binary::Divide)),
-    (Sign::Percent, (1, Binary::Modulus)),
-    (Sign::Plus, (2, Binary::Plus)),
-    (Sign::Minus, (2, Binary::Minus)),
-    (Sign::ShiftLeft, (3, Binary::ShiftLeft)),
-    (Sign::ShiftRight, (3, Binary::ShiftRight)),
-    (Sign::ArithmeticShiftLeft, (3, Binary::ArithmeticShiftLeft)),
+static BINARY: [(Lexeme, (usize, Binary)); 25] = [
+    (Lexeme::StarStar, (0, Binary::Power)),
+    (Lexeme::Star, (1, Binary::Times)),
+    (Lexeme::Slash, (1, Binary::Divide)),
+    (Lexeme::Percent, (1, Binary::Modulus)),
+    (Lexeme::Plus, (2, Binary::Plus)),
+    (Lexeme::Minus, (2, Binary::Minus)),
+    (Lexeme::ShiftLeft, (3, Binary::ShiftLeft)),
+    (Lexeme::ShiftRight, (3, Binary::ShiftRight)),
+    (Lexeme::ArithmeticShiftLeft, (3, Binary::ArithmeticShiftLeft)),
     (
-        Sign::ArithmeticShiftRight,
+        Lexeme::ArithmeticShiftRight,
         (3, Binary::ArithmeticShiftRight),
     ),
-    (Sign::Less, (4, Binary::Less)),
-    (Sign::LessEqual, (4, Binary::LessEqual)),
-    (Sign::Greater, (4, Binary::Greater)),
-    (Sign::GreaterEqual, (4, Binary::GreaterEqual)),
-    (Sign::LogicalEqual, (5, Binary::LogicalEqual)),
-    (Sign::LogicalUnequal, (5, Binary::LogicalUnequal)),
-    (Sign::CaseEqual, (5, Binary::CaseEqual)),
-    (Sign::CaseUnequal, (5, Binary::CaseUnequal)),
-    (Sign::Ampersand, (6, Binary::And)),
-    (Sign::Caret, (7, Binary::Xor)),
-    (Sign::CaretTilde, (7, Binary::Xnor)),
-    (Sign::TildeCaret, (7, Binary::Xnor)),
-    (Sign::Bar, (8, Binary::Or)),
-    (Sign::AndAnd, (9, Binary::AndAnd)),
-    (Sign::OrOr, (10, Binary::OrOr)),
+    (Lexeme::Less, (4, Binary::Less)),
+    (Lexeme::LessEqual, (4, Binary::LessEqual)),
+    (Lexeme::Greater, (4, Binary::Greater)),
+    (Lexeme::GreaterEqual, (4, Binary::GreaterEqual)),
+    (Lexeme::LogicalEqual, (5, Binary::LogicalEqual)),
+    (Lexeme::LogicalUnequal, (5, Binary::LogicalUnequal)),
+    (Lexeme::CaseEqual, (5, Binary::CaseEqual)),
+    (Lexeme::CaseUnequal, (5, Binary::CaseUnequal)),
+    (Lexeme::Ampersand, (6, Binary::And)),
+    (Lexeme::Caret, (7, Binary::Xor)),
+    (Lexeme::CaretTilde, (7, Binary::Xnor)),
+    (Lexeme::TildeCaret, (7, Binary::Xnor)),
+    (Lexeme::Bar, (8, Binary::Or)),
+    (Lexeme::AndAnd, (9, Binary::AndAnd)),
+    (Lexeme::OrOr, (10, Binary::OrOr)),
 ];
 
 // The signs of each group, and those with which expressions, statements, items and connections begin.
-static DECL: [Sign; 3] = [Sign::Reg, Sign::Integer, Sign::Time];
+static DECL: [Lexeme; 3] = [Lexeme::Reg, Lexeme::Integer, Lexeme::Time];
 
-static TYPE: [Sign; 2] = [Sign::Signed, Sign::LeftBracket];
+static TYPE: [Lexeme; 2] = [Lexeme::Signed, Lexeme::LeftBracket];
 
-static LOCAL: [Sign; 6] = [
-    Sign::Input,
-    Sign::Output,
-    Sign::Inout,
-    Sign::Reg,
-    Sign::Integer,
-    Sign::Time,
+static LOCAL: [Lexeme; 6] = [
+    Lexeme::Input,
+    Lexeme::Output,
+    Lexeme::Inout,
+    Lexeme::Reg,
+    Lexeme::Integer,
+    Lexeme::Time,
 ];
 
-static OR: [Sign; 2] = [Sign::Or, Sign::Comma];
+static OR: [Lexeme; 2] = [Lexeme::Or, Lexeme::Comma];
 
-static TIMING: [Sign; 4] = [Sign::Hash, Sign::At, Sign::Wait, Sign::Fork];
+static TIMING: [Lexeme; 4] = [Lexeme::Hash, Lexeme::At, Lexeme::Wait, Lexeme::Fork];
 
-static TASK: [Sign; 2] = [Sign::LeftParen, Sign::Semicolon];
+static TASK: [Lexeme; 2] = [Lexeme::LeftParen, Lexeme::Semicolon];
 
-static NET_END: [Sign; 2] = [Sign::Comma, Sign::Semicolon];
+static NET_END: [Lexeme; 2] = [Lexeme::Comma, Lexeme::Semicolon];
 
-static HIDDEN: [Sign; 2] = [Sign::Inout, Sign::Case];
+static HIDDEN: [Lexeme; 2] = [Lexeme::Inout, Lexeme::Case];
 
-static EXPRESSION: [Sign; 13] = [
-    Sign::LeftParen,
-    Sign::LeftBrace,
-    Sign::Plus,
-    Sign::Minus,
-    Sign::Bang,
-    Sign::Tilde,
-    Sign::Ampersand,
-    Sign::TildeAnd,
-    Sign::Bar,
-    Sign::TildeOr,
-    Sign::Caret,
-    Sign::TildeCaret,
-    Sign::CaretTilde,
+static EXPRESSION: [Lexeme; 13] = [
+    Lexeme::LeftParen,
+    Lexeme::LeftBrace,
+    Lexeme::Plus,
+    Lexeme::Minus,
+    Lexeme::Bang,
+    Lexeme::Tilde,
+    Lexeme::Ampersand,
+    Lexeme::TildeAnd,
+    Lexeme::Bar,
+    Lexeme::TildeOr,
+    Lexeme::Caret,
+    Lexeme::TildeCaret,
+    Lexeme::CaretTilde,
 ];
 
-static STATEMENT: [Sign; 21] = [
-    Sign::Semicolon,
-    Sign::LeftBrace,
-    Sign::Hash,
-    Sign::At,
-    Sign::Wait,
-    Sign::If,
-    Sign::Case,
-    Sign::Casez,
-    Sign::Casex,
-    Sign::For,
-    Sign::While,
-    Sign::Repeat,
-    Sign::Forever,
-    Sign::Begin,
-    Sign::Fork,
-    Sign::Arrow,
-    Sign::Disable,
-    Sign::Force,
-    Sign::Assign,
-    Sign::Release,
-    Sign::Deassign,
+static STATEMENT: [Lexeme; 21] = [
+    Lexeme::Semicolon,
+    Lexeme::LeftBrace,
+    Lexeme::Hash,
+    Lexeme::At,
+    Lexeme::Wait,
+    Lexeme::If,
+    Lexeme::Case,
+    Lexeme::Casez,
+    Lexeme::Casex,
+    Lexeme::For,
+    Lexeme::While,
+    Lexeme::Repeat,
+    Lexeme::Forever,
+    Lexeme::Begin,
+    Lexeme::Fork,
+    Lexeme::Arrow,
+    Lexeme::Disable,
+    Lexeme::Force,
+    Lexeme::Assign,
+    Lexeme::Release,
+    Lexeme::Deassign,
 ];
 
-static ITEM: [Sign; 30] = [
-    Sign::Input,
-    Sign::Output,
-    Sign::Wire,
-    Sign::Tri,
-    Sign::Wand,
-    Sign::Triand,
-    Sign::Wor,
-    Sign::Trior,
-    Sign::Reg,
-    Sign::Integer,
-    Sign::Time,
-    Sign::Event,
-    Sign::Genvar,
-    Sign::Parameter,
-    Sign::Localparam,
-    Sign::Assign,
-    Sign::And,
-    Sign::Nand,
-    Sign::Or,
-    Sign::Nor,
-    Sign::Xor,
-    Sign::Xnor,
-    Sign::Buf,
-    Sign::Not,
-    Sign::Initial,
-    Sign::Always,
-    Sign::Task,
-    Sign::Function,
-    Sign::For,
-    Sign::If,
+static ITEM: [Lexeme; 30] = [
+    Lexeme::Input,
+    Lexeme::Output,
+    Lexeme::Wire,
+    Lexeme::Tri,
+    Lexeme::Wand,
+    Lexeme::Triand,
+    Lexeme::Wor,
+    Lexeme::Trior,
+    Lexeme::Reg,
+    Lexeme::Integer,
+    Lexeme::Time,
+    Lexeme::Event,
+    Lexeme::Genvar,
+    Lexeme::Parameter,
+    Lexeme::Localparam,
+    Lexeme::Assign,
+    Lexeme::And,
+    Lexeme::Nand,
+    Lexeme::Or,
+    Lexeme::Nor,
+    Lexeme::Xor,
+    Lexeme::Xnor,
+    Lexeme::Buf,
+    Lexeme::Not,
+    Lexeme::Initial,
+    Lexeme::Always,
+    Lexeme::Task,
+    Lexeme::Function,
+    Lexeme::For,
+    Lexeme::If,
 ];
 
-static CONNS: [Sign; 2] = [Sign::Dot, Sign::Comma];
+static CONNS: [Lexeme; 2] = [Lexeme::Dot, Lexeme::Comma];
 
 // Whether the sign is one of these. It takes time in their number.
-fn is_one_of(signs: &[Sign], sign: Sign) -> bool
-    ensures { result ≡ one_of signs.now sign }
+fn is_one_of(lexemes: &[Lexeme], lexeme: Lexeme) -> bool
+    ensures { result ≡ one_of lexemes.now lexeme }
 {
-    signs.iter().any(|one| code(*one) == code(sign))
+    lexemes.iter().any(|one| code(*one) == code(lexeme))
 }
 
 // What the first row of the sign says. It takes time in the number of rows.
-fn row_of<T: Copy>(rows: &[(Sign, T)], sign: Sign) -> Option<T>
-    ensures { result ≡ Signs.row_of rows.now sign }
+fn row_of<T: Copy>(rows: &[(Lexeme, T)], lexeme: Lexeme) -> Option<T>
+    ensures { result ≡ Lexemes.row_of rows.now lexeme }
 {
     for (own, meaning) in rows {
-        if code(*own) == code(sign) {
+        if code(*own) == code(lexeme) {
             return Some(*meaning);
         }
     }
@@ -254,8 +254,8 @@ fn is_plain(name: &[u8]) -> bool
 }
 
 // The signs of a group.
-fn signs_of(group: Group) -> &'static [Sign]
-    ensures { result.now ≡ group_signs group }
+fn lexemes_of(group: Group) -> &'static [Lexeme]
+    ensures { result.now ≡ group_lexemes group }
 {
     match group {
         Group::Decl => &DECL,
@@ -271,22 +271,22 @@ fn signs_of(group: Group) -> &'static [Sign]
 
 impl<'t> Word<'t> {
     /// The sign that the token is, if it is one.
-    pub fn sign(self) -> Option<Sign>
-        ensures { result ≡ sign_of (word_seen self.entry).kind }
+    pub fn lexeme(self) -> Option<Lexeme>
+        ensures { result ≡ lexeme_of (word_seen self.entry).kind }
     {
         match self.token.kind {
-            Kind::Word(word) => Some(word_sign(word)),
-            Kind::Mark(mark) => Some(mark_sign(mark)),
+            Kind::Word(word) => Some(word_lexeme(word)),
+            Kind::Symbol(symbol) => Some(symbol_lexeme(symbol)),
             _ => None,
         }
     }
 
     // Whether the token is a sign of these.
-    fn is_any(self, signs: &[Sign]) -> bool
-        ensures { result ≡ is_any signs.now (word_seen self.entry) }
+    fn is_any(self, lexemes: &[Lexeme]) -> bool
+        ensures { result ≡ is_any lexemes.now (word_seen self.entry) }
     {
-        match self.sign() {
-            Some(sign) => is_one_of(signs, sign),
+        match self.lexeme() {
+            Some(lexeme) => is_one_of(lexemes, lexeme),
             None => false,
         }
     }
@@ -330,11 +330,11 @@ impl<'t> Word<'t> {
     }
 
     /// What the first row of the token's sign says. It takes time in the number of rows.
-    pub fn row<T: Copy>(self, rows: &[(Sign, T)]) -> Option<T>
+    pub fn row<T: Copy>(self, rows: &[(Lexeme, T)]) -> Option<T>
         ensures { result ≡ row_at rows.now (word_seen self.entry) }
     {
-        match self.sign() {
-            Some(sign) => row_of(rows, sign),
+        match self.lexeme() {
+            Some(lexeme) => row_of(rows, lexeme),
             None => None,
         }
     }
@@ -390,8 +390,8 @@ impl<'t> Word<'t> {
         match start {
             Start::Expression => self.begins_expression(),
             Start::Statement => self.is_name() || self.is_system() || self.is_any(&STATEMENT),
-            Start::Citem => self.is_sign(Sign::Default) || self.begins_expression(),
-            Start::Slots => self.begins_expression() || self.is_sign(Sign::Comma),
+            Start::Citem => self.is_lexeme(Lexeme::Default) || self.begins_expression(),
+            Start::Slots => self.begins_expression() || self.is_lexeme(Lexeme::Comma),
             Start::Item => self.is_name() || self.is_any(&ITEM),
             Start::Ports => self.is_name() || self.is_in(Rows::Direction),
             Start::Conns => self.begins_expression() || self.is_any(&CONNS),
@@ -399,11 +399,11 @@ impl<'t> Word<'t> {
     }
 
     // Whether the token is the sign.
-    fn is_sign(self, sign: Sign) -> bool
-        ensures { result ≡ is sign (word_seen self.entry) }
+    fn is_lexeme(self, lexeme: Lexeme) -> bool
+        ensures { result ≡ is lexeme (word_seen self.entry) }
     {
-        match self.sign() {
-            Some(own) => code(sign) == code(own),
+        match self.lexeme() {
+            Some(own) => code(lexeme) == code(own),
             None => false,
         }
     }
@@ -421,9 +421,9 @@ impl vh_parse_grammar::Token<Class> for Token {
     fn is(&self, class: Class) -> bool {
         let word = Word { token: self };
         match class {
-            Class::Is(sign) => word.is_sign(sign),
+            Class::Is(lexeme) => word.is_lexeme(lexeme),
             Class::Row(rows) => word.is_in(rows),
-            Class::Among(group) => word.is_any(signs_of(group)),
+            Class::Among(group) => word.is_any(lexemes_of(group)),
             Class::Begins(start) => word.begins(start),
             Class::Operator(level) => word.operator(level).is_some(),
             Class::Name => word.is_name(),
@@ -436,6 +436,6 @@ impl vh_parse_grammar::Token<Class> for Token {
     }
 
     fn is_left_out(&self) -> bool {
-        Word { token: self }.is_sign(Sign::Unused)
+        Word { token: self }.is_lexeme(Lexeme::Unused)
     }
 }

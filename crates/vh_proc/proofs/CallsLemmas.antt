@@ -86,8 +86,8 @@ module _ (P : ℕ → Type 0) where
   pub calls-arrived : (d : Shape) (t : Control) → AllCalls t.calls → AllCalls (arrived d t).calls
   calls-arrived d t all = calls-in (block_at (next_of d t)) (standing d t) (calls-gone d t.root t.goes t.calls all)
 
-  pub calls-branch : (place : ℕ) (t : Control) → AllCalls t.calls → AllCalls (branch_of place t).calls
-  calls-branch place t all = (by t.calls all, tt)
+  pub calls-branch : (position : ℕ) (t : Control) → AllCalls t.calls → AllCalls (branch_of position t).calls
+  calls-branch position t all = (by t.calls all, tt)
     where
       by : (cs : List Call) → AllCalls cs → IfSome (routine_of (record t { calls = cs })) P
       by [] all = tt
@@ -150,7 +150,7 @@ module _ (P : ℕ → Type 0) where
     row (op.Test condition otherwise) o turn h new own = gives _ turn h own
     row (op.Case c) o turn h new own = gives _ turn h own
     row (op.Loop it) o turn h new own = gives _ turn h (loops it o own)
-    row (op.Fork places) o turn h new own = absurd (cc)
+    row (op.Fork positions) o turn h new own = absurd (cc)
     row op.End o turn h new own = gives _ turn h own
     row (op.Enter routine inputs) o turn h new own =
         let both : AllCalls (call_at (Some routine) 0 ∷ o.process.thread.calls) = (new, own) in

@@ -258,8 +258,8 @@ kept-more old new next p root es us t joins from same is begun notes kept =
     subst (AreKept new (next + 1)) (sym is) (kept-joined old new next p es t (subst (λ k. Joins old new k p) from joins) same begun notes kept)
 
 -- A branch is in no other call than its parent, and a process at its beginning in none.
-pub branch-notes : (cs : List (ℕ × BTreeSet ℕ)) (place : ℕ) (t u : Control) → u ≡ branch_of place t → NotesCalls cs t → NotesCalls cs u
-branch-notes cs place t u is notes = subst (NotesCalls cs) (sym is) (calls-branch (λ r. is_caller cs r t.root ≡ true) place t notes)
+pub branch-notes : (cs : List (ℕ × BTreeSet ℕ)) (position : ℕ) (t u : Control) → u ≡ branch_of position t → NotesCalls cs t → NotesCalls cs u
+branch-notes cs position t u is notes = subst (NotesCalls cs) (sym is) (calls-branch (λ r. is_caller cs r t.root ≡ true) position t notes)
 
 pub process-notes : (cs : List (ℕ × BTreeSet ℕ)) (d : Shape) (k : ℕ) (u : Control) → u ≡ process_of d k → NotesCalls cs u
 process-notes cs d k u is = subst (NotesCalls cs) (sym is) (calls-begun (λ r. is_caller cs r k ≡ true) d k)

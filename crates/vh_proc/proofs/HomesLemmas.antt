@@ -136,11 +136,11 @@ is-owner d hs target o are is = record {
       (subst (λ (x : Option Home). says x (owner.Routine target) ≡ true) is (are.routines target has));
 }
 
--- A place where an element is.
-pub place-below : {X : Type 0} (xs : List X) (k : ℕ) (x : X) → slice_get xs k ≡ Some x → k < length xs
-place-below [] k x at = absurd (cc)
-place-below (y ∷ ys) zero x at = omega arith
-place-below (y ∷ ys) (suc k) x at = let low = place-below ys k x at in omega (arith, low)
+-- A position where an element is.
+pub position-below : {X : Type 0} (xs : List X) (k : ℕ) (x : X) → slice_get xs k ≡ Some x → k < length xs
+position-below [] k x at = absurd (cc)
+position-below (y ∷ ys) zero x at = omega arith
+position-below (y ∷ ys) (suc k) x at = let low = position-below ys k x at in omega (arith, low)
 
 -- One more of these.
 last-or : (k n : ℕ) (P : ℕ → Type 0) → n < k + 1 → (n < k → P n) → P k → P n
@@ -176,7 +176,7 @@ body-below d r has = by (slice_get d.objects r) refl
   where
     by : (o : Option ObjectInfo) → slice_get d.objects r ≡ o → r < length d.objects
     by None at = let never : has_body d.objects r ≡ false = ap (λ (o : Option ObjectInfo). is_some (option_and_then (λ i. body_of i.detail) o)) at in absurd (cc)
-    by (Some x) at = place-below d.objects r x at
+    by (Some x) at = position-below d.objects r x at
 
 pub code-below : (d : Shape) (r : ℕ) (c : Code) → body_at d r ≡ Some c → r < length d.objects
 code-below d r c at = body-below d r (by (body_number d.objects r) refl)

@@ -99,7 +99,7 @@ module _ (d : Shape) (p : ℕ) (i : Instruction) where
   row-kept (op.Test condition otherwise) o turn h = kept _ turn _ h refl
   row-kept (op.Case c) o turn h = kept _ turn _ h refl
   row-kept (op.Loop it) o turn h = kept _ turn _ h (loops-kept it o)
-  row-kept (op.Fork places) o turn h = absurd (cc)
+  row-kept (op.Fork positions) o turn h = absurd (cc)
   row-kept op.End o turn h = kept _ turn _ h refl
   row-kept (op.Enter routine inputs) o turn h = kept _ turn _ (unless-then _ _ _ turn h) refl
   row-kept (op.Leave l) o turn h = kept _ turn _ h refl

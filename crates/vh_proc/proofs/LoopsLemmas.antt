@@ -15,7 +15,7 @@ use Rattle.vh_proc_thread.specs.Control.{Control, process_of}
 use Rattle.vh_proc_turn.specs.declared.process.Process.{Process}
 use Rattle.vh_proc.specs.Processes.{Queued, Scheduled, process_at, opening_process, branch_begun, branches_begun}
 
--- The element at a place, and those behind it.
+-- The element at a position, and those behind it.
 pub next-drop : {X : Type 0} (xs : List X) (k : ℕ) (x : X) → k < length xs → drop k xs ≡ get_or xs k x ∷ drop (k + 1) xs
 next-drop {X} xs k x inside = drop-cons xs k x inside ∙ ap (λ (n : ℕ). get_or xs k x ∷ drop n xs) next
   where

@@ -28,7 +28,7 @@ pub runs-found : (d : Shape) (test : ℕ → Bool) (es : List (ℕ × Process)) 
 runs-found d test [] t all is = absurd (cc)
 runs-found d test (e ∷ es) t all is = found-by d (test e.0) e.1 t (lookup test es) is all.0 (runs-found d test es t all.1)
 
--- One in another's place.
+-- One in another's position.
 set-by : (d : Shape) (b : Bool) (e : ℕ × Process) (t : Process) (es us : List (ℕ × Process)) → Runs d e.1.thread → Runs d t.thread → EachRuns d es → EachRuns d us
     → EachRuns d (cond b ((e.0, t) ∷ es) (e ∷ us))
 set-by d true e t es us own new old rest = (new, old)

@@ -18,7 +18,7 @@ at-by false false h = refl
 pub at-eq : (c k : ℕ) → is_at (nat_cmp c) k ≡ nat_eq c k
 at-eq c k = at-by (nat_lt c k) (nat_eq c k) (λ h. ne_eqb c k (λ e. omega (arith, ltb-true c k h)))
 
--- An element in another's place, and one at the end.
+-- An element in another's position, and one at the end.
 get-same : {X : Type 0} (xs : List X) (k : ℕ) (x y : X) → slice_get xs k ≡ Some x → slice_get (slice_set xs k y) k ≡ Some y
 get-same [] k x y at = absurd (cc)
 get-same (z ∷ zs) zero x y at = refl
@@ -35,11 +35,11 @@ get-last : {X : Type 0} (xs : List X) (y : X) → slice_get (xs ++ y ∷ []) (le
 get-last [] y = refl
 get-last (x ∷ xs) y = get-last xs y
 
--- An element at a place, by what `get_or` gives, and none behind the end.
-pub at-place : {X : Type 0} (xs : List X) (k : ℕ) (x : X) → k < length xs → slice_get xs k ≡ Some (get_or xs k x)
-at-place [] k x low = absurd (omega (arith, low))
-at-place (y ∷ ys) zero x low = refl
-at-place (y ∷ ys) (suc k) x low = at-place ys k x (omega (arith, low))
+-- An element at a position, by what `get_or` gives, and none behind the end.
+pub at-position : {X : Type 0} (xs : List X) (k : ℕ) (x : X) → k < length xs → slice_get xs k ≡ Some (get_or xs k x)
+at-position [] k x low = absurd (omega (arith, low))
+at-position (y ∷ ys) zero x low = refl
+at-position (y ∷ ys) (suc k) x low = at-position ys k x (omega (arith, low))
 
 pub none-at : {X : Type 0} (xs : List X) (k : ℕ) → (k < length xs → ⊥) → slice_get xs k ≡ None
 none-at [] k out = refl
@@ -56,7 +56,7 @@ apart n k differ e = let agree : nat_eq n k ≡ true = eq-eqb n k e in absurd (c
 abbrev has : ℕ → Option (BTreeSet ℕ) → Bool
 has q o = unwrap_or (option_map (λ f. contains nat_cmp f q) o) false
 
--- Whether a number is in the set of a place, by what is there.
+-- Whether a number is in the set of a position, by what is there.
 or-cond : (a b : Bool) → cond b true a ≡ (a || b)
 or-cond true true = refl
 or-cond true false = refl
@@ -77,7 +77,7 @@ and-true : (a : Bool) → a ≡ (a && true)
 and-true true = refl
 and-true false = refl
 
--- A number comes into the set of a place.
+-- A number comes into the set of a position.
 pub joins-set : (fs : List (BTreeSet ℕ)) (k p : ℕ) (f g : BTreeSet ℕ) → slice_get fs k ≡ Some f
     → ((q : ℕ) → contains nat_cmp g q ≡ cond (is_at (nat_cmp p) q) true (contains nat_cmp f q)) → MembersJoin fs (slice_set fs k g) k p
 joins-set fs k p f g at more n q = by (nat_eq n k) refl

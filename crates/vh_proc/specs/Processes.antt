@@ -57,7 +57,7 @@ abbrev pub scheduled : Processes → Sensitivity → Events → Scheduled
 scheduled ps w q = record { processes = ps; sense = w; queue = q }
 
 -- What a label comes to: the world after it, what it changed, forced or released in order, and what the process does
--- next; or a fault in its place; or, of a process without a label, nothing.
+-- next; or a fault in its position; or, of a process without a label, nothing.
 pub record Step : Type 0 where
   pub world : World
   pub made : List Made
@@ -69,7 +69,7 @@ step_with w ms n = record { world = w; made = ms; next = n }
 abbrev pub Outcome : Type 0
 Outcome = Result Step (Option Fault)
 
--- The process of a number; with another in its place; without it.
+-- The process of a number; with another in its position; without it.
 abbrev pub process_at : ℕ → Processes → Option Process
 process_at p ps = lookup (is_at (nat_cmp p)) ps.all
 
@@ -135,21 +135,21 @@ resumed p b = with_ok (evaluated_now p b.queue) (λ q. Ok (queued (noted p b.que
 
 -- Branches of a fork begin in order, each a process of the next number with an entry. (9.8.2)
 abbrev pub branch : ℕ → Process → ℕ → ℕ → Process
-branch p t serial place =
-    record { thread = branch_of place t.thread; parent = Some p; left = 0; held = None; entry = Some serial; updates = [] }
+branch p t serial position =
+    record { thread = branch_of position t.thread; parent = Some p; left = 0; held = None; entry = Some serial; updates = [] }
 
 abbrev pub with_branch : ℕ → Process → Processes → Processes
 with_branch k t ps = record { all = insert_entry nat_cmp ps.all k t; next = k + 1 }
 
 abbrev pub branch_in : Option Process → ℕ → ℕ → ℕ → Processes → Processes
-branch_in None p serial place ps = ps
-branch_in (Some t) p serial place ps = with_branch ps.next (branch p t serial place) ps
+branch_in None p serial position ps = ps
+branch_in (Some t) p serial position ps = with_branch ps.next (branch p t serial position) ps
 
 abbrev pub branch_begun : ℕ → ℕ → Queued → Result Queued (Option Fault)
-branch_begun p place b =
+branch_begun p position b =
     unless (nat_lt MOST_NUMBERS b.processes.next) (Some fault.F3)
     (with_ok (evaluated_now b.processes.next b.queue) (λ q.
-    Ok (queued (branch_in (process_at p b.processes) p b.queue.next place b.processes) q)))
+    Ok (queued (branch_in (process_at p b.processes) p b.queue.next position b.processes) q)))
 
 unfoldable pub branches_begun : ℕ → List ℕ → Queued → Result Queued (Option Fault)
 branches_begun p [] b = Ok b

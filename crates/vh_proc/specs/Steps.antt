@@ -62,8 +62,8 @@ after_fork [] = next.On
 after_fork (k ∷ ks) = next.Waits
 
 abbrev pub forking : Shape → ℕ → Goes → List ℕ → World → Outcome
-forking d p goes places w =
-    with_ok (forked d p goes places (queued (arrived_in d p w.processes) w.queue)) (queued_after (after_fork places) w)
+forking d p goes positions w =
+    with_ok (forked d p goes positions (queued (arrived_in d p w.processes) w.queue)) (queued_after (after_fork positions) w)
 
 -- `disable`: where the process that executes it was inside it goes on behind, and where one that was has begun it, it
 -- has ended. (10.3)
@@ -113,7 +113,7 @@ step_at d p t i (op.Pause it) w = alone d p t i w
 step_at d p t i (op.Test condition otherwise) w = alone d p t i w
 step_at d p t i (op.Case c) w = alone d p t i w
 step_at d p t i (op.Loop it) w = alone d p t i w
-step_at d p t i (op.Fork places) w = forking d p i.next places w
+step_at d p t i (op.Fork positions) w = forking d p i.next positions w
 step_at d p t i op.End w = ending d p t w
 step_at d p t i (op.Enter routine inputs) w = alone d p t i w
 step_at d p t i (op.Leave l) w = alone d p t i w

@@ -12,17 +12,17 @@ use vh_proc_turn::{Process, StepFault, Updates, add_entry};
 use vh_queue::{Queue, Region, Work};
 
 impl Threads {
-    // A branch of a fork begins at a place of the code, with the next number and an entry.
+    // A branch of a fork begins at a position of the code, with the next number and an entry.
     fn begin_branch(
         &mut self,
         alloc: Global,
         q: &mut Queue,
         p: ProcId,
-        place: u32,
+        position: u32,
     ) -> Result<(), StepFault>
-        ensures done { OnOk result (branch_begun p place (queued self.old q.old)
+        ensures done { OnOk result (branch_begun p position (queued self.old q.old)
             ≡ Ok (queued self.new q.new)) }
-        ensures fails { IfErr result (FailsBy (branch_begun p place (queued self.old q.old))) }
+        ensures fails { IfErr result (FailsBy (branch_begun p position (queued self.old q.old))) }
         ensures now { (q.new).time ≡ (q.old).time }
         ensures runs { (d : Shape) → AllRun d self.old → OnOk result (AllRun d self.new) }
     {
@@ -36,7 +36,7 @@ impl Threads {
             return Ok(());
         };
         let process = Process {
-            thread: parent.thread.branch(alloc, place)?,
+            thread: parent.thread.branch(alloc, position)?,
             parent: Some(p),
             left: 0,
             held: None,
@@ -59,17 +59,17 @@ impl Threads {
         alloc: Global,
         q: &mut Queue,
         p: ProcId,
-        places: &[u32],
+        positions: &[u32],
     ) -> Result<(), StepFault>
-        ensures done { OnOk result (branches_begun p places.now (queued self.old q.old)
+        ensures done { OnOk result (branches_begun p positions.now (queued self.old q.old)
             ≡ Ok (queued self.new q.new)) }
-        ensures fails { IfErr result (FailsBy (branches_begun p places.now
+        ensures fails { IfErr result (FailsBy (branches_begun p positions.now
             (queued self.old q.old))) }
         ensures now { (q.new).time ≡ (q.old).time }
         ensures runs { (d : Shape) → AllRun d self.old → OnOk result (AllRun d self.new) }
     {
-        for place in places {
-            self.begin_branch(alloc, q, p, *place)?;
+        for position in positions {
+            self.begin_branch(alloc, q, p, *position)?;
         }
         Ok(())
     }
@@ -84,22 +84,22 @@ impl Threads {
         q: &mut Queue,
         p: ProcId,
         goes: Goes,
-        places: &[u32],
+        positions: &[u32],
     ) -> Result<(), StepFault>
         requires runs { AllRun d.now self.old }
-        ensures done { OnOk result (forked d.now p goes places.now (queued self.old q.old)
+        ensures done { OnOk result (forked d.now p goes positions.now (queued self.old q.old)
             ≡ Ok (queued self.new q.new)) }
-        ensures fails { IfErr result (FailsBy (forked d.now p goes places.now
+        ensures fails { IfErr result (FailsBy (forked d.now p goes positions.now
             (queued self.old q.old))) }
         ensures now { (q.new).time ≡ (q.old).time }
         ensures runs { OnOk result (AllRun d.now self.new) }
     {
-        if places.is_empty() {
+        if positions.is_empty() {
             self.go_on(p, goes);
             return Ok(());
         }
-        self.wait_for(p, places.len() as u64);
-        self.begin_branches(alloc, q, p, places)
+        self.wait_for(p, positions.len() as u64);
+        self.begin_branches(alloc, q, p, positions)
     }
 
     // A process has ended, and its parent with the last of its branches goes on.

@@ -4,7 +4,7 @@
 //! The contract that the layer above uses: contracts see [`Threads`] as `Processes`, a finite map
 //! from the numbers of processes to what each has still to do and waits for. [`Threads::step`]
 //! performs the next label of one, by `step_of` of `specs/Steps.antt`, which has a row for each
-//! kind of label; a fault comes in its place exactly where the row says so, and want of memory is
+//! kind of label; a fault comes in its position exactly where the row says so, and want of memory is
 //! the one free answer.
 //!
 //! It stands on `vh_proc_turn` for labels that touch no other process, on `vh_proc_thread` for where a

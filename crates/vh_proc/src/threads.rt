@@ -77,10 +77,10 @@ pub(crate) fn keep(
 }
 
 // What a process does behind a fork with these branches.
-fn after_fork(places: &[u32]) -> Next
-    ensures { result ≡ after_fork places.now }
+fn after_fork(positions: &[u32]) -> Next
+    ensures { result ≡ after_fork positions.now }
 {
-    if places.is_empty() {
+    if positions.is_empty() {
         return Next::On;
     }
     Next::Waits
@@ -362,10 +362,10 @@ impl Threads {
     {
         let design = d.design();
         match &i.operation {
-            Operation::Fork(places) => {
+            Operation::Fork(positions) => {
                 self.arrive(design, p);
-                self.fork(alloc, design, q, p, i.next, places.as_slice())?;
-                Ok(quietly(alloc, after_fork(places.as_slice())))
+                self.fork(alloc, design, q, p, i.next, positions.as_slice())?;
+                Ok(quietly(alloc, after_fork(positions.as_slice())))
             }
             Operation::End => {
                 self.end(design, q, p)?;

@@ -16,7 +16,7 @@ use Rattle.vh_design_code.specs.declared.change.Layer.{Layer}
 use Rattle.vh_design_code.specs.declared.change.Layer.TheVariants as layer
 use Rattle.vh_design_code.specs.declared.change.Made.{Made}
 use Rattle.vh_design_code.specs.declared.change.Change.{Change}
-use Rattle.vh_store.specs.declared.store.DriverPlace.{DriverPlace}
+use Rattle.vh_store.specs.declared.store.DriverPosition.{DriverPosition}
 use Rattle.vh_design.specs.Shape.{Shape}
 use Rattle.vh_store.specs.Contents.{Contents, shown, whole, put_at, is_forced, released, IsDriven, IsChange}
 use Rattle.vh_store.proofs.ContentsLemmas.{same_values, equal_to_itself}
@@ -27,7 +27,7 @@ use Rattle.vh_proc_assign.specs.declared.piece.Piece.{Piece}
 abbrev of_parts : List Digit → Bool → Vector
 of_parts ds s = record { digits = ds; signed = s }
 
--- Digits put into others from their lowest place on, and from a place on.
+-- Digits put into others from their lowest position on, and from a position on.
 put-lowest : (vs old : List Digit)
     → take (min (length vs) (length old)) vs ++ drop (min (length vs) (length old)) old ≡ take (length old) (vs ++ drop (length vs) old)
 put-lowest [] old =
@@ -147,7 +147,7 @@ one-noted p s t ms ns c is change other noted =
     ∙ ap (λ (u : Contents). made_of p.object (shown s p.object) (shown u p.object)) is)
 
 -- What was noted behind a driver that took a value.
-pub none-driven : (o : Option DriverPlace) (s t u : Contents) (ms : List Made) → t ≡ u → IsDriven o s t None → ms ≡ ms ++ made_at o s u
+pub none-driven : (o : Option DriverPosition) (s t u : Contents) (ms : List Made) → t ≡ u → IsDriven o s t None → ms ≡ ms ++ made_at o s u
 none-driven None s t u ms is none = sym (append-nil ms)
 none-driven (Some p) s t u ms is same =
     sym (ap (λ (es : List Made). ms ++ es)
@@ -155,7 +155,7 @@ none-driven (Some p) s t u ms is same =
     ∙ none-made (whole p.object) (shown s (whole p.object)) (shown t (whole p.object)) same)
     ∙ append-nil ms)
 
-pub one-driven : (o : Option DriverPlace) (s t u : Contents) (ms ns : List Made) (c : Change) → t ≡ u → IsDriven o s t (Some c)
+pub one-driven : (o : Option DriverPosition) (s t u : Contents) (ms ns : List Made) (c : Change) → t ≡ u → IsDriven o s t (Some c)
     → ns ≡ ms ++ made c.object c ∷ [] → ns ≡ ms ++ made_at o s u
 one-driven None s t u ms ns c is none noted = absurd (cc)
 one-driven (Some p) s t u ms ns c is told noted =

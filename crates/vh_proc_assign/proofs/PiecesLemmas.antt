@@ -45,7 +45,7 @@ are-targets os exprs ts fits =
       most = omega (arith, sum, leb-true (summed os 0 ts) MAX_WIDTH most);
     }
 
--- The element at a place, and those behind it.
+-- The element at a position, and those behind it.
 pub drop-at : {X : Type 0} (xs : List X) (k : ℕ) (x : X) → k < length xs → x ≡ get_or xs k x → drop k xs ≡ x ∷ drop (k + 1) xs
 drop-at {X} xs k x inside is =
     drop-cons xs k x inside ∙ ap (λ (y : X). y ∷ drop (suc k) xs) (sym is) ∙ ap (λ (n : ℕ). x ∷ drop n xs) next

@@ -8,11 +8,11 @@ use Rattle.vh_design_nodes.specs.Fits.{same_sign}
 use Rattle.vh_design_code.specs.declared.change.Change.{Change}
 use Rattle.vh_design_code.specs.declared.change.Layer.TheVariants as layer
 use Rattle.vh_design_code.specs.declared.change.Made.{Made}
-use Rattle.vh_store.specs.declared.store.DriverPlace.{DriverPlace}
+use Rattle.vh_store.specs.declared.store.DriverPosition.{DriverPosition}
 use Rattle.vh_store.specs.Contents.{Contents, shown, written, whole, put_at, with_driven}
 use Rattle.vh_proc_assign.specs.declared.piece.Piece.{Piece}
 
--- A value with others of its digits from a place on; those above its highest digit fall away. (5.2.1)
+-- A value with others of its digits from a position on; those above its highest digit fall away. (5.2.1)
 abbrev pub with_digits : Vector → ℕ → Vector → Vector
 with_digits old low v = record {
   digits = take (width_of old) (take low old.digits ++ (v.digits ++ drop (low + width_of v) old.digits));
@@ -48,7 +48,7 @@ made_in_turn [] s = []
 made_in_turn (p ∷ ps) s = made_by p s ++ made_in_turn ps (with_piece p s)
 
 -- What a driver changes that takes a value. (6.1)
-abbrev pub made_at : Option DriverPlace → Contents → Contents → List Made
+abbrev pub made_at : Option DriverPosition → Contents → Contents → List Made
 made_at None old new = []
 made_at (Some p) old new = made_of (whole p.object) (shown old (whole p.object)) (shown new (whole p.object))
 

@@ -14,7 +14,7 @@ use Rattle.vh_design_code.specs.declared.target.Input.{Input}
 use Rattle.vh_design_code.specs.declared.target.Output.{Output}
 use Rattle.vh_design.specs.Shape.{Shape}
 use Rattle.vh_store.specs.Contents.{Contents, found, shown}
-use Rattle.vh_eval.specs.Selects.{place_of, lowest_index, address_of}
+use Rattle.vh_eval.specs.Selects.{position_of, lowest_index, address_of}
 use Rattle.vh_proc_assign.specs.declared.piece.Piece.{Piece}
 use Rattle.vh_proc_assign.specs.Values.{integer_alone, right_side}
 
@@ -29,21 +29,21 @@ chosen_at d s o (Some index) = option_map (word_of o) (address_of (integer_alone
 abbrev pub object_of : Shape → Contents → Chosen → Option Object
 object_of d s c = chosen_at d s c.object c.word
 
--- The place in the object, 0 being its lowest digit, where a target's digits begin; none where its index isn't
+-- The position in the object, 0 being its lowest digit, where a target's digits begin; none where its index isn't
 -- known. (5.2.1)
-abbrev pub place_in : Shape → Contents → Select → Option ℤ
-place_in d s select.Whole = Some (pos 0)
-place_in d s (select.Bit range index) =
-    option_map (λ i. place_of range (lowest_index range true i 1)) (integer_alone d s index)
-place_in d s (select.Slice range lowest width) = Some (place_of range (pos lowest))
-place_in d s (select.Indexed up range base width) =
-    option_map (λ i. place_of range (lowest_index range up i width)) (integer_alone d s base)
+abbrev pub position_in : Shape → Contents → Select → Option ℤ
+position_in d s select.Whole = Some (pos 0)
+position_in d s (select.Bit range index) =
+    option_map (λ i. position_of range (lowest_index range true i 1)) (integer_alone d s index)
+position_in d s (select.Slice range lowest width) = Some (position_of range (pos lowest))
+position_in d s (select.Indexed up range base width) =
+    option_map (λ i. position_of range (lowest_index range up i width)) (integer_alone d s base)
 
--- What an object of so many digits takes of others that begin at a place of it, or so many places below its lowest
+-- What an object of so many digits takes of others that begin at a position of it, or so many positions below its lowest
 -- digit: those below fall away, and none is left where all are outside. (5.2.1)
 abbrev pub piece_above : Object → ℕ → Vector → ℕ → Option Piece
-piece_above o width v place =
-    if nat_lt place width then Some (record { object = o; low = place; value = v }) else None
+piece_above o width v position =
+    if nat_lt position width then Some (record { object = o; low = position; value = v }) else None
 
 abbrev pub piece_below : Object → Vector → ℕ → Option Piece
 piece_below o v distance =
@@ -52,12 +52,12 @@ piece_below o v distance =
     else None
 
 abbrev pub piece_at : Object → ℕ → Vector → ℤ → Option Piece
-piece_at o width v place =
-    if int_lt place (pos 0) then piece_below o v (unsigned_abs place) else piece_above o width v (unsigned_abs place)
+piece_at o width v position =
+    if int_lt position (pos 0) then piece_below o v (unsigned_abs position) else piece_above o width v (unsigned_abs position)
 
 -- What a target takes. (5.2 and 9.2)
 abbrev pub piece_in : Shape → Contents → Select → Vector → Object → Vector → Option Piece
-piece_in d s it v o old = option_and_then (piece_at o (digits_in old) v) (place_in d s it)
+piece_in d s it v o old = option_and_then (piece_at o (digits_in old) v) (position_in d s it)
 
 abbrev pub piece_of : Shape → Contents → Selected → Vector → Option Piece
 piece_of d s t v =

@@ -10,7 +10,7 @@ use vh_design::{Change, Layer, Made};
 use vh_logic::{Vec4, replace, select};
 use vh_store::Store;
 
-// A value with others of its digits from a place on.
+// A value with others of its digits from a position on.
 pub(crate) fn with_digits(old: &Vec4, low: u32, v: &Vec4) -> Vec4
     ensures { result ≡ with_digits old.now low v.now }
 {

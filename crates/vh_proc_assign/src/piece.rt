@@ -2,9 +2,9 @@ ghost use Rattle.std.specs.Prelude.{◌≡◌, ◌≤◌, ◌^◌, ◌<ℤ◌, n
 ghost use Rattle.vh_design_nodes.specs.Fits.{fits_word, fits_select};
 ghost use Rattle.vh_design_nodes.specs.declared.expr.Access.TheVariants as access;
 ghost use Rattle.vh_design_nodes.specs.Widths.{select_width};
-ghost use Rattle.vh_eval.specs.Selects.{place_of, lowest_index};
+ghost use Rattle.vh_eval.specs.Selects.{position_of, lowest_index};
 ghost use Rattle.vh_design_code.specs.Targets.{fits_target};
-ghost use Rattle.vh_proc_assign.specs.Pieces.{object_of, place_in, piece_at, piece_in, piece_of};
+ghost use Rattle.vh_proc_assign.specs.Pieces.{object_of, position_in, piece_at, piece_in, piece_of};
 ghost use Rattle.std.specs.Option.{option_and_then};
 ghost use Rattle.vh_store.specs.Contents.{found};
 
@@ -14,7 +14,7 @@ use vh_design::{Chosen, Design, Range, Select, Selected};
 use vh_logic::{Vec4, select};
 use vh_store::Store;
 
-/// Digits that an object takes: the value's, from a place on, 0 being the object's lowest.
+/// Digits that an object takes: the value's, from a position on, 0 being the object's lowest.
 #[derive(Clone, Copy)]
 pub struct Piece {
     pub object: Object,
@@ -41,12 +41,12 @@ fn object_of(d: &Design, s: &Store, chosen: Chosen) -> Option<Object>
     })
 }
 
-// The place of the lowest of so many digits, from an index on upwards or downwards.
-fn place_from(range: Range, up: bool, index: i128, width: u32) -> i128
+// The position of the lowest of so many digits, from an index on upwards or downwards.
+fn position_from(range: Range, up: bool, index: i128, width: u32) -> i128
     requires least { 1 ≤ width }
     requires below { index <ℤ pos (2 ^ 64) }
     requires above { neg_ℤ (pos (2 ^ 64)) <ℤ index }
-    ensures { result ≡ place_of range (lowest_index range up index width) }
+    ensures { result ≡ position_of range (lowest_index range up index width) }
 {
     let further = i128::from(width - 1);
     let right = i128::from(range.right);
@@ -58,35 +58,35 @@ fn place_from(range: Range, up: bool, index: i128, width: u32) -> i128
     }
 }
 
-// The place in its object where a target's digits begin.
-fn place_in(d: &Design, s: &Store, it: Select) -> Option<i128>
+// The position in its object where a target's digits begin.
+fn position_in(d: &Design, s: &Store, it: Select) -> Option<i128>
     requires there { fits_select (length (d.now).exprs) it ≡ true }
     requires least { 1 ≤ select_width 1 it }
-    ensures { result ≡ place_in d.now s.now it }
+    ensures { result ≡ position_in d.now s.now it }
 {
     match it {
         Select::Whole => Some(0),
         Select::Bit { range, index } => {
-            Some(place_from(range, true, integer_alone(d, s, index)?, 1))
+            Some(position_from(range, true, integer_alone(d, s, index)?, 1))
         }
         Select::Slice { range, lowest, .. } => {
-            Some(place_from(range, true, i128::from(lowest), 1))
+            Some(position_from(range, true, i128::from(lowest), 1))
         }
         Select::Indexed {
             up,
             range,
             base,
             width,
-        } => Some(place_from(range, up, integer_alone(d, s, base)?, width)),
+        } => Some(position_from(range, up, integer_alone(d, s, base)?, width)),
     }
 }
 
-// What an object of so many digits takes of others that begin at a place of it.
-fn piece_at(object: &Object, width: u32, v: &Vec4, place: i128) -> Option<Piece>
-    ensures { result ≡ piece_at object.now width v.now place }
+// What an object of so many digits takes of others that begin at a position of it.
+fn piece_at(object: &Object, width: u32, v: &Vec4, position: i128) -> Option<Piece>
+    ensures { result ≡ piece_at object.now width v.now position }
 {
-    let size = place.unsigned_abs();
-    if place < 0 {
+    let size = position.unsigned_abs();
+    if position < 0 {
         if size >= u128::from(v.width()) {
             return None;
         }
@@ -115,8 +115,8 @@ fn piece_in(d: &Design, s: &Store, it: Select, v: &Vec4, object: &Object) -> Opt
         (found s.now object.now) }
 {
     let old = s.found(*object)?;
-    let place = place_in(d, s, it)?;
-    piece_at(object, old.width(), v, place)
+    let position = position_in(d, s, it)?;
+    piece_at(object, old.width(), v, position)
 }
 
 // What a target takes of these digits.

@@ -98,7 +98,7 @@ changes p f ps keeps = record {
     known q t true at = let m = mapped f (process_at q ps) t at in ap is_some m.1
     known q t false at = ap is_some at
 
--- Another one in its place, which the same process has begun.
+-- Another one in its position, which the same process has begun.
 pub puts : (p : ℕ) (t u : Process) (ps : Processes) → process_at p ps ≡ Some t → u.parent ≡ t.parent → Grows ps (with_process p u ps)
 puts p t u ps at keeps = record {
   numbered = λ h. record {
@@ -204,18 +204,18 @@ resumes p b c h =
     subst (λ (x : Queued). Grows b.processes x.processes) (ok-same (queued (noted p b.queue.next b.processes) q.0) c q.2)
     (changes p (with_serial b.queue.next) b.processes (λ t. refl))
 
-begins-in : (o : Option Process) (p serial place : ℕ) (ps : Processes) → process_at p ps ≡ o → Grows ps (branch_in o p serial place ps)
-begins-in None p serial place ps at = same ps
-begins-in (Some t) p serial place ps at = inserts p t (branch p t serial place) ps at refl
+begins-in : (o : Option Process) (p serial position : ℕ) (ps : Processes) → process_at p ps ≡ o → Grows ps (branch_in o p serial position ps)
+begins-in None p serial position ps at = same ps
+begins-in (Some t) p serial position ps at = inserts p t (branch p t serial position) ps at refl
 
-begins-one : (p place : ℕ) (b c : Queued) → branch_begun p place b ≡ Ok c → Grows b.processes c.processes
-begins-one p place b c h =
+begins-one : (p position : ℕ) (b c : Queued) → branch_begun p position b ≡ Ok c → Grows b.processes c.processes
+begins-one p position b c h =
     let go = unless-then (nat_lt MOST_NUMBERS b.processes.next) (Some fault.F3) _ c h in
     let q = ok-then (evaluated_now b.processes.next b.queue)
-    (λ q. Ok (queued (branch_in (process_at p b.processes) p b.queue.next place b.processes) q)) c go in
+    (λ q. Ok (queued (branch_in (process_at p b.processes) p b.queue.next position b.processes) q)) c go in
     subst (λ (x : Queued). Grows b.processes x.processes)
-    (ok-same (queued (branch_in (process_at p b.processes) p b.queue.next place b.processes) q.0) c q.2)
-    (begins-in (process_at p b.processes) p b.queue.next place b.processes refl)
+    (ok-same (queued (branch_in (process_at p b.processes) p b.queue.next position b.processes) q.0) c q.2)
+    (begins-in (process_at p b.processes) p b.queue.next position b.processes refl)
 
 begins : (p : ℕ) (ks : List ℕ) (b c : Queued) → branches_begun p ks b ≡ Ok c → Grows b.processes c.processes
 unfolding branches_begun

@@ -45,7 +45,7 @@ module _ (holds : World → Type 0) (d : Shape) (p : ℕ) (w : World) where
   after-row t i each (op.Test condition otherwise) = each.own
   after-row t i each (op.Case c) = each.own
   after-row t i each (op.Loop it) = each.own
-  after-row t i each (op.Fork places) = each.forks i.next places
+  after-row t i each (op.Fork positions) = each.forks i.next positions
   after-row t i each op.End = each.ends
   after-row t i each (op.Enter routine inputs) = each.own
   after-row t i each (op.Leave l) = each.own

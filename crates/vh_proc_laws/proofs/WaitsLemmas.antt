@@ -89,7 +89,7 @@ module _ (d : Shape) (p : ℕ) (i : Instruction) where
   row (op.Test condition otherwise) o turn h = none p _ turn o h refl
   row (op.Case c) o turn h = none p _ turn o h refl
   row (op.Loop it) o turn h = none p _ turn o h refl
-  row (op.Fork places) o turn h = absurd (cc)
+  row (op.Fork positions) o turn h = absurd (cc)
   row op.End o turn h = none p _ turn o h refl
   row (op.Enter routine inputs) o turn h = none p _ turn o (unless-then _ _ _ turn h) refl
   row (op.Leave l) o turn h = none p _ turn o h refl

@@ -15,8 +15,8 @@ taken (Some p) old = with_digits old p.low p.value
 abbrev pub digit_or : Vector → ℕ → Digit → Digit
 digit_or v k had = if nat_lt k (width_of v) then slice_index_or v.digits k X else had
 
--- The digit that an object has at a place behind an assignment to it from a place on: the one of those assigned that lies as far
+-- The digit that an object has at a position behind an assignment to it from a position on: the one of those assigned that lies as far
 -- above their lowest, where there is one, else what it had. Those that begin below the object's lowest digit fall away up to there.
 abbrev pub digit_behind : Vector → Digit → ℤ → ℕ → Digit
-digit_behind v had (pos place) i = if nat_lt i place then had else digit_or v (i - place) had
+digit_behind v had (pos position) i = if nat_lt i position then had else digit_or v (i - position) had
 digit_behind v had (negsuc n) i = digit_or v (i + (n + 1)) had

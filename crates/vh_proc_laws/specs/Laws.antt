@@ -67,6 +67,6 @@ NextNeverFalls = (d : Shape) (p : ℕ) (w : World) (s : Step) → AreNumbered w.
 
 -- Each digit of an object that is assigned to, wherever the digits begin that are assigned.
 abbrev pub AssignsDigits : Type 0
-AssignsDigits = (o : Object) (old v : Vector) (place : ℤ) (i : ℕ) → i < width_of old
-    → slice_index_or (taken (piece_at o (width_of old) v place) old).digits i X
-    ≡ digit_behind v (slice_index_or old.digits i X) place i
+AssignsDigits = (o : Object) (old v : Vector) (position : ℤ) (i : ℕ) → i < width_of old
+    → slice_index_or (taken (piece_at o (width_of old) v position) old).digits i X
+    ≡ digit_behind v (slice_index_or old.digits i X) position i

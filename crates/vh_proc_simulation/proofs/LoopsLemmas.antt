@@ -19,7 +19,7 @@ use Rattle.vh_sense.specs.Sensitivity.{is_above, without_wait}
 use Rattle.vh_proc_simulation.specs.Activity.{evaluations}
 use Rattle.vh_proc_simulation.specs.Follows.{Followed, one_followed, all_followed}
 use Rattle.vh_store.specs.Contents.{Contents}
-use Rattle.vh_proc_simulation.specs.Entries.{Agenda, woken_one, all_woken, entered_by, all_entered}
+use Rattle.vh_proc_simulation.specs.Entries.{Scheduling, woken_one, all_woken, entered_by, all_entered}
 use Rattle.vh_proc_simulation.specs.Labels.{are_same}
 use Rattle.vh_proc_turn.specs.declared.fault.StepFault.{StepFault}
 use Rattle.vh_proc_turn.specs.declared.fault.StepFault.TheVariants as step
@@ -41,11 +41,11 @@ pub none-woken : (all : List ℕ) (o : Scheduled) → all ≡ [] → all_woken a
 unfolding all_woken
 none-woken all o is = ap (λ (qs : List ℕ). all_woken qs o) is
 
-pub next-entered : (d : Shape) (s : Contents) (m : Made) (ms all : List Made) (a b : Agenda) → all ≡ m ∷ ms → entered_by d s m.change a ≡ Ok b
+pub next-entered : (d : Shape) (s : Contents) (m : Made) (ms all : List Made) (a b : Scheduling) → all ≡ m ∷ ms → entered_by d s m.change a ≡ Ok b
     → all_entered d s ms b ≡ all_entered d s all a
 unfolding all_entered
 next-entered d s m ms all a b is done =
-    sym (ap (λ (r : Result Agenda (Option Fault)). with_ok r (all_entered d s ms)) done) ∙ ap (λ (ns : List Made). all_entered d s ns a) (sym is)
+    sym (ap (λ (r : Result Scheduling (Option Fault)). with_ok r (all_entered d s ms)) done) ∙ ap (λ (ns : List Made). all_entered d s ns a) (sym is)
 
 -- All that are woken are above none.
 pub above-none : (ps : List ℕ) → filter (is_above None) ps ≡ ps

@@ -58,29 +58,29 @@ abbrev pub monitored : Shape → Change → Watched → Result Watched (Option F
 monitored d c w = if list_reads d w.monitor.call c.object.id then monitor_entered w else Ok w
 
 -- What changes add to.
-pub record Agenda : Type 0 where
+pub record Scheduling : Type 0 where
   pub processes : Processes
   pub sense : Sensitivity
   pub follows : Serials
   pub queue : Events
   pub monitor : Monitor
 
-abbrev pub agenda : Processes → Sensitivity → Serials → Events → Monitor → Agenda
-agenda ps w n q m = record { processes = ps; sense = w; follows = n; queue = q; monitor = m }
+abbrev pub scheduling : Processes → Sensitivity → Serials → Events → Monitor → Scheduling
+scheduling ps w n q m = record { processes = ps; sense = w; follows = n; queue = q; monitor = m }
 
 -- A change, with the values that objects have behind its label.
-abbrev pub entered : Shape → Contents → Change → Agenda → Result Agenda (Option Fault)
+abbrev pub entered : Shape → Contents → Change → Scheduling → Result Scheduling (Option Fault)
 entered d s c a =
     with_ok (waking c (scheduled a.processes a.sense a.queue)) (λ o.
     with_ok (following s o.sense c (followed a.follows o.queue)) (λ f.
     with_ok (monitored d c (watched a.monitor f.queue)) (λ w.
-    Ok (agenda o.processes o.sense f.serials w.queue w.monitor))))
+    Ok (scheduling o.processes o.sense f.serials w.queue w.monitor))))
 
 -- What was written with the value that it had before is no change.
-abbrev pub entered_by : Shape → Contents → Option Change → Agenda → Result Agenda (Option Fault)
+abbrev pub entered_by : Shape → Contents → Option Change → Scheduling → Result Scheduling (Option Fault)
 entered_by d s None a = Ok a
 entered_by d s (Some c) a = entered d s c a
 
-unfoldable pub all_entered : Shape → Contents → List Made → Agenda → Result Agenda (Option Fault)
+unfoldable pub all_entered : Shape → Contents → List Made → Scheduling → Result Scheduling (Option Fault)
 all_entered d s [] a = Ok a
 all_entered d s (m ∷ ms) a = with_ok (entered_by d s m.change a) (all_entered d s ms)

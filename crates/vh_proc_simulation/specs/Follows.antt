@@ -58,11 +58,11 @@ abbrev pub is_expr : ℕ → Option ℕ → Bool
 is_expr e None = false
 is_expr e (Some k) = k == e
 
-abbrev pub is_in_place : Contents → Follow → Bool
-is_in_place s f = is_expr f.expr (expr_of f.force s f.object)
+abbrev pub is_in_force : Contents → Follow → Bool
+is_in_force s f = is_expr f.expr (expr_of f.force s f.object)
 
 abbrev pub one_followed : Contents → Follow → Followed → Result Followed (Option Fault)
-one_followed s f b = if is_in_place s f then follow_entered f.force f.object b else Ok b
+one_followed s f b = if is_in_force s f then follow_entered f.force f.object b else Ok b
 
 -- Of each in turn.
 unfoldable pub all_followed : Contents → List Follow → Followed → Result Followed (Option Fault)

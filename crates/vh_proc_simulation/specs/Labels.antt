@@ -26,7 +26,7 @@ use Rattle.vh_queue.specs.Events.{advanced}
 use Rattle.vh_proc_simulation.specs.Activity.{Activity, stopped}
 use Rattle.vh_proc_simulation.specs.Clock.{asks_time}
 use Rattle.vh_proc_simulation.specs.declared.monitor.Monitor.{Monitor}
-use Rattle.vh_proc_simulation.specs.Entries.{Agenda, agenda, Watched, watched, monitor_entered, all_entered}
+use Rattle.vh_proc_simulation.specs.Entries.{Scheduling, scheduling, Watched, watched, monitor_entered, all_entered}
 use Rattle.vh_store.specs.Contents.{Contents, put_at, with_driven}
 use Rattle.vh_proc_turn.specs.declared.fault.StepFault.{StepFault}
 use Rattle.vh_proc_turn.specs.declared.fault.StepFault.TheVariants as step
@@ -50,15 +50,15 @@ Outcome = Result Came (Option Fault)
 abbrev pub with_world : World → Activity → Activity
 with_world w a = record a { processes = w.processes; store = w.store; sense = w.sense; queue = w.queue }
 
-abbrev pub agenda_of : Activity → Agenda
-agenda_of a = agenda a.processes a.sense a.follows a.queue a.monitor
+abbrev pub scheduling_of : Activity → Scheduling
+scheduling_of a = scheduling a.processes a.sense a.follows a.queue a.monitor
 
-abbrev pub with_agenda : Agenda → Activity → Activity
-with_agenda g a =
+abbrev pub with_scheduling : Scheduling → Activity → Activity
+with_scheduling g a =
     record a { processes = g.processes; sense = g.sense; follows = g.follows; queue = g.queue; monitor = g.monitor }
 
 abbrev pub with_entries : List Made → Activity → Result Activity (Option Fault)
-with_entries ms a = with_ok (all_entered a.design a.store ms (agenda_of a)) (λ g. Ok (with_agenda g a))
+with_entries ms a = with_ok (all_entered a.design a.store ms (scheduling_of a)) (λ g. Ok (with_scheduling g a))
 
 abbrev pub with_watched : Watched → Activity → Activity
 with_watched w a = record a { monitor = w.monitor; queue = w.queue }

@@ -1,7 +1,7 @@
 ghost use Rattle.std.specs.Prelude.{◌≡◌, Ok, IfErr, OnOk};
 ghost use Rattle.vh_design.specs.Shape.{Shape};
 ghost use Rattle.vh_proc.specs.Processes.{AllRun, scheduled};
-ghost use Rattle.vh_proc_simulation.specs.Entries.{waking, watched, monitor_entered, monitored, list_reads, agenda, entered, entered_by, all_entered};
+ghost use Rattle.vh_proc_simulation.specs.Entries.{waking, watched, monitor_entered, monitored, list_reads, scheduling, entered, entered_by, all_entered};
 ghost use Rattle.vh_proc_turn.specs.Own.{FailsBy};
 
 use crate::follows::{Follows, follow};
@@ -89,10 +89,10 @@ fn enter(
     change: &Option<Change>,
 ) -> Result<(), StepFault>
     ensures done { OnOk result (entered_by d.now s.now change.now
-        (agenda threads.old sense.old follows.old q.old monitor.old)
-        ≡ Ok (agenda threads.new sense.new follows.new q.new monitor.new)) }
+        (scheduling threads.old sense.old follows.old q.old monitor.old)
+        ≡ Ok (scheduling threads.new sense.new follows.new q.new monitor.new)) }
     ensures fails { IfErr result (FailsBy (entered_by d.now s.now change.now
-        (agenda threads.old sense.old follows.old q.old monitor.old))) }
+        (scheduling threads.old sense.old follows.old q.old monitor.old))) }
     ensures waits { (sense.new).waits ≡ (sense.old).waits }
     ensures now { (q.new).time ≡ (q.old).time }
     ensures runs { (d : Shape) → AllRun d threads.old → OnOk result (AllRun d threads.new) }
@@ -119,10 +119,10 @@ pub(crate) fn enter_all(
     made: &[Made],
 ) -> Result<(), StepFault>
     ensures done { OnOk result (all_entered d.now s.now made.now
-        (agenda threads.old sense.old follows.old q.old monitor.old)
-        ≡ Ok (agenda threads.new sense.new follows.new q.new monitor.new)) }
+        (scheduling threads.old sense.old follows.old q.old monitor.old)
+        ≡ Ok (scheduling threads.new sense.new follows.new q.new monitor.new)) }
     ensures fails { IfErr result (FailsBy (all_entered d.now s.now made.now
-        (agenda threads.old sense.old follows.old q.old monitor.old))) }
+        (scheduling threads.old sense.old follows.old q.old monitor.old))) }
     ensures waits { (sense.new).waits ≡ (sense.old).waits }
     ensures now { (q.new).time ≡ (q.old).time }
     ensures runs { (d : Shape) → AllRun d threads.old → OnOk result (AllRun d threads.new) }

@@ -1,7 +1,7 @@
 ghost use Rattle.std.specs.Prelude.{◌≡◌, Ok, OnOk, IfErr};
 ghost use Rattle.vh_sense.specs.Sensitivity.{readers_of};
 ghost use Rattle.vh_proc_simulation.specs.Entries.{following};
-ghost use Rattle.vh_proc_simulation.specs.Follows.{no_serials, last_of, noted, is_standing, followed, added_one, follow_entered, is_in_place, one_followed};
+ghost use Rattle.vh_proc_simulation.specs.Follows.{no_serials, last_of, noted, is_standing, followed, added_one, follow_entered, is_in_force, one_followed};
 ghost use Rattle.vh_proc_turn.specs.Own.{FailsBy};
 
 use std::alloc::Global;
@@ -109,8 +109,8 @@ fn enter_follow(
 }
 
 // Is the statement's force or assign the one in place?
-fn is_in_place(s: &Store, f: &Follow) -> bool
-    ensures { result ≡ is_in_place s.now f.now }
+fn is_in_force(s: &Store, f: &Follow) -> bool
+    ensures { result ≡ is_in_force s.now f.now }
 {
     match expr_of(s, f.force, f.object) {
         Some(e) => e.number() == f.expr.number(),
@@ -125,7 +125,7 @@ fn follow_one(s: &Store, follows: &mut Follows, q: &mut Queue, f: &Follow) -> Re
     ensures fails { IfErr result (FailsBy (one_followed s.now f.now (followed follows.old q.old))) }
     ensures now { q.new.time ≡ q.old.time }
 {
-    if !is_in_place(s, f) {
+    if !is_in_force(s, f) {
         return Ok(());
     }
     enter_follow(follows, q, f.force, f.object)

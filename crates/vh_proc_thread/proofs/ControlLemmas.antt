@@ -16,19 +16,19 @@ use Rattle.vh_proc_thread.specs.declared.call.Repeat.{Repeat}
 use Rattle.vh_proc_thread.specs.Control.{Control, Runs, HasBody, instruction_of, gone, behind, without_call, turned, outermost, or_these, is_within, is_call_of, disabled, left, left_task, left_block, blocks_of, block_around, repeats_within, code_of, without_block, in_block, standing_in}
 use Rattle.vh_proc_thread.proofs.LastLemmas.{Apart, apart, reverse-apart, last-at, last-set, each-back, each-turned, each-taken, each-last, filter-turned}
 
--- The innermost call goes on at a place.
+-- The innermost call goes on at a position.
 pub to-last : (d : Shape) (root k n : ℕ) (xs : List Call) (c : Call) → n ≡ length xs - 1 → 0 < length xs → c ≡ slice_index_or xs n c
-    → reverse (slice_set xs n (record c { place = k })) ≡ gone d root (goes.To k) (reverse xs)
+    → reverse (slice_set xs n (record c { position = k })) ≡ gone d root (goes.To k) (reverse xs)
 unfolding gone
 to-last d root k n xs c is some at = by (apart xs some)
   where
-    by : Apart xs → reverse (slice_set xs n (record c { place = k })) ≡ gone d root (goes.To k) (reverse xs)
+    by : Apart xs → reverse (slice_set xs n (record c { position = k })) ≡ gone d root (goes.To k) (reverse xs)
     by a =
         let here : n ≡ length (a.front ++ a.last ∷ []) - 1 = is ∙ ap (λ (ys : List Call). length ys - 1) a.is in
         let same : c ≡ a.last = at ∙ ap (λ (ys : List Call). slice_index_or ys n c) a.is ∙ last-at a.front a.last c n here in
-        ap (λ (ys : List Call). reverse (slice_set ys n (record c { place = k }))) a.is
-        ∙ last-set a.front a.last (record c { place = k }) n here
-        ∙ ap (λ (e : Call). (let f : Call = record e { place = k } in f) ∷ reverse a.front) same
+        ap (λ (ys : List Call). reverse (slice_set ys n (record c { position = k }))) a.is
+        ∙ last-set a.front a.last (record c { position = k }) n here
+        ∙ ap (λ (e : Call). (let f : Call = record e { position = k } in f) ∷ reverse a.front) same
         ∙ sym (ap (gone d root (goes.To k)) (ap reverse a.is ∙ reverse-apart a.front a.last))
 
 pub to-none : (d : Shape) (root k : ℕ) (xs : List Call) → length xs ≡ 0 → reverse xs ≡ gone d root (goes.To k) (reverse xs)
@@ -94,16 +94,16 @@ label-none d root goes.Back [] none = refl
 label-none d root g (x ∷ xs) none = absurd (omega (arith, none))
 
 pub label-to : (d : Shape) (root k n : ℕ) (xs : List Call) (c : Call) → n ≡ length xs - 1 → 0 < length xs → c ≡ slice_index_or xs n c
-    → slice_get (gone d root (goes.To k) (reverse xs)) 0 ≡ Some (record c { place = k })
+    → slice_get (gone d root (goes.To k) (reverse xs)) 0 ≡ Some (record c { position = k })
 unfolding gone
 label-to d root k n xs c is some at = by (apart xs some)
   where
-    by : Apart xs → slice_get (gone d root (goes.To k) (reverse xs)) 0 ≡ Some (record c { place = k })
+    by : Apart xs → slice_get (gone d root (goes.To k) (reverse xs)) 0 ≡ Some (record c { position = k })
     by a =
         let here : n ≡ length (a.front ++ a.last ∷ []) - 1 = is ∙ ap (λ (ys : List Call). length ys - 1) a.is in
         let same : c ≡ a.last = at ∙ ap (λ (ys : List Call). slice_index_or ys n c) a.is ∙ last-at a.front a.last c n here in
         ap (λ (ys : List Call). slice_get (gone d root (goes.To k) ys) 0) (ap reverse a.is ∙ reverse-apart a.front a.last)
-        ∙ ap (λ (e : Call). Some (let f : Call = record e { place = k } in f)) (sym same)
+        ∙ ap (λ (e : Call). Some (let f : Call = record e { position = k } in f)) (sym same)
 
 pub label-ended : (d : Shape) (root : ℕ) (xs : List Call) → length xs ≡ 1 → slice_get (gone d root goes.Back (reverse xs)) 0 ≡ None
 unfolding gone

@@ -1,4 +1,4 @@
--- The named blocks that a place of a code stands in. (IEEE 1364-2005, 9.8)
+-- The named blocks that a position of a code stands in. (IEEE 1364-2005, 9.8)
 use Rattle.std.specs.Prelude.{ℕ, zero, suc, List, true, false, ◌==◌, Option, Some, None, slice_get, if◌then◌else◌}
 use Rattle.std.specs.Option.{option_and_then}
 use Rattle.vh_design_code.specs.declared.code.Block.{Block}
@@ -16,6 +16,6 @@ block_below (suc n) bs target k =
       | false ↦ block_below n bs target k
     ]
 
--- Of an object, the block that a place stands in, by the innermost block there. (own)
+-- Of an object, the block that a position stands in, by the innermost block there. (own)
 abbrev pub block_of : List Block → ℕ → Option ℕ → Option Block
 block_of bs target inner = option_and_then (λ k. block_below (suc k) bs target k) inner

@@ -35,17 +35,17 @@ code_of d root (Some routine) = body_at d routine
 
 -- The label at which a call stands. (own)
 abbrev pub instruction_of : Shape → ℕ → Call → Option Instruction
-instruction_of d root c = option_and_then (λ k. slice_get k.instructions c.place) (code_of d root c.routine)
+instruction_of d root c = option_and_then (λ k. slice_get k.instructions c.position) (code_of d root c.routine)
 
 -- Where a call goes on behind its instruction. (own)
 abbrev pub behind : Shape → ℕ → Call → Goes
 behind d root c = unwrap_or (option_map (λ i. i.next) (instruction_of d root c)) goes.Back
 
--- The calls in which the next label is performed, where the innermost goes on there: at a place of its code, or back, behind
+-- The calls in which the next label is performed, where the innermost goes on there: at a position of its code, or back, behind
 -- the call in the one around it. What goes back from the code that it began in has ended. (10.2, 10.4)
 unfoldable pub gone : Shape → ℕ → Goes → List Call → List Call
 gone d root (goes.To k) [] = []
-gone d root (goes.To k) (c ∷ cs) = record c { place = k } ∷ cs
+gone d root (goes.To k) (c ∷ cs) = record c { position = k } ∷ cs
 gone d root goes.Back [] = []
 gone d root goes.Back (c ∷ []) = []
 gone d root goes.Back (c ∷ e ∷ cs) = gone d root (behind d root e) (e ∷ cs)
@@ -67,7 +67,7 @@ abbrev pub start_of : Shape → ℕ → Option ℕ → Goes
 start_of d root routine = unwrap_or (option_map (λ k. k.start) (code_of d root routine)) goes.Back
 
 abbrev pub call_at : Option ℕ → ℕ → Call
-call_at routine k = record { routine = routine; place = k; block = None }
+call_at routine k = record { routine = routine; position = k; block = None }
 
 -- A process of the design at its beginning. (9.9)
 abbrev pub process_of : Shape → ℕ → Control
@@ -90,12 +90,12 @@ standing_in block t = record t { calls = in_block block t.calls }
 
 -- It performs its next label: it has left the calls that it goes back from, and is in the block of the instruction. Where it
 -- isn't said to go on, it performs the same one again. (own)
-abbrev pub place_of : List Call → Goes
-place_of [] = goes.Back
-place_of (c ∷ cs) = goes.To c.place
+abbrev pub position_of : List Call → Goes
+position_of [] = goes.Back
+position_of (c ∷ cs) = goes.To c.position
 
 abbrev pub settled : Shape → Control → Control
-settled d t = record t { calls = standing d t; goes = place_of (standing d t) }
+settled d t = record t { calls = standing d t; goes = position_of (standing d t) }
 
 abbrev pub arrived : Shape → Control → Control
 arrived d t = standing_in (block_at (next_of d t)) (settled d t)

@@ -12,7 +12,7 @@ pub struct Call {
     /// The task or function; none for the code of a process.
     pub routine: Option<ObjId>,
     /// The instruction that was performed last.
-    pub place: u32,
+    pub position: u32,
     /// The innermost block of its code that it is in: that of the last label.
     pub block: Option<u32>,
 }

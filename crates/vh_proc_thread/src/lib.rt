@@ -13,7 +13,7 @@
 
 mod block;
 mod call;
-mod place;
+mod position;
 mod thread;
 
 pub use call::{Call, CallFault, MOST_CALLS, Repeat};

@@ -3,10 +3,10 @@ ghost use Rattle.std.specs.List.{AllByRecursion};
 ghost use Rattle.std.specs.Option.{option_and_then};
 ghost use Rattle.vh_design_nodes.specs.Fits.{has_body};
 ghost use Rattle.vh_design.specs.Shape.{Shape};
-ghost use Rattle.vh_proc_thread.specs.Control.{Runs, HasBody, HasCause, has_turn, next_of, instruction_of, process_of, branch_of, gone, goes_on, called, is_inside, disabled, repeat_turned, repeating, depth_of, routine_of, arrived, settled, standing_in, place_of, without_call, without_block};
+ghost use Rattle.vh_proc_thread.specs.Control.{Runs, HasBody, HasCause, has_turn, next_of, instruction_of, process_of, branch_of, gone, goes_on, called, is_inside, disabled, repeat_turned, repeating, depth_of, routine_of, arrived, settled, standing_in, position_of, without_call, without_block};
 
 use crate::call::{Call, CallFault, MOST_CALLS, Repeat};
-use crate::place::{
+use crate::position::{
     behind, behind_end, block_around, code_of, instruction_at, is_call_of, is_repeat_within,
     start_of, up_to_outermost,
 };
@@ -52,7 +52,7 @@ impl Thread {
         let mut calls = Vec::new(alloc);
         calls.push(Call {
             routine: None,
-            place: 0,
+            position: 0,
             block: None,
         })?;
         Ok(Thread {
@@ -65,14 +65,14 @@ impl Thread {
     }
 
     /// A branch that begins there, in the code of the `fork` at which this thread stands.
-    pub fn branch(&self, alloc: Global, place: u32) -> Result<Thread, NoMemory>
-        ensures branch { IfOk result (λ t. t ≡ branch_of place self.now) }
+    pub fn branch(&self, alloc: Global, position: u32) -> Result<Thread, NoMemory>
+        ensures branch { IfOk result (λ t. t ≡ branch_of position self.now) }
         ensures runs { (d : Shape) → Runs d self.now → IfOk result (Runs d) }
     {
         let mut calls = Vec::new(alloc);
         calls.push(Call {
             routine: self.routine(),
-            place,
+            position,
             block: None,
         })?;
         Ok(Thread {
@@ -80,7 +80,7 @@ impl Thread {
             outer: self.depth(),
             calls,
             repeats: Vec::new(alloc),
-            goes: Goes::To(place),
+            goes: Goes::To(position),
         })
     }
 
@@ -118,8 +118,8 @@ impl Thread {
             return None;
         }
         let last = calls.len() - 1;
-        if let Goes::To(place) = goes {
-            return instruction_at(code_of(d, self.root, calls[last].routine), place);
+        if let Goes::To(position) = goes {
+            return instruction_at(code_of(d, self.root, calls[last].routine), position);
         }
         if last == 0 {
             return None;
@@ -152,7 +152,7 @@ impl Thread {
         let goes = self.goes;
         self.walk(d, goes);
         self.goes = match self.calls.last() {
-            Some(call) => Goes::To(call.place),
+            Some(call) => Goes::To(call.position),
             None => Goes::Back,
         };
     }
@@ -165,9 +165,9 @@ impl Thread {
         ensures runs { Runs d.now self.new }
     {
         match goes {
-            Goes::To(place) => {
+            Goes::To(position) => {
                 if let Some(call) = self.calls.last_mut() {
-                    call.place = place;
+                    call.position = position;
                 }
             }
             Goes::Back => {
@@ -203,7 +203,7 @@ impl Thread {
         }
         let pushed = self.calls.push(Call {
             routine: Some(routine),
-            place: 0,
+            position: 0,
             block: None,
         });
         if pushed.is_err() {

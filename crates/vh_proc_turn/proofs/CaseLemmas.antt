@@ -27,17 +27,17 @@ matched-narrow ns w m (a ∷ arms) most =
     both_true (le-leb (width_of ns a.value) m (omega (arith, rest))) (matched-narrow ns (max w (width_of ns a.value)) m arms most)
 
 -- What a `case` that may stand there keeps.
-pub record IsCase (ns : List ExprNode) (places : ℕ) (c : CaseTest) : Type 0 where
+pub record IsCase (ns : List ExprNode) (positions : ℕ) (c : CaseTest) : Type 0 where
   pub subject : c.subject < length ns
   pub wide : width_of ns c.subject ≤ c.width
   pub most : c.width ≤ MAX_WIDTH
-  pub arms : list_all (fits_arm (length ns) places) c.arms ≡ true
+  pub arms : list_all (fits_arm (length ns) positions) c.arms ≡ true
   pub narrow : list_all (is_narrow ns c.width) c.arms ≡ true
 
-pub is-case : (ns : List ExprNode) (places : ℕ) (c : CaseTest) → fits_case ns places c ≡ true → IsCase ns places c
-is-case ns places c fits =
+pub is-case : (ns : List ExprNode) (positions : ℕ) (c : CaseTest) → fits_case ns positions c ≡ true → IsCase ns positions c
+is-case ns positions c fits =
     let subject_test : Bool = nat_lt c.subject (length ns) in
-    let arms_test : Bool = list_all (fits_arm (length ns) places) c.arms in
+    let arms_test : Bool = list_all (fits_arm (length ns) positions) c.arms in
     let width_test : Bool = c.width == widest ns (width_of ns c.subject) (matched c.arms) in
     let sign_test : Bool = same_sign c.signed (signed_of ns c.subject && all_signed ns (matched c.arms)) in
     let ranged = and_left (subject_test && arms_test && width_test && is_width c.width) sign_test fits in

@@ -26,7 +26,7 @@ pub record Own : Type 0 where
   pub queue : Events
 
 -- What a label comes to: all this after it, what it changed, forced or released in order, and what the process does
--- next. In place of a label that would exceed a number comes a fault; and of a label that isn't said here, none.
+-- next. In position of a label that would exceed a number comes a fault; and of a label that isn't said here, none.
 pub record Turn : Type 0 where
   pub own : Own
   pub made : List Made
@@ -79,6 +79,6 @@ Comes outcome (Err e) x = FailsBy outcome e
 abbrev pub own_of : Process → Contents → Sensitivity → Events → Own
 own_of t s w q = record { process = t; store = s; sense = w; queue = q }
 
--- Something may stand in a code with so many places. (own)
+-- Something may stand in a code with so many positions. (own)
 abbrev pub Fits : (ℕ → Bool) → Type 0
-Fits test = (places : ℕ) × (test places ≡ true)
+Fits test = (positions : ℕ) × (test positions ≡ true)

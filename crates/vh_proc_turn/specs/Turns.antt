@@ -230,7 +230,7 @@ turn_at d p i (op.Test condition otherwise) o =
     quietly next.On (gone (if is_true d o.store condition then i.next else otherwise) o)
 turn_at d p i (op.Case c) o = quietly next.On (gone (arm_of d o.store c i.next) o)
 turn_at d p i (op.Loop it) o = quietly next.On (record o { process = turning d o.store i it o.process })
-turn_at d p i (op.Fork places) o = Err None
+turn_at d p i (op.Fork positions) o = Err None
 turn_at d p i op.End o = quietly next.Ends o
 turn_at d p i (op.Enter routine inputs) o = entering d routine inputs o
 turn_at d p i (op.Leave l) o = leaving d l (gone i.next o)
@@ -253,7 +253,7 @@ is_own (op.Pause it) = true
 is_own (op.Test condition otherwise) = true
 is_own (op.Case c) = true
 is_own (op.Loop it) = true
-is_own (op.Fork places) = false
+is_own (op.Fork positions) = false
 is_own op.End = true
 is_own (op.Enter routine inputs) = true
 is_own (op.Leave l) = true

@@ -52,7 +52,7 @@ fn fits_value(d: &Design, s: &Store, case: &CaseTest, subject: &Vec4, arm: Arm) 
 
 // Where a `case` goes on.
 pub(crate) fn arm_of(d: &Design, s: &Store, case: &CaseTest, goes: Goes) -> Goes
-    requires { Fits (λ places. fits_case (d.now).exprs places case.now) }
+    requires { Fits (λ positions. fits_case (d.now).exprs positions case.now) }
     ensures { result ≡ arm_of d.now s.now case.now goes }
 {
     let subject = eval(d, s, case.subject, case.width, case.signed);
@@ -84,7 +84,7 @@ pub(crate) fn take_turn(
     it: Loop,
 ) -> Result<(), NoMemory>
     requires runs { Runs d.now (process.old).thread }
-    requires there { Fits (λ places. fits_loop (length (d.now).exprs) places it) }
+    requires there { Fits (λ positions. fits_loop (length (d.now).exprs) positions it) }
     ensures turned { OnOk result (process.new ≡ turning d.now s.now i.now it process.old) }
     ensures runs { Runs d.now (process.new).thread }
 {

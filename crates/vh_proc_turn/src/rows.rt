@@ -216,7 +216,7 @@ pub fn turn(
 ) -> Result<Next, StepFault>
     requires runs { Runs d.now (process.old).thread }
     requires there { let l = limits_of d.now in let n = d.now in
-        Fits (λ places. fits_operation n.objects n.exprs n.drivers l places i.now.operation) }
+        Fits (λ positions. fits_operation n.objects n.exprs n.drivers l positions i.now.operation) }
     requires said { is_own i.now.operation ≡ true }
     requires waits { (sense.old).waits ≡ (d.now).waits }
     requires now { (s.old).time ≡ (q.old).time }

@@ -170,22 +170,22 @@ single_there os exprs shows (single.Procedural o e) f fits is =
     omega (arith, same, below)
 single_there os exprs shows _ f fits is = cc
 
-operation_there : (os : List ObjectInfo) (ns : List ExprNode) (ds : List DriverInfo) (l : Limits) (places : ℕ) (op : Operation) (f : Follow)
-    → fits_operation os ns ds l places op ≡ true → follow_of op ≡ Some f → f.expr < length ns
-operation_there os ns ds l places (operation.Single s) f fits is = single_there os (length ns) l.shows s f fits is
-operation_there os ns ds l places _ f fits is = cc
+operation_there : (os : List ObjectInfo) (ns : List ExprNode) (ds : List DriverInfo) (l : Limits) (positions : ℕ) (op : Operation) (f : Follow)
+    → fits_operation os ns ds l positions op ≡ true → follow_of op ≡ Some f → f.expr < length ns
+operation_there os ns ds l positions (operation.Single s) f fits is = single_there os (length ns) l.shows s f fits is
+operation_there os ns ds l positions _ f fits is = cc
 
 pub statement_there : (os : List ObjectInfo) (ns : List ExprNode) (ds : List DriverInfo) (l : Limits) (c : Code) (i : ℕ) (x : Instruction) (f : Follow)
     → fits_code os ns ds l c ≡ true → slice_get c.instructions i ≡ Some x → follow_of x.operation ≡ Some f → f.expr < length ns
 statement_there os ns ds l c i x f fits at is =
-    let places = length c.instructions in
-    let each = list_all (fits_instruction os ns ds l places (length c.blocks)) c.instructions in
+    let positions = length c.instructions in
+    let each = list_all (fits_instruction os ns ds l positions (length c.blocks)) c.instructions in
     let instructions : each ≡ true =
-    and_right (fits_goes places c.start) each (and_left (fits_goes places c.start && each) (fits_blocks os places c.blocks) fits) in
-    let one = all_at (fits_instruction os ns ds l places (length c.blocks)) c.instructions i x instructions at in
-    let a = fits_operation os ns ds l places x.operation in let b = fits_goes places x.next in
+    and_right (fits_goes positions c.start) each (and_left (fits_goes positions c.start && each) (fits_blocks os positions c.blocks) fits) in
+    let one = all_at (fits_instruction os ns ds l positions (length c.blocks)) c.instructions i x instructions at in
+    let a = fits_operation os ns ds l positions x.operation in let b = fits_goes positions x.next in
     let d = before l.stmts x.stmt in let e = before (length c.blocks) x.block in
-    operation_there os ns ds l places x.operation f (and_left a b (and_left (a && b) d (and_left ((a && b) && d) e one))) is
+    operation_there os ns ds l positions x.operation f (and_left a b (and_left (a && b) d (and_left ((a && b) && d) e one))) is
 
 -- A key is that of its statement.
 not_twice : (b : Bool) → not (not b) ≡ b

@@ -3,7 +3,7 @@ use Rattle.std.specs.Prelude.{ℕ, Bool, false, not, ◌&&◌, ◌==◌, List, l
 use Rattle.vh_logic.specs.declared.digits.Digit.{Digit}
 use Rattle.vh_logic.specs.declared.digits.Digit.TheVariants.{Zero, One, X, Z}
 use Rattle.vh_logic.specs.Digit.{is_zero, is_one, is_same}
-use Rattle.vh_logic.specs.Vector.{Vector, all_places}
+use Rattle.vh_logic.specs.Vector.{Vector, all_positions}
 use Rattle.vh_design_code.specs.declared.wait.Edge.{Edge}
 use Rattle.vh_design_code.specs.declared.wait.Edge.TheVariants as edge
 
@@ -21,17 +21,17 @@ is_falling One new = not (is_one new)
 is_falling X new = is_zero new
 is_falling Z new = is_zero new
 
--- The digit at a place; past the highest a select reads x. (5.2.1)
+-- The digit at a position; past the highest a select reads x. (5.2.1)
 abbrev pub digit_at : Vector → ℕ → Digit
-digit_at v place = slice_index_or v.digits place X
+digit_at v position = slice_index_or v.digits position X
 
--- The digits of a select, so many from a place on, without those past the highest: these are always x. (5.2.1)
+-- The digits of a select, so many from a position on, without those past the highest: these are always x. (5.2.1)
 abbrev pub digits_from : Vector → ℕ → ℕ → List Digit
 digits_from v low width = take width (drop low v.digits)
 
 -- Are some digits others than before? (own)
 abbrev pub differ : List Digit → List Digit → Bool
-differ old new = not (length old == length new && all_places is_same old new)
+differ old new = not (length old == length new && all_positions is_same old new)
 
 -- The change of a select that ends a wait: any change of its digits, or an edge of the lowest. (9.7.2)
 abbrev pub is_change : Edge → ℕ → ℕ → Vector → Vector → Bool

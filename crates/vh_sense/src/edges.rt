@@ -26,12 +26,12 @@ fn is_falling(old: Digit, new: Digit) -> bool
     }
 }
 
-// The digit at a place; x past the highest.
-fn digit_at(v: &Vec4, place: u32) -> Digit
-    ensures { result ≡ digit_at v.now place }
+// The digit at a position; x past the highest.
+fn digit_at(v: &Vec4, position: u32) -> Digit
+    ensures { result ≡ digit_at v.now position }
 {
-    if place < v.width() {
-        v.digit(place)
+    if position < v.width() {
+        v.digit(position)
     } else {
         Digit::X
     }

@@ -57,7 +57,7 @@ pub fn count_parts(kind: &ExprKind) -> usize
     match kind {
         ExprKind::Literal(_) | ExprKind::Time { .. } | ExprKind::SysCall(_) => 0,
         ExprKind::Selected(selected) => count_selected(selected),
-        ExprKind::Unary { .. } | ExprKind::Repeat { .. } | ExprKind::Marked { .. } => 1,
+        ExprKind::Unary { .. } | ExprKind::Repeat { .. } | ExprKind::WithSign { .. } => 1,
         ExprKind::Arithmetic { rest, .. } => rest.as_slice().len() + 1,
         ExprKind::Shift { rest, .. } => rest.as_slice().len() + 1,
         ExprKind::Comparison { rest, .. } => rest.as_slice().len() + 1,
@@ -79,7 +79,7 @@ fn selected_at(selected: &Selected, k: usize) -> Option<ExprId>
     }
 }
 
-/// The part of an expression at a place; none behind its last.
+/// The part of an expression at a position; none behind its last.
 pub fn part_at(kind: &ExprKind, k: usize) -> Option<ExprId>
     ensures { result ≡ slice_get (parts_of kind.now) k }
 {
@@ -88,7 +88,7 @@ pub fn part_at(kind: &ExprKind, k: usize) -> Option<ExprId>
         ExprKind::Selected(selected) => selected_at(selected, k),
         ExprKind::Unary { part, .. }
         | ExprKind::Repeat { part, .. }
-        | ExprKind::Marked { part, .. } => one_at(*part, None, k),
+        | ExprKind::WithSign { part, .. } => one_at(*part, None, k),
         ExprKind::Arithmetic { first, rest } => linked_at(*first, rest.as_slice(), k),
         ExprKind::Shift { first, rest } => linked_at(*first, rest.as_slice(), k),
         ExprKind::Comparison { first, rest } => linked_at(*first, rest.as_slice(), k),

@@ -1,4 +1,4 @@
--- Lists that are written at one place
+-- Lists that are written at one position
 pub mod ListsLemmas
 -- Slots and a slab before and after each call
 pub mod ViewsLemmas

@@ -1,4 +1,4 @@
--- What holds of a list that is written at one place.
+-- What holds of a list that is written at one position.
 use Rattle.std.proofs.Common.{◌≡◌, ℕ, zero, suc, ◌+◌, ◌<◌, List, [], ◌∷◌, ◌++◌, length, get_or, set, map, refl, ap, arith, Bool, true, false, cond, eqb, Some}
 use Rattle.std.specs.Prelude.{◌||◌, count_by}
 use Rattle.std.specs.List.{list_any, slice_get}
@@ -10,7 +10,7 @@ or_right : (a b : Bool) → b ≡ true → (a || b) ≡ true
 or_right true b h = refl
 or_right false b h = h
 
--- Two functions of a list that is written, where they agree beside the place
+-- Two functions of a list that is written, where they agree beside the position
 pub map-same : {X Y : Type 0} (f g : X → Y) (xs : List X) (d : X) → ((j : ℕ) → j < length xs → f (get_or xs j d) ≡ g (get_or xs j d)) → map f xs ≡ map g xs
 map-same f g [] d h = refl
 map-same f g (x ∷ xs) d h = let first = h 0 (omega arith) in let rest = map-same f g xs d (λ j k. h (suc j) (omega arith)) in cc

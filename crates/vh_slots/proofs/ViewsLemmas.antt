@@ -10,19 +10,19 @@ use Rattle.vh_slots.specs.declared.slots.TheConstants.{GENERATIONS}
 use Rattle.vh_slots.specs.declared.slots.Key.{Key}
 use Rattle.vh_slots.specs.declared.slots.Slot.{Slot}
 use Rattle.vh_slots.specs.Table.{Cell, value_at, held_count, is_full, is_free, with_cell, Gives, GivesBy}
-use Rattle.vh_slots.specs.Views.{nothing, slot_at, place_in, has, IsApart, Chains, is_over, value_in, cell_of, table_in, IsSound}
+use Rattle.vh_slots.specs.Views.{nothing, slot_at, position_in, has, IsApart, Chains, is_over, value_in, cell_of, table_in, IsSound}
 use Rattle.vh_slots.proofs.ListsLemmas.{map-same, map-write, map-append, bit, count-write, count-append, count-same, has-head, has-tail, has-rest, any-none, any-mapped, get-mapped, at-before, at-end, at-past, length-mapped}
 
 -- A key that is found, by its slot
-pub place-found : (g : ℕ) (slots : List Slot) (i k : ℕ) → place_in g (slice_get slots i) ≡ Some k
+pub position-found : (g : ℕ) (slots : List Slot) (i k : ℕ) → position_in g (slice_get slots i) ≡ Some k
     → (i < length slots) × ((slot_at slots i).generation ≡ g) × ((slot_at slots i).at ≡ Some k)
-place-found g [] i k h = cc
-place-found g (s ∷ slots) zero k h =
+position-found g [] i k h = cc
+position-found g (s ∷ slots) zero k h =
     elim (eqb_tells s.generation g) [
       | inl e ↦ (omega arith, e.1, sym (ap (λ (b : Bool). cond b s.at None) e.0) ∙ h)
-      | inr n ↦ let no : place_in g (Some s) ≡ None = rw n.0 refl in cc
+      | inr n ↦ let no : position_in g (Some s) ≡ None = rw n.0 refl in cc
     ]
-place-found g (s ∷ slots) (suc i) k h = let rest = place-found g slots i k h in (omega (arith, rest.0), rest.1, rest.2)
+position-found g (s ∷ slots) (suc i) k h = let rest = position-found g slots i k h in (omega (arith, rest.0), rest.1, rest.2)
 
 -- The free slots, where another is written
 pub chain-kept : (slots : List Slot) (i : ℕ) (s : Slot) (head : Option ℕ) (xs : List ℕ) → has i xs ≡ false → Chains slots head xs
@@ -46,7 +46,7 @@ some_same a b h = cc
 module _ {T : Type 0} where
   -- What a key finds
   pub held-is : (g : ℕ) (values : Slab T) (slots : List Slot) (i : ℕ)
-      → value_at g (slice_get (map (cell_of values) slots) i) ≡ value_in values (place_in g (slice_get slots i))
+      → value_at g (slice_get (map (cell_of values) slots) i) ≡ value_in values (position_in g (slice_get slots i))
   held-is g values [] i = refl
   held-is g values (s ∷ slots) zero =
       elim (eqb_tells s.generation g) [ inl e ↦ rw e.0 refl | inr n ↦ rw n.0 refl ]
@@ -230,7 +230,7 @@ by_end P slots s p q r j =
     ]
 
 module _ {T : Type 0} where
-  -- A place without a value is no slot's
+  -- A position without a value is no slot's
   no-slot : (slots : List Slot) (values : Slab T) (head : Option ℕ) (retired first : ℕ) → IsSound slots values head retired first
       → (k : ℕ) → get values k ≡ None → (j : ℕ) → (slot_at slots j).at ≡ Some k → ⊥
   no-slot slots values head retired first h k none j at =

@@ -15,12 +15,12 @@ abbrev pub slot_at : List Slot → ℕ → Slot
 slot_at slots i = slice_index_or slots i nothing
 
 -- Where the value under a key is
-abbrev pub place_in : ℕ → Option Slot → Option ℕ
-place_in g None = None
-place_in g (Some s) = if s.generation == g then s.at else None
+abbrev pub position_in : ℕ → Option Slot → Option ℕ
+position_in g None = None
+position_in g (Some s) = if s.generation == g then s.at else None
 
-abbrev pub place_of : List Slot → Key → Option ℕ
-place_of slots key = place_in key.generation (slice_get slots key.slot)
+abbrev pub position_of : List Slot → Key → Option ℕ
+position_of slots key = position_in key.generation (slice_get slots key.slot)
 
 -- A list has the number
 abbrev pub has : ℕ → List ℕ → Bool
@@ -41,7 +41,7 @@ abbrev pub is_over : Slot → Bool
 is_over s = s.generation == GENERATIONS
 
 module _ {T : Type 0} where
-  -- The value at a place
+  -- The value at a position
   abbrev pub value_in : Slab T → Option ℕ → Option T
   value_in values None = None
   value_in values (Some k) = get values k

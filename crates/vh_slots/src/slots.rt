@@ -1,7 +1,7 @@
 ghost use Rattle.std.specs.Prelude.{◌≡◌, ◌<◌, ◌-◌, ◌^◌, [], None, Some, false, length, IfOk, IfErr, OnErr, IfSome, count_by};
 ghost use Rattle.std.specs.Option.{option_copied};
 ghost use Rattle.vh_slots.specs.Table.{Table, held, is_full, is_retired, after_take, after_replace, Gives, HandsBack};
-ghost use Rattle.vh_slots.specs.Views.{place_of};
+ghost use Rattle.vh_slots.specs.Views.{position_of};
 
 use slab::Slab;
 use std::alloc::Global;
@@ -122,7 +122,7 @@ impl<T: Drop> Slots<T> {
     pub fn get(&self, key: Key) -> Option<&T>
         ensures { option_copied result ≡ held key self.now }
     {
-        let at = place(&self.slots, key)?;
+        let at = position(&self.slots, key)?;
         self.values.get(at)
     }
 
@@ -132,7 +132,7 @@ impl<T: Drop> Slots<T> {
         ensures taken { IfSome result (λ _. self.new ≡ after_take key self.old) }
         ensures kept { result ≡ None → self.new ≡ self.old }
     {
-        let at = place(&self.slots, key)?;
+        let at = position(&self.slots, key)?;
         let value = self.values.remove(at);
         let generation = u64::from(key.generation) + 1;
         if generation == GENERATIONS {
@@ -153,7 +153,7 @@ impl<T: Drop> Slots<T> {
         Some(value)
     }
 
-    /// Puts a value in the place of another, under the same key, and hands the other back; hands
+    /// Puts a value in the position of another, under the same key, and hands the other back; hands
     /// the value itself back where none is held under the key.
     pub fn replace(&mut self, key: Key, value: T) -> Result<T, T>
         ensures old { IfOk result (λ old. held key self.old ≡ Some old) }
@@ -161,7 +161,7 @@ impl<T: Drop> Slots<T> {
         ensures none { IfErr result (λ back. (held key self.old ≡ None) × (back ≡ value)) }
         ensures kept { OnErr result (self.new ≡ self.old) }
     {
-        let Some(at) = place(&self.slots, key) else {
+        let Some(at) = position(&self.slots, key) else {
             return Err(value);
         };
         let old = self.values.remove(at);
@@ -185,8 +185,8 @@ impl<T: Drop> Slots<T> {
 }
 
 // Where the value under a key is.
-fn place(slots: &Vec<Slot>, key: Key) -> Option<usize>
-    ensures { result ≡ place_of slots.now.items key }
+fn position(slots: &Vec<Slot>, key: Key) -> Option<usize>
+    ensures { result ≡ position_of slots.now.items key }
 {
     let slot = slots.get(key.slot as usize)?;
     if slot.generation == u64::from(key.generation) {

@@ -11,7 +11,7 @@ use Rattle.vh_logic.specs.declared.digits.Digit.{Digit}
 use Rattle.vh_logic.specs.declared.digits.Digit.TheVariants.{Zero, One, X, Z}
 use Rattle.vh_logic.specs.Digit.{is_same, test_digit}
 use Rattle.vh_logic.specs.Compare.{case_equality}
-use Rattle.vh_logic.specs.Vector.{Vector, width_of, all_places}
+use Rattle.vh_logic.specs.Vector.{Vector, width_of, all_positions}
 use Rattle.vh_logic.proofs.Tables.{same_digit}
 use Rattle.vh_design_nodes.specs.Fits.{same_sign}
 use Rattle.vh_store.specs.declared.record.Record.{Record as Kept}
@@ -50,17 +50,17 @@ same_itself One = refl
 same_itself X = refl
 same_itself Z = refl
 
-same_digits : (ds es : List Digit) → length ds ≡ length es → all_places is_same ds es ≡ true → ds ≡ es
-unfolding all_places
+same_digits : (ds es : List Digit) → length ds ≡ length es → all_positions is_same ds es ≡ true → ds ≡ es
+unfolding all_positions
 same_digits [] [] len h = refl
 same_digits [] (e ∷ es) len h = cc
 same_digits (d ∷ ds) [] len h = cc
 same_digits (d ∷ ds) (e ∷ es) len h =
-    ap (λ (x : Digit). x ∷ ds) (same_digit d e (and_left (is_same d e) (all_places is_same ds es) h))
-    ∙ ap (λ (xs : List Digit). e ∷ xs) (same_digits ds es (omega arith) (and_right (is_same d e) (all_places is_same ds es) h))
+    ap (λ (x : Digit). x ∷ ds) (same_digit d e (and_left (is_same d e) (all_positions is_same ds es) h))
+    ∙ ap (λ (xs : List Digit). e ∷ xs) (same_digits ds es (omega arith) (and_right (is_same d e) (all_positions is_same ds es) h))
 
-all_same : (ds : List Digit) → all_places is_same ds ds ≡ true
-unfolding all_places
+all_same : (ds : List Digit) → all_positions is_same ds ds ≡ true
+unfolding all_positions
 all_same [] = refl
 all_same (d ∷ ds) = rw (same_itself d, all_same ds) refl
 
@@ -74,7 +74,7 @@ test_one false h = cc
 -- Two values of one width and sign are the same where they compare as the same.
 pub same_values : (a b : Vector) → width_of a ≡ width_of b → a.signed ≡ b.signed → case_equality a b ≡ One → a ≡ b
 same_values a b len sign one =
-    ap (λ (ds : List Digit). of_parts ds a.signed) (same_digits a.digits b.digits len (test_one (all_places is_same a.digits b.digits) one))
+    ap (λ (ds : List Digit). of_parts ds a.signed) (same_digits a.digits b.digits len (test_one (all_positions is_same a.digits b.digits) one))
     ∙ ap (λ (s : Bool). of_parts b.digits s) sign
 
 pub equal_to_itself : (a : Vector) → case_equality a a ≡ One
@@ -101,7 +101,7 @@ pub value_is : (a b : Vector) → same_value a b ≡ true → a ≡ b
 value_is a b h =
     let w = width_of a == width_of b in
     let g = same_sign a.signed b.signed in
-    let ds = all_places is_same a.digits b.digits in
+    let ds = all_positions is_same a.digits b.digits in
     let len = width_is (width_of a) (width_of b) (and_left w g (and_left (w && g) ds h)) in
     let sign = sign_is a.signed b.signed (and_right w g (and_left (w && g) ds h)) in
     ap (λ (ds : List Digit). of_parts ds a.signed) (same_digits a.digits b.digits len (and_right (w && g) ds h))

@@ -1,4 +1,4 @@
--- A vector that is made of two vectors' planes, by the table of what is done to the four bits at a place.
+-- A vector that is made of two vectors' planes, by the table of what is done to the four bits at a position.
 use Rattle.std.proofs.Common.{◌≡◌, ℕ, ◌+◌, ◌*◌, ◌/◌, ◌%◌, ◌<◌, List, [], ◌∷◌, Bool, true, length, refl, ap, arith}
 use Rattle.std.specs.Int.{bit_at}
 use Rattle.vh_logic.specs.declared.digits.Digit.{Digit}

@@ -1,4 +1,4 @@
--- How drivers' digits are joined, place by place and in any order.
+-- How drivers' digits are joined, position by position and in any order.
 use Rattle.std.proofs.Common.{◌≡◌, ◌∙◌, ℕ, zero, suc, ◌+◌, ◌-◌, ◌<◌, ◌≤◌, min, nat_lt, List, [], ◌∷◌, ◌++◌, map, length, take, drop, replicate, get_or, Bool, true, false, ◌&&◌, ⊎_elim, refl, ap, sym, arith, length-append, length-drop}
 use Rattle.std.specs.List.{fold}
 use Rattle.std.specs.Prelude.{slice_index_or}
@@ -17,7 +17,7 @@ use Rattle.vh_store.specs.declared.net.Driven.{Driven}
 use Rattle.vh_store.specs.Resolution.{wire_digit, wired_and_digit, wired_or_digit, digit_joined, digits_inside, placed, with_driver}
 use Rattle.vh_store.specs.Laws.{digit_given, JoinsDigits, HasNoOrder}
 
--- Two digits that are joined one after the other may change places.
+-- Two digits that are joined one after the other may change positions.
 abbrev swaps : (Digit → Digit → Digit) → Digit → Digit → Digit → Bool
 swaps f c d e = is_same (f (f c d) e) (f (f c e) d)
 
@@ -58,7 +58,7 @@ has-no-order t u c d before after =
     (all-swapped t v.digits (placed u c).digits (placed u d).digits)
     ∙ sym (fold-append F u before (d ∷ c ∷ after))
 
--- Digits at a place of what is joined.
+-- Digits at a position of what is joined.
 joined-at : (t : NetType) (xs ys : List Digit) (i : ℕ) → length xs ≡ length ys → i < length xs
     → slice_index_or (zip_digits (digit_joined t) xs ys) i Z ≡ digit_joined t (slice_index_or xs i Z) (slice_index_or ys i Z)
 unfolding zip_digits
@@ -101,7 +101,7 @@ width-by false u d is = rw is refl
 width-placed : (u : Vector) (d : Driven) → width_of (placed u d) ≡ width_of u
 width-placed u d = width-by (fits (width_of u) d) u d refl
 
--- The digit at a place of a row of z into which some digits are put.
+-- The digit at a position of a row of z into which some digits are put.
 under : (w low i : ℕ) (ps : List Digit) → low < w → i < low
     → get_or (take low (replicate w Z) ++ (ps ++ drop (low + length ps) (replicate w Z))) i Z ≡ Z
 under w low i ps inside below =

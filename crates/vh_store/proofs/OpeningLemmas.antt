@@ -12,10 +12,10 @@ use Rattle.vh_design_nodes.specs.declared.object.ObjectInfo.{ObjectInfo}
 use Rattle.vh_design_nodes.specs.Kinds.{rank, is_net, is_memory}
 use Rattle.vh_design.specs.Shape.{Shape}
 use Rattle.vh_store.specs.declared.net.Driven.{Driven}
-use Rattle.vh_store.specs.declared.store.DriverPlace.{DriverPlace}
+use Rattle.vh_store.specs.declared.store.DriverPosition.{DriverPosition}
 use Rattle.vh_store.specs.Contents.{Record, Net, net, plain, with_record}
 use Rattle.vh_store.specs.Opening.{table_of, undriven, opening_record, opening_driver, opening_wired, with_one_driver, count_at, Wired, wired}
-use Rattle.vh_store.specs.Laws.{is_driver_of, HasItsDrivers, HasItsPlace}
+use Rattle.vh_store.specs.Laws.{is_driver_of, HasItsDrivers, HasItsPosition}
 
 -- One record is set.
 set-here : {X : Type 0} (rs : List X) (o : ℕ) (r new : X) → slice_get rs o ≡ Some r → slice_get (slice_set rs o new) o ≡ Some new
@@ -94,11 +94,11 @@ get-last : {X : Type 0} (xs : List X) (x : X) → slice_get (xs ++ x ∷ []) (le
 get-last [] x = refl
 get-last (z ∷ xs) x = get-last xs x
 
--- What has its place keeps it.
-place-stays : (w : Wired) (xs : List DriverInfo) (k : ℕ) (p : DriverPlace) → slice_get w.drivers k ≡ Some p
+-- What has its position keeps it.
+position-stays : (w : Wired) (xs : List DriverInfo) (k : ℕ) (p : DriverPosition) → slice_get w.drivers k ≡ Some p
     → slice_get (fold wired w xs).drivers k ≡ Some p
-place-stays w [] k p there = there
-place-stays w (x ∷ xs) k p there = place-stays (wired w x) xs k p (get-front w.drivers _ k p there)
+position-stays w [] k p there = there
+position-stays w (x ∷ xs) k p there = position-stays (wired w x) xs k p (get-front w.drivers _ k p there)
 
 count-of : (r : Option Record) (n : Net) (ys : List Driven) → r ≡ Some (driven_net n ys) → count_at r ≡ length ys
 count-of r n ys is = ap count_at is
@@ -127,40 +127,40 @@ more-before : (o : ℕ) (x : DriverInfo) (xs : List DriverInfo) (b : Bool) → i
 more-before o x xs true is = rw is (omega arith)
 more-before o x xs false is = rw is (omega arith)
 
-abbrev driver_place : ℕ → ℕ → DriverPlace
-driver_place o k = record { object = o; index = k }
+abbrev driver_position : ℕ → ℕ → DriverPosition
+driver_position o k = record { object = o; index = k }
 
-its-place : (w : Wired) (xs : List DriverInfo) (x : ℕ) (i : DriverInfo) (n : Net) (ys : List Driven) → slice_get xs x ≡ Some i
+its-position : (w : Wired) (xs : List DriverInfo) (x : ℕ) (i : DriverInfo) (n : Net) (ys : List Driven) → slice_get xs x ≡ Some i
     → slice_get w.records i.object ≡ Some (driven_net n ys)
     → slice_get (fold wired w xs).drivers (length w.drivers + x)
     ≡ Some (record { object = i.object; index = length ys + length (filter (is_driver_of i.object) (take x xs)) })
-its-place w [] x i n ys here there = absurd (cc)
-its-place w (j ∷ xs) zero i n ys here there =
+its-position w [] x i n ys here there = absurd (cc)
+its-position w (j ∷ xs) zero i n ys here there =
     let same : j ≡ i = cc in
     let count = count-of (slice_get w.records i.object) n ys there in
-    let place = get-last w.drivers (record { object = j.object; index = count_at (slice_get w.records j.object) }) in
+    let position = get-last w.drivers (record { object = j.object; index = count_at (slice_get w.records j.object) }) in
     let at : length w.drivers ≡ length w.drivers + 0 = omega arith in
     let none : length ys ≡ length ys + 0 = omega arith in
     ap (λ (k : ℕ). slice_get (fold wired w (j ∷ xs)).drivers k) (sym at)
-    ∙ (place-stays (wired w j) xs (length w.drivers) _ place
-    ∙ (ap (λ (y : DriverInfo). Some (driver_place y.object (count_at (slice_get w.records y.object)))) same
-    ∙ ap (λ (c : ℕ). Some (driver_place i.object c)) (count ∙ none)))
-its-place w (j ∷ xs) (suc x) i n ys here there =
+    ∙ (position-stays (wired w j) xs (length w.drivers) _ position
+    ∙ (ap (λ (y : DriverInfo). Some (driver_position y.object (count_at (slice_get w.records y.object)))) same
+    ∙ ap (λ (c : ℕ). Some (driver_position i.object c)) (count ∙ none)))
+its-position w (j ∷ xs) (suc x) i n ys here there =
     let more = one-more w j i.object n ys there (is_driver_of i.object j) refl in
     let long = length-append w.drivers (record { object = j.object; index = count_at (slice_get w.records j.object) } ∷ []) in
     let at : length (wired w j).drivers + x ≡ length w.drivers + suc x = omega (arith, long) in
     let sum = more-before i.object j (take x xs) (is_driver_of i.object j) refl in
     ap (λ (k : ℕ). slice_get (fold wired (wired w j) xs).drivers k) (sym at)
-    ∙ (its-place (wired w j) xs x i n more.0 here more.1
-    ∙ ap (λ (c : ℕ). Some (driver_place i.object c)) (omega (arith, sum, more.2)))
+    ∙ (its-position (wired w j) xs x i n more.0 here more.1
+    ∙ ap (λ (c : ℕ). Some (driver_position i.object c)) (omega (arith, sum, more.2)))
 
-pub has-its-place : HasItsPlace
-has-its-place d x i o here there is =
+pub has-its-position : HasItsPosition
+has-its-position d x i o here there is =
     let none : x ≡ 0 + x = omega arith in
     let all : length (filter (is_driver_of i.object) (take x d.drivers)) ≡ 0 + length (filter (is_driver_of i.object) (take x d.drivers)) = omega arith in
     ap (λ (k : ℕ). slice_get (opening_wired d).drivers k) none
-    ∙ (its-place (record { records = map (opening_record d.exprs) d.objects; drivers = [] }) d.drivers x i
+    ∙ (its-position (record { records = map (opening_record d.exprs) d.objects; drivers = [] }) d.drivers x i
     (record { table = table_of o.detail; undriven = undriven o; drivers = [] }) [] here
     (slice_get-map (opening_record d.exprs) d.objects i.object ∙ ap (λ (y : Option ObjectInfo). option_map (opening_record d.exprs) y) there
     ∙ ap Some (net-base d o is))
-    ∙ ap (λ (c : ℕ). Some (driver_place i.object c)) (sym all))
+    ∙ ap (λ (c : ℕ). Some (driver_position i.object c)) (sym all))

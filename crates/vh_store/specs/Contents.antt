@@ -8,13 +8,13 @@ use Rattle.std.specs.Ordering.{nat_cmp}
 use Rattle.vh_base.specs.declared.orders.Object.{Object}
 use Rattle.vh_logic.specs.declared.digits.Digit.TheVariants.{X}
 use Rattle.vh_logic.specs.Digit.{is_same}
-use Rattle.vh_logic.specs.Vector.{Vector, width_of, filled, all_places}
+use Rattle.vh_logic.specs.Vector.{Vector, width_of, filled, all_positions}
 use Rattle.vh_design_nodes.specs.declared.object.NetType.{NetType}
 use Rattle.vh_design_nodes.specs.Fits.{same_sign}
 use Rattle.vh_design_code.specs.declared.change.Change.{Change}
 use Rattle.vh_store.specs.declared.net.Driven.{Driven}
 use Rattle.vh_store.specs.declared.record.Held.{Held}
-use Rattle.vh_store.specs.declared.store.DriverPlace.{DriverPlace}
+use Rattle.vh_store.specs.declared.store.DriverPosition.{DriverPosition}
 use Rattle.vh_store.specs.Resolution.{resolution}
 
 -- A net: its type, z at each of its digits, and its drivers in order, each with its value.
@@ -38,11 +38,11 @@ pub record Record : Type 0 where
   pub procedural : Option Held
   pub force : Option Held
 
--- Each object by its number; of each driver its net and its place among the net's drivers; the last result of
+-- Each object by its number; of each driver its net and its position among the net's drivers; the last result of
 -- each call that stands in an expression, by the number of the expression; and the present time.
 pub record Contents : Type 0 where
   pub records : List Record
-  pub drivers : List DriverPlace
+  pub drivers : List DriverPosition
   pub results : List (ℕ × Vector)
   pub time : ℕ
 
@@ -95,7 +95,7 @@ shown s o = unwrap_or (found s o) (filled 1 X false)
 
 -- Two values have the same width, sign and digits.
 abbrev pub same_value : Vector → Vector → Bool
-same_value a b = width_of a == width_of b && same_sign a.signed b.signed && all_places is_same a.digits b.digits
+same_value a b = width_of a == width_of b && same_sign a.signed b.signed && all_positions is_same a.digits b.digits
 
 -- Another record of an object.
 abbrev pub with_record : Option Record → ℕ → (Record → Record) → List Record → List Record
@@ -179,7 +179,7 @@ record_deassigned r = without_assign r.procedural r
 abbrev pub deassigned : ℕ → Contents → Contents
 deassigned o s = edited o record_deassigned s
 
--- Has a driver of a net, by its place, this value? One that isn't there has every value.
+-- Has a driver of a net, by its position, this value? One that isn't there has every value.
 abbrev pub has_value : Vector → Option Driven → Bool
 has_value v None = true
 has_value v (Some d) = same_value d.value v
@@ -203,7 +203,7 @@ redriven i v (net n) = net (record n { drivers = with_value v (slice_get n.drive
 abbrev pub record_driven : ℕ → Vector → Record → Record
 record_driven i v r = if drives i v r.base then r else record r { base = redriven i v r.base; overridden = None }
 
-abbrev pub driven_at : Option DriverPlace → Vector → Contents → Contents
+abbrev pub driven_at : Option DriverPosition → Vector → Contents → Contents
 driven_at None v s = s
 driven_at (Some p) v s = edited p.object (record_driven p.index v) s
 
@@ -216,7 +216,7 @@ driver_in i (variable v) = None
 driver_in i (memory lowest words) = None
 driver_in i (net n) = option_map (λ (d : Driven). d.value) (slice_get n.drivers i)
 
-abbrev pub driver_at : Contents → DriverPlace → Option Vector
+abbrev pub driver_at : Contents → DriverPosition → Option Vector
 driver_at s p = option_and_then (λ (r : Record). driver_in p.index r.base) (slice_get s.records p.object)
 
 -- That value; one x digit where there is none.
@@ -244,7 +244,7 @@ abbrev pub whole : ℕ → Object
 whole o = record { id = o; word = None }
 
 -- The same of what is done to a driver: its net may change.
-abbrev pub IsDriven : Option DriverPlace → Contents → Contents → Option Change → Type 0
+abbrev pub IsDriven : Option DriverPosition → Contents → Contents → Option Change → Type 0
 IsDriven None old new c = c ≡ None
 IsDriven (Some p) old new c = IsChange (whole p.object) (shown old (whole p.object)) (shown new (whole p.object)) c
 

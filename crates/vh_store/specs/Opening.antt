@@ -18,7 +18,7 @@ use Rattle.vh_design_nodes.specs.Fits.{lowest_of}
 use Rattle.vh_design_nodes.specs.Kinds.{is_memory, is_net}
 use Rattle.vh_design.specs.Shape.{Shape}
 use Rattle.vh_store.specs.declared.net.Driven.{Driven}
-use Rattle.vh_store.specs.declared.store.DriverPlace.{DriverPlace}
+use Rattle.vh_store.specs.declared.store.DriverPosition.{DriverPosition}
 use Rattle.vh_store.specs.Contents.{Assigned, variable, memory, net, Record, plain, with_record, Contents, answered}
 
 -- X at each digit of an object.
@@ -77,7 +77,7 @@ opening_record ns i = plain (opening_base ns i)
 -- Objects, and where their drivers are.
 pub record Wired : Type 0 where
   pub records : List Record
-  pub drivers : List DriverPlace
+  pub drivers : List DriverPosition
 
 -- A driver is z at each digit, behind those that its net has.
 abbrev pub opening_driver : DriverInfo → Driven

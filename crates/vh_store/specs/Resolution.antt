@@ -41,11 +41,11 @@ digit_joined net.TriOr = wired_or_digit
 abbrev pub joined : NetType → Vector → Vector → Vector
 joined t a b = record { digits = zip_digits (digit_joined t) a.digits b.digits; signed = a.signed }
 
--- The digits of a driver that have a place in a net, those below the net's lowest and past its highest being driven nowhere.
+-- The digits of a driver that have a position in a net, those below the net's lowest and past its highest being driven nowhere.
 abbrev pub digits_inside : ℕ → Driven → Vector
 digits_inside width d = part_of d.value d.below (min (width_of d.value - d.below) (width - d.low))
 
--- These digits at their place in the net, z at all others.
+-- These digits at their position in the net, z at all others.
 abbrev pub placed : Vector → Driven → Vector
 placed undriven d =
     if nat_lt d.low (width_of undriven) && nat_lt d.below (width_of d.value)

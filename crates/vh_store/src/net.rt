@@ -12,7 +12,7 @@ use vh_base::NoMemory;
 use vh_design_nodes::NetType;
 use vh_logic::{Vec4, replace, select};
 
-// A driver of a net: its value, of whose digits so many lie below the net's lowest, and the place
+// A driver of a net: its value, of whose digits so many lie below the net's lowest, and the position
 // of the next.
 #[derive(Clone, Copy)]
 pub(crate) struct Driven {
@@ -48,7 +48,7 @@ impl Model for Net {
         × (width_of n.resolved ≡ width_of n.undriven) };
 }
 
-// The digits of a driver at their place in a net.
+// The digits of a driver at their position in a net.
 fn placed(undriven: &Vec4, driver: &Driven) -> Vec4
     ensures value { result ≡ placed undriven.now driver.now }
     ensures width { width_of result ≡ width_of undriven.now }
@@ -96,7 +96,7 @@ impl Net {
         self.resolved
     }
 
-    // The value of a driver by its place.
+    // The value of a driver by its position.
     pub(crate) fn driven(&self, index: u32) -> Option<Vec4>
         ensures { result ≡ option_map (λ d. d.value) (slice_get self.now.drivers index) }
     {

@@ -10,7 +10,7 @@ ghost use Rattle.vh_store.specs.Views.{assigned_of, record_of};
 
 use crate::net::Net;
 use crate::record::{Base, Record};
-use crate::store::DriverPlace;
+use crate::store::DriverPosition;
 use std::alloc::Global;
 use std::collections::BTreeMap;
 use vh_base::{DriverId, ExprId, NoMemory, ObjId};
@@ -114,11 +114,11 @@ pub(crate) fn opening_records(alloc: Global, d: &Design) -> Result<Vec<Record>, 
     Ok(records)
 }
 
-// A driver comes to its net, where that is there; answers its place.
+// A driver comes to its net, where that is there; answers its position.
 fn connect_one(records: &mut [Record], x: &DriverInfo) -> Result<u32, NoMemory>
     requires least { 1 ≤ x.now.width }
     requires most { x.now.width ≤ MAX_WIDTH }
-    ensures place { IfOk result
+    ensures position { IfOk result
         (λ i. i ≡ count_at (slice_get (map record_of records.old) x.now.object)) }
     ensures records { let rs = map record_of records.old in IfOk result
         (λ i. map record_of records.new
@@ -132,26 +132,26 @@ fn connect_one(records: &mut [Record], x: &DriverInfo) -> Result<u32, NoMemory>
     Ok(0)
 }
 
-// Each driver comes to its net, in order; answers their places.
+// Each driver comes to its net, in order; answers their positions.
 pub(crate) fn connect(
     alloc: Global,
     d: &Design,
     records: &mut [Record],
-) -> Result<Vec<DriverPlace>, NoMemory>
+) -> Result<Vec<DriverPosition>, NoMemory>
     ensures { IfOk result (λ ps. record { records = map record_of records.new; drivers = ps.items }
         ≡ fold wired (record { records = map record_of records.old; drivers = [] }) d.now.drivers) }
 {
     let count = d.counts().drivers;
-    let mut places = Vec::with_capacity(alloc, count as usize)?;
+    let mut positions = Vec::with_capacity(alloc, count as usize)?;
     for x in 0..count {
         let driver = d.driver(DriverId::new(x));
         let index = connect_one(records, driver)?;
-        places.push(DriverPlace {
+        positions.push(DriverPosition {
             object: driver.object,
             index,
         })?;
     }
-    Ok(places)
+    Ok(positions)
 }
 
 // Whether a call stands at an expression.

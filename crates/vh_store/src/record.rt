@@ -77,7 +77,7 @@ impl Base {
     fn connect(&mut self, x: &DriverInfo) -> Result<u32, NoMemory>
         requires least { 1 ≤ x.now.width }
         requires most { x.now.width ≤ MAX_WIDTH }
-        ensures place { IfOk result (λ i. i ≡ count_in (assigned_of self.old)) }
+        ensures position { IfOk result (λ i. i ≡ count_in (assigned_of self.old)) }
         ensures base { IfOk result
             (λ i. assigned_of self.new ≡ one_driver_more x.now (assigned_of self.old)) }
     {
@@ -252,7 +252,7 @@ impl Record {
     pub(crate) fn connect(&mut self, x: &DriverInfo) -> Result<u32, NoMemory>
         requires least { 1 ≤ x.now.width }
         requires most { x.now.width ≤ MAX_WIDTH }
-        ensures place { IfOk result (λ i. i ≡ count_in (record_of self.old).base) }
+        ensures position { IfOk result (λ i. i ≡ count_in (record_of self.old).base) }
         ensures known { IfOk result
             (λ i. record_of self.new ≡ with_one_driver x.now (record_of self.old)) }
     {
@@ -287,8 +287,8 @@ impl Record {
 fn word_at(lowest: u32, words: &[Vec4], at: u32) -> Option<Vec4>
     ensures { result ≡ word_at lowest words.now at }
 {
-    let place = at.checked_sub(lowest)?;
-    words.get(place as usize).copied()
+    let position = at.checked_sub(lowest)?;
+    words.get(position as usize).copied()
 }
 
 // Another word at an address, where the memory has it.
@@ -298,8 +298,8 @@ fn put_word(lowest: u32, words: &mut [Vec4], at: u32, v: &Vec4)
     if at < lowest {
         return;
     }
-    let place = (at - lowest) as usize;
-    if place < words.len() {
-        words[place] = *v;
+    let position = (at - lowest) as usize;
+    if position < words.len() {
+        words[position] = *v;
     }
 }

@@ -1,6 +1,6 @@
 ghost use Rattle.std.specs.Prelude.{◌≡◌};
 ghost use Rattle.vh_logic.specs.Digit.{is_same};
-ghost use Rattle.vh_logic.specs.Vector.{width_of, all_places};
+ghost use Rattle.vh_logic.specs.Vector.{width_of, all_positions};
 ghost use Rattle.vh_store.specs.Contents.{same_value, IsChange};
 
 use vh_base::Object;
@@ -18,7 +18,7 @@ pub fn is_same_value(a: &Vec4, b: &Vec4) -> bool
 // Have two values of the same width and sign the same digits?
 fn has_same_digits(a: &Vec4, b: &Vec4) -> bool
     requires { width_of a.now ≡ width_of b.now }
-    ensures { result ≡ all_places is_same a.now.digits b.now.digits }
+    ensures { result ≡ all_positions is_same a.now.digits b.now.digits }
 {
     matches!(case_equal(a, b), Digit::One)
 }

@@ -20,9 +20,9 @@ use vh_base::{DriverId, ExprId, NoMemory, ObjId, Object};
 use vh_design::{Change, Design};
 use vh_logic::{Digit, Vec4};
 
-// A driver's net, and its place among the net's drivers.
+// A driver's net, and its position among the net's drivers.
 #[derive(Clone, Copy)]
-pub(crate) struct DriverPlace {
+pub(crate) struct DriverPosition {
     pub(crate) object: ObjId,
     pub(crate) index: u32,
 }
@@ -31,7 +31,7 @@ pub(crate) struct DriverPlace {
 #[derive(Drop)]
 pub struct Store {
     records: Vec<Record>,
-    drivers: Vec<DriverPlace>,
+    drivers: Vec<DriverPosition>,
     results: BTreeMap<u32, Vec4, Global>,
     time: u64,
 }
@@ -136,12 +136,12 @@ impl Store {
         ensures change { IsDriven (slice_get self.old.drivers x) self.old self.new result }
         ensures time { self.new.time ≡ self.old.time }
     {
-        let place = self.place(x)?;
-        self.act(whole(place.object), &Act::Drive(place.index, *v))
+        let position = self.position(x)?;
+        self.act(whole(position.object), &Act::Drive(position.index, *v))
     }
 
-    // The place of a driver.
-    fn place(&self, x: DriverId) -> Option<DriverPlace>
+    // The position of a driver.
+    fn position(&self, x: DriverId) -> Option<DriverPosition>
         ensures { result ≡ slice_get self.now.drivers x }
     {
         self.drivers.get(x.number() as usize).copied()
@@ -157,10 +157,10 @@ impl Store {
     fn driver_found(&self, x: DriverId) -> Option<Vec4>
         ensures { result ≡ option_and_then (driver_at self.now) (slice_get self.now.drivers x) }
     {
-        let place = self.place(x)?;
+        let position = self.position(x)?;
         self.records
-            .get(place.object.number() as usize)
-            .and_then(|record| record.driven(place.index))
+            .get(position.object.number() as usize)
+            .and_then(|record| record.driven(position.index))
     }
 
     /// Forces an object, with the expression that the force follows where a statement gave it

@@ -125,8 +125,8 @@ before-colon (x ∷ xs) ys h =
 place_found : (n m : ℕ) → n < m → cond (ltb n m) (Some n) None ≡ Some n
 place_found n m h = rw (lt-ltb n m h) refl
 
-colon_place : (xs ys : List ℕ) → list_all is_lower_hex xs ≡ true → position (λ b. eqb b 58) (xs ++ (58 ∷ ys)) ≡ Some (length xs)
-colon_place xs ys h =
+colon_position : (xs ys : List ℕ) → list_all is_lower_hex xs ≡ true → position (λ b. eqb b 58) (xs ++ (58 ∷ ys)) ≡ Some (length xs)
+colon_position xs ys h =
     let at = before-colon xs ys h in
     let inside : length xs < length (xs ++ (58 ∷ ys)) = omega (arith, length-append xs (58 ∷ ys)) in
     ap (λ n. cond (ltb n (length (xs ++ (58 ∷ ys)))) (Some n) None) at ∙ place_found (length xs) (length (xs ++ (58 ∷ ys))) inside
@@ -179,7 +179,7 @@ plane-fits bit h ds short = let most : 2 ^ length ds ≤ 2 ^ MAX_WIDTH = pow_mon
 planes_at : (w : ℕ) (xs ys : List ℕ) (a b : ℕ) → list_all is_lower_hex xs ≡ true → plane_value xs ≡ Some a → plane_value ys ≡ Some b
     → parted_value w (xs ++ (58 ∷ ys)) (position (λ c. eqb c 58) (xs ++ (58 ∷ ys))) ≡ Some (digits_alone (digits_of w a b))
 planes_at w xs ys a b hex e f =
-    ap (λ (o : Option ℕ). parted_value w (xs ++ (58 ∷ ys)) o) (colon_place xs ys hex)
+    ap (λ (o : Option ℕ). parted_value w (xs ++ (58 ∷ ys)) o) (colon_position xs ys hex)
     ∙ ap (λ (zs : List ℕ). planes_value w (plane_value zs) (plane_value (drop (length xs + 1) (xs ++ (58 ∷ ys))))) (take_at xs (58 ∷ ys) (length xs) refl)
     ∙ ap (λ (zs : List ℕ). planes_value w (plane_value xs) (plane_value zs)) (after-colon xs ys)
     ∙ ap (λ (o : Option ℕ). planes_value w o (plane_value ys)) e

@@ -19,7 +19,7 @@ use Rattle.vh_logic.specs.Number.{binary}
 use Rattle.vh_logic.specs.Planes.{digits_of}
 use Rattle.vh_text.specs.declared.pattern.Pattern.{Pattern}
 use Rattle.vh_text.specs.Digits.{question_as_z, characters, sized_digits, is_held}
-use Rattle.vh_text.specs.Marks.{is_x_letter, is_z_letter}
+use Rattle.vh_text.specs.Symbols.{is_x_letter, is_z_letter}
 use Rattle.vh_text.specs.Literals.{natural_width, lone_letter, by_front, behind_size, after_white, size_of_number, unsigned_number}
 use Rattle.vh_text.specs.Views.{pattern_of, pattern_held, IsWidth}
 use Rattle.vh_text.proofs.ViewsLemmas.{digits_of-binary, short_or, is_held-take}

@@ -12,7 +12,7 @@ use Rattle.vh_logic.specs.contracts.digits.Digit.{the_type}
 use Rattle.vh_logic.specs.declared.digits.Digit.{Digit}
 use Rattle.vh_logic.specs.declared.digits.Digit.TheVariants.{Zero, One, X, Z}
 use Rattle.vh_logic.specs.Digit.{is_same, test_digit}
-use Rattle.vh_logic.specs.Vector.{Vector, all_places}
+use Rattle.vh_logic.specs.Vector.{Vector, all_positions}
 use Rattle.vh_logic.specs.Number.{number_of, digit_value, all_known, known_number, twos_complement, integer_at, integer_of}
 use Rattle.vh_logic.proofs.Tables.{by_digits}
 use Rattle.vh_text.specs.Texts.{groups_text, character_text}
@@ -43,12 +43,12 @@ pub is_same-comm : (d e : Digit) → is_same d e ≡ is_same e d
 is_same-comm = by_digits is_same (λ d e. is_same e d) refl
 
 -- A comparison with one digit at each place
-pub all_places-replicate : (d : Digit) (ds : List Digit) → all_places is_same ds (replicate (length ds) d) ≡ list_all (is_same d) ds
-unfolding all_places
-all_places-replicate d [] = refl
-all_places-replicate d (e ∷ ds) =
+pub all_positions-replicate : (d : Digit) (ds : List Digit) → all_positions is_same ds (replicate (length ds) d) ≡ list_all (is_same d) ds
+unfolding all_positions
+all_positions-replicate d [] = refl
+all_positions-replicate d (e ∷ ds) =
     let first = is_same-comm e d in
-    let rest = all_places-replicate d ds in
+    let rest = all_positions-replicate d ds in
     cc
 
 -- One more group below those that are written

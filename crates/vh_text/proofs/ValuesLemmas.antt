@@ -60,13 +60,13 @@ or_cases : (P : Type 0) (a b : Bool) → (a || b) ≡ true → (a ≡ true → P
 or_cases P true b h p q = p refl
 or_cases P false b h p q = q h
 
-pub spelled_digits-marks : (k : ℕ) (bs : List ℕ) → 1 ≤ k → k ≤ 4 → list_any is_literal_mark bs ≡ true → spelled_digits k bs ≡ None
+pub spelled_digits-symbols : (k : ℕ) (bs : List ℕ) → 1 ≤ k → k ≤ 4 → list_any is_literal_mark bs ≡ true → spelled_digits k bs ≡ None
 unfolding spelled_digits
-spelled_digits-marks k [] least most h = cc
-spelled_digits-marks k (b ∷ bs) least most h =
+spelled_digits-symbols k [] least most h = cc
+spelled_digits-symbols k (b ∷ bs) least most h =
     or_cases (joined_digits (spelled_digits k bs) (character_digits k b) ≡ None) (is_literal_mark b) (list_any is_literal_mark bs) h
     (λ e. ap (λ (o : Option (List Digit)). joined_digits (spelled_digits k bs) o) (mark_digits k b least most e) ∙ joined_digits-none_right (spelled_digits k bs))
-    (λ e. ap (λ (o : Option (List Digit)). joined_digits o (character_digits k b)) (spelled_digits-marks k bs least most e))
+    (λ e. ap (λ (o : Option (List Digit)). joined_digits o (character_digits k b)) (spelled_digits-symbols k bs least most e))
 
 and_false : (a b : Bool) → b ≡ false → (a && b) ≡ false
 and_false true b h = h
@@ -83,16 +83,16 @@ mark_no_digit b h =
           ]
     ]
 
-all_digits-marks : (bs : List ℕ) → list_any is_literal_mark bs ≡ true → all_ascii_digits bs ≡ false
-all_digits-marks [] h = cc
-all_digits-marks (b ∷ bs) h =
+all_digits-symbols : (bs : List ℕ) → list_any is_literal_mark bs ≡ true → all_ascii_digits bs ≡ false
+all_digits-symbols [] h = cc
+all_digits-symbols (b ∷ bs) h =
     or_cases ((is_ascii_digit b && all_ascii_digits bs) ≡ false) (is_literal_mark b) (list_any is_literal_mark bs) h
     (λ e. ap (λ (t : Bool). t && all_ascii_digits bs) (mark_no_digit b e))
-    (λ e. and_false (is_ascii_digit b) (all_ascii_digits bs) (all_digits-marks bs e))
+    (λ e. and_false (is_ascii_digit b) (all_ascii_digits bs) (all_digits-symbols bs e))
 
-pub numeral-marks : (bs : List ℕ) → (length bs ≡ 0 → ⊥) → list_any is_literal_mark bs ≡ true → numeral bs ≡ None
-numeral-marks [] h k = absurd (h refl)
-numeral-marks (b ∷ bs) h k = rw (all_digits-marks (b ∷ bs) k) refl
+pub numeral-symbols : (bs : List ℕ) → (length bs ≡ 0 → ⊥) → list_any is_literal_mark bs ≡ true → numeral bs ≡ None
+numeral-symbols [] h k = absurd (h refl)
+numeral-symbols (b ∷ bs) h k = rw (all_digits-symbols (b ∷ bs) k) refl
 
 pub numeral-plain : (bs : List ℕ) → (length bs ≡ 0 → ⊥) → list_any is_literal_mark bs ≡ false → numeral bs ≡ decimal_number (characters bs)
 numeral-plain [] h k = absurd (h refl)

@@ -20,7 +20,7 @@ use Rattle.vh_logic.specs.Planes.{digit_of, digits_of}
 use Rattle.vh_logic.specs.PlanesBack.{by_bit}
 use Rattle.vh_logic.proofs.Tables.{same_digit}
 use Rattle.vh_text.specs.declared.pattern.Pattern.{Pattern}
-use Rattle.vh_text.specs.Marks.{is_x_letter, is_z_letter}
+use Rattle.vh_text.specs.Symbols.{is_x_letter, is_z_letter}
 use Rattle.vh_text.specs.Digits.{character_digits, joined_digits, spelled_digits, question_as_z, characters, spelled_characters, fill_of, is_held}
 use Rattle.vh_text.specs.Views.{digits_alone, pattern_of, pattern_pushed}
 
@@ -69,8 +69,8 @@ pub sized_digits-same : (w : ℕ) (ds cs rest : List Digit) (f : Digit) → leng
 sized_digits-same w ds cs rest f h e = ap (λ (xs : List Digit). take w (xs ++ rest)) e ∙ sized_digits-filled w ds rest f h
 
 -- Underscores say nothing, and `?` is z
-pub characters-mark : (b : ℕ) (bs : List ℕ) → b ≡ 95 → characters (b ∷ bs) ≡ characters bs
-characters-mark b bs e = rw (eq-eqb b 95 e) refl
+pub characters-symbol : (b : ℕ) (bs : List ℕ) → b ≡ 95 → characters (b ∷ bs) ≡ characters bs
+characters-symbol b bs e = rw (eq-eqb b 95 e) refl
 
 pub characters-next : (b : ℕ) (bs : List ℕ) → (b ≡ 95 → ⊥) → characters (b ∷ bs) ≡ question_as_z b ∷ characters bs
 characters-next b bs e = rw (ne_eqb b 95 e) refl

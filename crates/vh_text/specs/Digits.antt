@@ -9,7 +9,7 @@ use Rattle.vh_logic.specs.declared.digits.Digit.TheVariants.{Zero, One, X, Z}
 use Rattle.vh_logic.specs.Digit.{is_same}
 use Rattle.vh_logic.specs.Vector.{highest}
 use Rattle.vh_logic.specs.Number.{binary}
-use Rattle.vh_text.specs.Marks.{is_x_letter, is_z_letter, question, underscore, lower_z}
+use Rattle.vh_text.specs.Symbols.{is_x_letter, is_z_letter, question, underscore, lower_z}
 
 -- The `k` binary digits, lowest first, of one character in a base of 2 ^ k digits (IEEE 1364-2005, 3.5.1)
 abbrev pub character_digits : ℕ → ℕ → Option (List Digit)

@@ -1,5 +1,5 @@
 -- The bytes that numbers and value texts are written with
-pub mod Marks
+pub mod Symbols
 -- The text of a value
 pub mod Texts
 -- The digits that a text spells, and how many of them a width holds

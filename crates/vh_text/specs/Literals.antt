@@ -15,7 +15,7 @@ use Rattle.vh_text.specs.declared.literal.LiteralFault.TheVariants.{Malformed, T
 use Rattle.vh_text.specs.declared.literal.Size.{Size}
 use Rattle.vh_text.specs.declared.literal.Size.TheVariants.{Absent, Given, Beyond}
 use Rattle.vh_base.specs.Classes.{is_space}
-use Rattle.vh_text.specs.Marks.{apostrophe, is_x_letter, is_z_letter, is_sign_mark, is_number_byte, base_of}
+use Rattle.vh_text.specs.Symbols.{apostrophe, is_x_letter, is_z_letter, is_sign_byte, is_number_byte, base_of}
 use Rattle.vh_text.specs.Digits.{spelled_digits, decimal_number, spelled_characters, sized_digits, is_held}
 
 -- A literal's value
@@ -105,10 +105,10 @@ abbrev pub base_part : Size → Bool → List ℕ → Reading
 base_part size s [] = Err Malformed
 base_part size s (b ∷ bs) = digits_part size s (base_of b) (spelled_characters (after_white bs))
 
--- The mark of a signed number, if any, and what stands behind it (3.5.1)
+-- The symbol of a signed number, if any, and what stands behind it (3.5.1)
 abbrev pub signed_part : Size → List ℕ → Reading
 signed_part size [] = Err Malformed
-signed_part size (b ∷ bs) = if is_sign_mark b then base_part size true bs else base_part size false (b ∷ bs)
+signed_part size (b ∷ bs) = if is_sign_byte b then base_part size true bs else base_part size false (b ∷ bs)
 
 -- The apostrophe, and what stands behind it (3.5.1)
 abbrev pub based_value : List ℕ → Size → Reading

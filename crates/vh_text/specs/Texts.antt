@@ -11,7 +11,7 @@ use Rattle.vh_logic.specs.Number.{known_number, integer_of}
 use Rattle.vh_logic.specs.Planes.{plane_of, aval_bit, bval_bit}
 use Rattle.vh_text.specs.declared.radix.Radix.{Radix}
 use Rattle.vh_text.specs.declared.radix.Radix.TheVariants.{Binary, Octal, Hex, Decimal}
-use Rattle.vh_text.specs.Marks.{lower_x, lower_z, upper_x, upper_z, colon}
+use Rattle.vh_text.specs.Symbols.{lower_x, lower_z, upper_x, upper_z, colon}
 
 -- The letter of a group that has no number: `x` or `z` where all its digits are, else `X` where it has an x, else `Z` (17.1.1.4)
 abbrev pub unknown_letter : List Digit → ℕ

@@ -14,7 +14,7 @@ use Rattle.vh_logic.specs.Number.{signed_integer, vector_of}
 use Rattle.vh_logic.specs.Planes.{digits_of}
 use Rattle.vh_logic.specs.declared.vector.TheConstants.{MAX_WIDTH}
 use Rattle.vh_text.specs.declared.number.TheConstants.{INTEGER_WIDTH}
-use Rattle.vh_text.specs.Marks.{minus, colon, lower_x, lower_z}
+use Rattle.vh_text.specs.Symbols.{minus, colon, lower_x, lower_z}
 use Rattle.vh_text.specs.Texts.{group_count}
 use Rattle.vh_text.specs.Digits.{spelled_digits, decimal_number}
 

@@ -51,7 +51,7 @@ pub(crate) fn is_held(v: &Vec4, width: u32) -> bool
     is_all(&select(v, width, v.width() - width), fill)
 }
 
-// The digits cut at the left, or filled, to a width, with a sign mark.
+// The digits cut at the left, or filled, to a width, with a sign symbol.
 pub(crate) fn sized_digits(v: &Vec4, width: u32, signed: bool) -> Vec4
     requires least { 1 ≤ width }
     requires most { width ≤ MAX_WIDTH }

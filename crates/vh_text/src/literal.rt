@@ -4,14 +4,14 @@ ghost use Rattle.std.specs.Option.{option_map};
 ghost use Rattle.vh_logic.specs.declared.digits.Digit.{Digit};
 ghost use Rattle.vh_text.specs.Digits.{characters, spelled_characters};
 ghost use Rattle.vh_text.specs.Literals.{literal, plain_value, size_of_number, natural_width, plain_digits, width_by, at_width, of_number, number_value, pattern_value, lone_letter, decimal_part, digits_part, base_part, signed_part, based_value};
-ghost use Rattle.vh_text.specs.Marks.{base_of};
+ghost use Rattle.vh_text.specs.Symbols.{base_of};
 ghost use Rattle.vh_text.specs.Views.{pattern_of, pattern_held, number_kept, number_held, IsWidthIfSome, HasWidth};
 
 use crate::digits::{is_held, sized_digits};
 use crate::number::{INTEGER_WIDTH, Number, read_number, unsigned_number};
 use crate::pattern::{Pattern, read_pattern, z_of_question};
 use crate::radix::Radix;
-use crate::scan::{after_white, is_sign_mark, is_x_letter, is_z_letter, number_len};
+use crate::scan::{after_white, is_sign_byte, is_x_letter, is_z_letter, number_len};
 use thiserror::Error;
 use vh_logic::{Digit, MAX_WIDTH, NATURAL_WIDTHS, Plane, Vec4};
 
@@ -84,7 +84,7 @@ fn plain_value(number: Option<Number>) -> Result<Vec4, LiteralFault>
     of_number(&number, true, plain_width(&number))
 }
 
-// What stands behind the size: an apostrophe, the mark of a sign, a base, digits.
+// What stands behind the size: an apostrophe, the symbol of a sign, a base, digits.
 fn based_value(bytes: &[u8], size: Size) -> Result<Vec4, LiteralFault>
     requires { HasWidth size }
     ensures { result ≡ based_value bytes.now size }
@@ -107,7 +107,7 @@ fn signed_part(size: Size, bytes: &[u8]) -> Result<Vec4, LiteralFault>
     let Some((first, rest)) = bytes.split_first() else {
         return Err(LiteralFault::Malformed);
     };
-    if is_sign_mark(*first) {
+    if is_sign_byte(*first) {
         base_part(size, true, rest)
     } else {
         base_part(size, false, bytes)

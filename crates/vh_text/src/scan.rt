@@ -1,7 +1,7 @@
 ghost use Rattle.std.specs.Prelude.{◌≡◌, ◌≤◌, length};
 ghost use Rattle.std.specs.List.{prefix_len};
 ghost use Rattle.vh_base.specs.Classes;
-ghost use Rattle.vh_text.specs.Marks.{is_number_byte, is_x_letter, is_z_letter, is_sign_mark};
+ghost use Rattle.vh_text.specs.Symbols.{is_number_byte, is_x_letter, is_z_letter, is_sign_byte};
 ghost use Rattle.vh_text.specs.Literals.{after_white};
 
 use vh_base::is_space;
@@ -51,9 +51,9 @@ pub(crate) fn is_z_letter(b: u8) -> bool
     b == b'z' || b == b'Z'
 }
 
-// The mark of a signed number, in either case.
-pub(crate) fn is_sign_mark(b: u8) -> bool
-    ensures { result ≡ is_sign_mark b }
+// The symbol of a signed number, in either case.
+pub(crate) fn is_sign_byte(b: u8) -> bool
+    ensures { result ≡ is_sign_byte b }
 {
     b == b's' || b == b'S'
 }

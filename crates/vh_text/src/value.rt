@@ -1,7 +1,7 @@
 ghost use Rattle.std.specs.Prelude.{◌≡◌, ◌≤◌, ◌<◌, ◌==◌, ◌||◌, ℕ, Option, length, IfSome, if◌then◌else◌, IsTrue};
 ghost use Rattle.std.specs.Char.{digit_value};
 ghost use Rattle.std.specs.List.{list_any, position};
-ghost use Rattle.vh_text.specs.Marks.{colon};
+ghost use Rattle.vh_text.specs.Symbols.{colon};
 ghost use Rattle.std.specs.Option.{option_map};
 ghost use Rattle.vh_text.specs.Digits.{spelled_digits};
 ghost use Rattle.vh_text.specs.Views.{pattern_of, number_kept};
@@ -68,14 +68,14 @@ fn plain_pattern(bytes: &[u8], group: u32) -> Option<Pattern>
     requires begun { 0 < length bytes.now }
     ensures { result ≡ option_map pattern_of (spelled_digits group bytes.now) }
 {
-    if has_literal_marks(bytes) {
+    if has_literal_symbols(bytes) {
         return None;
     }
     read_pattern(bytes, group)
 }
 
 // Whether a byte is one that literals alone may have.
-fn has_literal_marks(bytes: &[u8]) -> bool
+fn has_literal_symbols(bytes: &[u8]) -> bool
     ensures { result ≡ list_any (λ b. b == 95 || b == 63) bytes.now }
 {
     bytes.iter().any(|b| *b == b'_' || *b == b'?')
@@ -88,7 +88,7 @@ fn numeral(bytes: &[u8]) -> Option<Number>
     if bytes.is_empty() {
         return None;
     }
-    if has_literal_marks(bytes) {
+    if has_literal_symbols(bytes) {
         return None;
     }
     read_number(bytes)
@@ -190,14 +190,14 @@ fn planes_value(bytes: &[u8], width: u32) -> Option<Vec4>
     requires most { width ≤ MAX_WIDTH }
     ensures { result ≡ value_of_text Format.VpiVectorVal width bytes.now }
 {
-    let middle = colon_place(bytes)?;
+    let middle = colon_position(bytes)?;
     let aval = plane_value(&bytes[..middle])?;
     let bval = plane_value(&bytes[middle + 1..])?;
     Some(Vec4::from_planes(width, aval, bval, false))
 }
 
 // The place of the first colon.
-fn colon_place(bytes: &[u8]) -> Option<usize>
+fn colon_position(bytes: &[u8]) -> Option<usize>
     ensures value { result ≡ position (λ b. b == colon) bytes.now }
     ensures inside { IfSome result (λ i. i < length bytes.now) }
 {

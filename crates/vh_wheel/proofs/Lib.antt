@@ -11,4 +11,4 @@ pub mod SchedulesLemmas
 -- Walks over a bucket
 pub mod WalkLemmas
 -- Words that say which buckets have nodes
-pub mod MarksLemmas
+pub mod FlagsLemmas

@@ -129,7 +129,7 @@ lies-new = record {
   apart = λ a. subst IsApart (sym (get_or-copies 2049 [] a)) tt;
 }
 
--- Another node in a node's place, and in the list of its bucket
+-- Another node in a node's position, and in the list of its bucket
 bucket-set : (ns : List Node) (x y : ℕ) (n : Node) → x < length ns → y ≡ x → bucket_at (set ns x n) y ≡ n.bucket
 bucket-set ns x y n h e = ap (λ z. bucket_at (set ns x n) z) e ∙ ap (λ (m : Node). m.bucket) (get_or-set_same ns x n nowhere h)
 

@@ -5,7 +5,7 @@ use Rattle.std.proofs.lemmas.List.{get_or-set_same, get_or-set_other, get_or_app
 use Rattle.std.proofs.Math.Seq.{get_or-append_seam, map-set_same}
 use Rattle.vh_wheel.specs.declared.node.Node.{Node}
 use Rattle.vh_wheel.specs.Schedule.{Entry, moves_of}
-use Rattle.vh_wheel.specs.Views.{bucket_from, nowhere, node_at, bucket_at, with_bucket, entry_of, entries_of, HasPlace, ArePlaced, AreLater, IsMoving, AreMoving, moves_at, moves_of_all}
+use Rattle.vh_wheel.specs.Views.{bucket_from, nowhere, node_at, bucket_at, with_bucket, entry_of, entries_of, HasPosition, ArePlaced, AreLater, IsMoving, AreMoving, moves_at, moves_of_all}
 use Rattle.vh_wheel.proofs.TimesLemmas.{bucket-stays, level-falls, moves-of-bucket, bucket-now, same-bucket, other-bucket, same-level}
 use Rattle.vh_wheel.proofs.NodesLemmas.{entry-moved, moves-set, moves-held}
 
@@ -41,14 +41,14 @@ entries-add (m ∷ ns) n = ap (λ (es : List (Option Entry)). entry_of m ∷ es)
 pub are-moving : (p t b : ℕ) (ns : List Node) → p ≤ t → AreLater t ns → ArePlaced p ns → b ≡ bucket_from 7 p t → 256 ≤ b → AreMoving t b ns
 are-moving p t b ns h later placed is high x k held =
     let n : Node = node_at ns x in
-    let place : HasPlace p n = placed x k held in
+    let position : HasPosition p n = placed x k held in
     let after : t ≤ n.time = later x k held in
     record {
       later = after;
-      fits = place.fits;
+      fits = position.fits;
       falls = λ e.
-          let level = moves-of-bucket p n.time place.fits in
-          let at : bucket_from 7 p n.time ≡ b = sym place.bucket ∙ e in
+          let level = moves-of-bucket p n.time position.fits in
+          let at : bucket_from 7 p n.time ≡ b = sym position.bucket ∙ e in
           let of_b : b / 256 ≡ moves_of p n.time = ap (λ m. m / 256) (sym at) ∙ level in
           elim (cases_eq n.time t) [
             | inl s ↦
@@ -58,10 +58,10 @@ are-moving p t b ns h later placed is high x k held =
                 let falls = level-falls 7 p t n.time h after (at ∙ is) s in
                 omega (arith, falls, of_b)
           ];
-      moved = λ ne. place.bucket ∙ sym (bucket-stays 7 p t n.time h after (λ s. ne (place.bucket ∙ s ∙ sym is)));
+      moved = λ ne. position.bucket ∙ sym (bucket-stays 7 p t n.time h after (λ s. ne (position.bucket ∙ s ∙ sym is)));
     }
 
--- And where that is of the lowest level, all have their places
+-- And where that is of the lowest level, all have their positions
 settled : (p t u : ℕ) → p ≤ t → t ≤ u → u < 2 ^ 64 → bucket_from 7 p t < 256 → bucket_from 7 p u ≡ bucket_from 7 t u
 settled p t u h l fits low =
     elim (cases_eq (bucket_from 7 p u) (bucket_from 7 p t)) [
@@ -82,12 +82,12 @@ settled p t u h l fits low =
 
 pub are-settled : (p t : ℕ) (ns : List Node) → p ≤ t → AreLater t ns → ArePlaced p ns → bucket_from 7 p t < 256 → ArePlaced t ns
 are-settled p t ns h later placed low x k held =
-    let place = placed x k held in
+    let position = placed x k held in
     let after = later x k held in
     record {
       later = after;
-      fits = place.fits;
-      bucket = place.bucket ∙ settled p t (node_at ns x).time h after place.fits low;
+      fits = position.fits;
+      bucket = position.bucket ∙ settled p t (node_at ns x).time h after position.fits low;
     }
 
 -- A node that is moved

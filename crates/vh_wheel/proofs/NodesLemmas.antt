@@ -6,7 +6,7 @@ use Rattle.std.proofs.lemmas.List.Sums.{sum_by-cons}
 use Rattle.vh_links.proofs.ListsLemmas.{get_or-map}
 use Rattle.vh_wheel.specs.declared.node.Node.{Node}
 use Rattle.vh_wheel.specs.Schedule.{Entry, entry_at, is_held, least_time, sooner, has_time, moves_of, moves_in}
-use Rattle.vh_wheel.specs.Views.{nowhere, node_at, bucket_at, with_bucket, entry_of, entries_of, HasPlace, ArePlaced, moves_at, moves_of_all}
+use Rattle.vh_wheel.specs.Views.{nowhere, node_at, bucket_at, with_bucket, entry_of, entries_of, HasPosition, ArePlaced, moves_at, moves_of_all}
 use Rattle.vh_wheel.proofs.TimesLemmas.{moves-of-bucket}
 
 -- What is held under a node
@@ -138,13 +138,13 @@ moves-held n h = rw (ne_eqb n.bucket 2048 h) refl
 pub moves-free : (n : Node) → n.bucket ≡ 2048 → moves_at n ≡ 0
 moves-free n h = rw (eq-eqb n.bucket 2048 h) refl
 
-moves-cons : (p : ℕ) (n : Node) (es : List (Option Entry)) → (n.bucket ≢ 2048 → HasPlace p n) → moves_in p (entry_of n ∷ es) ≡ moves_at n + moves_in p es
+moves-cons : (p : ℕ) (n : Node) (es : List (Option Entry)) → (n.bucket ≢ 2048 → HasPosition p n) → moves_in p (entry_of n ∷ es) ≡ moves_at n + moves_in p es
 moves-cons p n es h =
     elim (cases_eq n.bucket 2048) [
       | inl b ↦ rw (eq-eqb n.bucket 2048 b) (omega arith)
       | inr b ↦
-          let place = h b in
-          let moves : n.bucket / 256 ≡ moves_of p n.time = ap (λ m. m / 256) place.bucket ∙ moves-of-bucket p n.time place.fits in
+          let position = h b in
+          let moves : n.bucket / 256 ≡ moves_of p n.time = ap (λ m. m / 256) position.bucket ∙ moves-of-bucket p n.time position.fits in
           ap (λ (o : Option Entry). moves_in p (o ∷ es)) (entry-held n b) ∙ ap (λ m. m + moves_in p es) (sym moves ∙ sym (moves-held n b))
     ]
 

@@ -8,7 +8,7 @@ use Rattle.std.proofs.lemmas.List.Sums.{sum_by-set, sum_by_push}
 use Rattle.vh_links.proofs.ListsLemmas.{length-mapped}
 use Rattle.vh_wheel.specs.declared.node.Node.{Node}
 use Rattle.vh_wheel.specs.Schedule.{Entry, Schedule, entry_at, is_held, held_in, least_time, has_time, without, after_cancel, Schedules, Takes, moves_left}
-use Rattle.vh_wheel.specs.Views.{bucket_from, nowhere, node_at, bucket_at, with_bucket, entry_of, entries_of, schedule_in, HasPlace, ArePlaced, AreLater, AreFrom, IsLeast, moves_at, moves_of_all}
+use Rattle.vh_wheel.specs.Views.{bucket_from, nowhere, node_at, bucket_at, with_bucket, entry_of, entries_of, schedule_in, HasPosition, ArePlaced, AreLater, AreFrom, IsLeast, moves_at, moves_of_all}
 use Rattle.vh_wheel.proofs.TimesLemmas.{later-bucket, level-falls, low-time, bucket-now, bucket-range, has-bytes}
 use Rattle.vh_wheel.proofs.NodesLemmas.{entry-held, entry-free, entry-is, held-node, node-held, least-is, least-none, later-all, has-no-time, all-held, moves-set, moves-add, moves-held, moves-free, moves-are}
 use Rattle.vh_wheel.proofs.MovesLemmas.{nodes-set, nodes-add, entries-set, entries-add}
@@ -25,14 +25,14 @@ least-of p ns x t placed h low from least =
     let y : ℕ = least.some.0 in
     let n : Node = node_at ns y in
     let held : n.bucket ≢ 2048 = λ e. omega (arith, e, least.some.2, low) in
-    let place : HasPlace p n = placed y least.some.1 held in
+    let position : HasPosition p n = placed y least.some.1 held in
     let is : n.time ≡ t = least.some.3 in
     ap (λ u. Some u) (sym is) ∙
     least-is (entries_of ns) y (record { time = n.time; payload = n.payload }) (node-held ns y held)
     (λ z f k.
     let other = held-node ns z f k in
     let m : Node = node_at ns z in
-    let its : HasPlace p m = placed z other.0 other.1 in
+    let its : HasPosition p m = placed z other.0 other.1 in
     let after : b ≤ m.bucket = from z other.0 in
     elim (cases_eq m.bucket b) [
       | inl e ↦ let l = least.all z other.0 e in omega (arith, l, is, other.2)
@@ -40,7 +40,7 @@ least-of p ns x t placed h low from least =
           elim (cases_lt m.time n.time) [
             | inl l ↦
                 let no = later-bucket 7 p m.time n.time its.later (omega (arith, l)) in
-                absurd (omega (arith, no, its.bucket, place.bucket, least.some.2, after, e))
+                absurd (omega (arith, no, its.bucket, position.bucket, least.some.2, after, e))
             | inr l ↦ omega (arith, l, other.2)
           ]
     ])
@@ -49,13 +49,13 @@ least-of p ns x t placed h low from least =
 pub least-low : (p : ℕ) (ns : List Node) (x : ℕ) → ArePlaced p ns → x < length ns → bucket_at ns x < 256 → IsLeast (bucket_at ns x) ns (node_at ns x).time
 least-low p ns x placed h low =
     let n : Node = node_at ns x in
-    let place : HasPlace p n = placed x h (λ e. omega (arith, e, low)) in
+    let position : HasPosition p n = placed x h (λ e. omega (arith, e, low)) in
     record {
       some = (x, h, refl, refl);
       all = λ y k e.
           let m : Node = node_at ns y in
-          let its : HasPlace p m = placed y k (λ f. omega (arith, e, f, low)) in
-          let same : m.time ≡ n.time = low-time p n.time m.time (omega (arith, low, place.bucket)) (sym its.bucket ∙ e ∙ place.bucket) in
+          let its : HasPosition p m = placed y k (λ f. omega (arith, e, f, low)) in
+          let same : m.time ≡ n.time = low-time p n.time m.time (omega (arith, low, position.bucket)) (sym its.bucket ∙ e ∙ position.bucket) in
           omega (arith, same);
     }
 
@@ -72,9 +72,9 @@ all-free p ns placed from x =
           elim (cases_eq (bucket_at ns x) 2048) [
             | inl e ↦ e
             | inr e ↦
-                let place = placed x l e in
-                let low = bucket-range 7 p (node_at ns x).time (has-bytes (node_at ns x).time place.fits) in
-                absurd (omega (arith, low, place.bucket, from x l))
+                let position = placed x l e in
+                let low = bucket-range 7 p (node_at ns x).time (has-bytes (node_at ns x).time position.fits) in
+                absurd (omega (arith, low, position.bucket, from x l))
           ]
       | inr l ↦ ap (λ (n : Node). n.bucket) (beyond ns x l)
     ]
@@ -83,12 +83,12 @@ pub none-held : (p : ℕ) (ns : List Node) → ArePlaced p ns → AreFrom 2048 n
 none-held p ns placed from = least-none (entries_of ns) (λ x. entry-is ns x ∙ entry-free (node_at ns x) (all-free p ns placed from x))
 
 -- A node of the present time's bucket has that time
-due-time : (t : ℕ) (n : Node) → HasPlace t n → n.bucket ≡ t % 256 → n.time ≡ t
-due-time t n place at =
+due-time : (t : ℕ) (n : Node) → HasPosition t n → n.bucket ≡ t % 256 → n.time ≡ t
+due-time t n position at =
     elim (cases_eq n.time t) [
       | inl e ↦ e
       | inr e ↦
-          let falls = level-falls 7 t t n.time (omega arith) place.later (sym place.bucket ∙ at ∙ sym (bucket-now t)) e in
+          let falls = level-falls 7 t t n.time (omega arith) position.later (sym position.bucket ∙ at ∙ sym (bucket-now t)) e in
           absurd (omega (arith, falls))
     ]
 
@@ -103,8 +103,8 @@ takes-none t p ns ms o old seen same placed none is =
     let nothing : has_time t (entries_of ms) ≡ false =
     has-no-time (entries_of ms) t (λ x e k s.
     let n = held-node ms x e k in
-    let place = placed x n.0 n.1 in
-    none x n.0 (place.bucket ∙ ap (λ u. bucket_from 7 t u) (n.2 ∙ s) ∙ bucket-now t)) in
+    let position = placed x n.0 n.1 in
+    none x n.0 (position.bucket ∙ ap (λ u. bucket_from 7 t u) (n.2 ∙ s) ∙ bucket-now t)) in
     subst (λ (r : Option ℕ). Takes t r old (schedule_in ms t)) (sym is)
     (sym (ap (has_time t) entries) ∙ nothing, ap (λ (es : List (Option Entry)). record { entries = es; present = t }) entries)
 
@@ -133,7 +133,7 @@ moves-seen p ns s seen placed = sym (ap moves_left seen) ∙ moves-are p ns plac
 pub freed-placed : (t x : ℕ) (ms ks : List Node) → ArePlaced t ms → x < length ms → ks ≡ set ms x (with_bucket 2048 (node_at ms x)) → ArePlaced t ks
 freed-placed t x ms ks placed h made =
     subst (λ (ns : List Node). ArePlaced t ns) (sym made)
-    (nodes-set (λ (n : Node). n.bucket ≢ 2048 → HasPlace t n) ms x (with_bucket 2048 (node_at ms x)) h (λ ne. absurd (ne refl)) placed)
+    (nodes-set (λ (n : Node). n.bucket ≢ 2048 → HasPosition t n) ms x (with_bucket 2048 (node_at ms x)) h (λ ne. absurd (ne refl)) placed)
 
 pub freed-moves : (x : ℕ) (ms ks : List Node) → x < length ms → ks ≡ set ms x (with_bucket 2048 (node_at ms x)) → moves_of_all ks ≤ moves_of_all ms
 freed-moves x ms ks h made =
@@ -189,20 +189,20 @@ schedules-add p n ns ms old seen held made =
     end (n ∷ ns) = end ns
 
 pub moves-put : (p x : ℕ) (n : Node) (ns ms : List Node) (old : Schedule) → schedule_in ns p ≡ old → x < length ns → bucket_at ns x ≡ 2048
-    → ArePlaced p ns → HasPlace p n → n.bucket < 2048 → ms ≡ set ns x n → moves_left (schedule_in ms p) ≤ moves_left old + 8
-moves-put p x n ns ms old seen h free placed place low made =
+    → ArePlaced p ns → HasPosition p n → n.bucket < 2048 → ms ≡ set ns x n → moves_left (schedule_in ms p) ≤ moves_left old + 8
+moves-put p x n ns ms old seen h free placed position low made =
     let after : ArePlaced p ms = subst (λ (ks : List Node). ArePlaced p ks) (sym made)
-    (nodes-set (λ (m : Node). m.bucket ≢ 2048 → HasPlace p m) ns x n h (λ _. place) placed) in
+    (nodes-set (λ (m : Node). m.bucket ≢ 2048 → HasPosition p m) ns x n h (λ _. position) placed) in
     let total = moves-set ns x n h in
     let none : moves_at (node_at ns x) ≡ 0 = moves-free (node_at ns x) free in
     let held : moves_at n ≡ n.bucket / 256 = moves-held n (λ e. omega (arith, e, low)) in
     omega (arith, total, none, held, low, ap moves_of_all made, moves-are p ms after, moves-seen p ns old seen placed)
 
 pub moves-more : (p : ℕ) (n : Node) (ns ms : List Node) (old : Schedule) → schedule_in ns p ≡ old
-    → ArePlaced p ns → HasPlace p n → n.bucket < 2048 → ms ≡ ns ++ n ∷ [] → moves_left (schedule_in ms p) ≤ moves_left old + 8
-moves-more p n ns ms old seen placed place low made =
+    → ArePlaced p ns → HasPosition p n → n.bucket < 2048 → ms ≡ ns ++ n ∷ [] → moves_left (schedule_in ms p) ≤ moves_left old + 8
+moves-more p n ns ms old seen placed position low made =
     let after : ArePlaced p ms = subst (λ (ks : List Node). ArePlaced p ks) (sym made)
-    (nodes-add (λ (m : Node). m.bucket ≢ 2048 → HasPlace p m) ns n (λ _. place) placed) in
+    (nodes-add (λ (m : Node). m.bucket ≢ 2048 → HasPosition p m) ns n (λ _. position) placed) in
     let total = moves-add ns n in
     let held : moves_at n ≡ n.bucket / 256 = moves-held n (λ e. omega (arith, e, low)) in
     omega (arith, total, held, low, ap moves_of_all made, moves-are p ms after, moves-seen p ns old seen placed)

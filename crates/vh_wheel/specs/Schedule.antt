@@ -74,7 +74,7 @@ Takes t None old new = (has_time t old.entries ≡ false) × (new ≡ record { e
 Takes t (Some p) old new =
     (x : ℕ) × (entry_at x old.entries ≡ Some (record { time = t; payload = p })) × (new ≡ record { entries = without x old.entries; present = t })
 
--- The moves that are left to a time: the place of the highest byte in which it differs from the present time
+-- The moves that are left to a time: the position of the highest byte in which it differs from the present time
 unfoldable pub level_from : ℕ → ℕ → ℕ → ℕ
 level_from zero now t = 0
 level_from (suc k) now t = if now / 256 == t / 256 then 0 else 1 + level_from k (now / 256) (t / 256)

@@ -39,30 +39,30 @@ pub record Lies (s : Lists) (ns : List Node) : Type 0 where
   pub apart : (a : ℕ) → IsApart (list_of a s)
 
 -- The bit of a bucket: 64 to a word
-abbrev pub mark_at : Occupied → ℕ → ℕ
-mark_at o b = bit_at (slice_index_or o.words (b / 64) 0) (b % 64)
+abbrev pub flag_at : Occupied → ℕ → ℕ
+flag_at o b = bit_at (slice_index_or o.words (b / 64) 0) (b % 64)
 
-abbrev pub mark_of : Bool → ℕ
-mark_of has_nodes = if has_nodes then 1 else 0
+abbrev pub flag_of : Bool → ℕ
+flag_of has_nodes = if has_nodes then 1 else 0
 
 -- The first bucket of the levels whose bit is set
-pub record IsFirstMark (o : Occupied) (b : ℕ) : Type 0 where
+pub record IsFirstFlag (o : Occupied) (b : ℕ) : Type 0 where
   pub low : b < 2048
-  pub there : mark_at o b ≡ 1
-  pub first : (c : ℕ) → c < b → mark_at o c ≡ 0
+  pub there : flag_at o b ≡ 1
+  pub first : (c : ℕ) → c < b → flag_at o c ≡ 0
 
 -- Has the list of a bucket nodes?
-abbrev pub list_mark : ℕ → Lists → ℕ
-list_mark b s = mark_of (is_some (slice_get (list_of b s) 0))
+abbrev pub list_flag : ℕ → Lists → ℕ
+list_flag b s = flag_of (is_some (slice_get (list_of b s) 0))
 
 -- A bit is set exactly where the list of its bucket has nodes
-abbrev pub AreMarked : Occupied → Lists → Type 0
-AreMarked o s = (b : ℕ) → b < 2049 → mark_at o b ≡ list_mark b s
+abbrev pub AreFlagged : Occupied → Lists → Type 0
+AreFlagged o s = (b : ℕ) → b < 2049 → flag_at o b ≡ list_flag b s
 
 -- What the buckets keep
 pub record IsKept (o : Occupied) (s : Lists) (ns : List Node) : Type 0 where
   pub lies : Lies s ns
-  pub marks : AreMarked o s
+  pub flags : AreFlagged o s
 
 -- What is held under a node
 abbrev pub entry_of : Node → Option Entry
@@ -76,13 +76,13 @@ abbrev pub schedule_in : List Node → ℕ → Schedule
 schedule_in ns now = record { entries = entries_of ns; present = now }
 
 -- A held node is not before the present time, and in the bucket of its time
-pub record HasPlace (now : ℕ) (n : Node) : Type 0 where
+pub record HasPosition (now : ℕ) (n : Node) : Type 0 where
   pub later : now ≤ n.time
   pub fits : n.time < 2 ^ 64
   pub bucket : n.bucket ≡ bucket_from 7 now n.time
 
 abbrev pub IsPlaced : ℕ → Node → Type 0
-IsPlaced now n = n.bucket ≢ 2048 → HasPlace now n
+IsPlaced now n = n.bucket ≢ 2048 → HasPosition now n
 
 abbrev pub ArePlaced : ℕ → List Node → Type 0
 ArePlaced now ns = (x : ℕ) → x < length ns → IsPlaced now (node_at ns x)
@@ -95,7 +95,7 @@ AreFrom b ns = (x : ℕ) → x < length ns → b ≤ bucket_at ns x
 abbrev pub AreLater : ℕ → List Node → Type 0
 AreLater t ns = (x : ℕ) → x < length ns → bucket_at ns x ≢ 2048 → t ≤ (node_at ns x).time
 
--- A held node stands in the bucket that is moved, and has fewer moves left at a new present time; or it has its place
+-- A held node stands in the bucket that is moved, and has fewer moves left at a new present time; or it has its position
 pub record IsMoving (t from : ℕ) (n : Node) : Type 0 where
   pub later : t ≤ n.time
   pub fits : n.time < 2 ^ 64

@@ -1,5 +1,5 @@
 ghost use Rattle.std.specs.Prelude.{◌≡◌, ◌≢◌, ◌<◌, ◌≤◌, ◌+◌, ◌^◌, ◌++◌, ◌∷◌, [], ℕ, None, length, slice_index_or, slice_set, IfOk, IfSome, OnErr};
-ghost use Rattle.vh_wheel.specs.Views.{nowhere, bucket_at, mark_at, list_mark, AreFrom, IsLeast};
+ghost use Rattle.vh_wheel.specs.Views.{nowhere, bucket_at, flag_at, list_flag, AreFrom, IsLeast};
 
 use crate::bucket::FREE;
 use crate::node::Node;
@@ -59,7 +59,7 @@ impl Buckets {
         Ok(number)
     }
 
-    // Another node in a node's place.
+    // Another node in a node's position.
     pub fn put(&mut self, number: u32, node: Node)
         requires number { number < length self.old }
         requires bucket { node.bucket < 2049 }
@@ -128,9 +128,9 @@ impl Buckets {
 fn clear_if_empty(occupied: &mut Occupied, links: &Links, bucket: u32)
     requires bucket { bucket < 2049 }
     requires lists { length links.now.lists ≡ 2049 }
-    requires set { mark_at occupied.old bucket ≡ 1 }
-    ensures there { mark_at occupied.new bucket ≡ list_mark bucket links.now }
-    ensures others { (b : ℕ) → b ≢ bucket → mark_at occupied.new b ≡ mark_at occupied.old b }
+    requires set { flag_at occupied.old bucket ≡ 1 }
+    ensures there { flag_at occupied.new bucket ≡ list_flag bucket links.now }
+    ensures others { (b : ℕ) → b ≢ bucket → flag_at occupied.new b ≡ flag_at occupied.old b }
 {
     if links.first(bucket).is_none() {
         occupied.clear(bucket);

@@ -1,6 +1,6 @@
 ghost use Rattle.std.specs.Prelude.{ℕ, ◌≡◌, ◌≢◌, ◌<◌, ◌≤◌, ◌+◌, None, IfSome};
 ghost use Rattle.std.specs.Int.{bit_at};
-ghost use Rattle.vh_wheel.specs.Views.{mark_at, IsFirstMark};
+ghost use Rattle.vh_wheel.specs.Views.{flag_at, IsFirstFlag};
 
 use std::sync::ledger::Ledger;
 use vh_base::Steps;
@@ -14,7 +14,7 @@ pub struct Occupied {
 impl Occupied {
     // None has.
     pub fn new() -> Occupied
-        ensures { (b : ℕ) → mark_at result b ≡ 0 }
+        ensures { (b : ℕ) → flag_at result b ≡ 0 }
     {
         Occupied { words: [0; 33] }
     }
@@ -22,34 +22,34 @@ impl Occupied {
     // Says of a bucket that it has nodes.
     pub fn set(&mut self, bucket: u32)
         requires { bucket < 2049 }
-        ensures there { mark_at self.new bucket ≡ 1 }
-        ensures others { (b : ℕ) → b ≢ bucket → mark_at self.new b ≡ mark_at self.old b }
+        ensures there { flag_at self.new bucket ≡ 1 }
+        ensures others { (b : ℕ) → b ≢ bucket → flag_at self.new b ≡ flag_at self.old b }
     {
-        let place = (bucket / 64) as usize;
-        self.words[place] = with_bit(self.words[place], bucket % 64);
+        let position = (bucket / 64) as usize;
+        self.words[position] = with_bit(self.words[position], bucket % 64);
     }
 
     // Says of a bucket that it has no nodes.
     pub fn clear(&mut self, bucket: u32)
         requires { bucket < 2049 }
-        ensures there { mark_at self.new bucket ≡ 0 }
-        ensures others { (b : ℕ) → b ≢ bucket → mark_at self.new b ≡ mark_at self.old b }
+        ensures there { flag_at self.new bucket ≡ 0 }
+        ensures others { (b : ℕ) → b ≢ bucket → flag_at self.new b ≡ flag_at self.old b }
     {
-        let place = (bucket / 64) as usize;
-        self.words[place] = without_bit(self.words[place], bucket % 64);
+        let position = (bucket / 64) as usize;
+        self.words[position] = without_bit(self.words[position], bucket % 64);
     }
 
     // The first bucket of the levels that has nodes, by a look at 32 words at most.
     pub fn first<L: Ledger>(&self, steps: &mut Steps<L>) -> Option<u32>
-        ensures some { IfSome result (λ b. IsFirstMark self.now b) }
-        ensures none { result ≡ None → (b : ℕ) → b < 2048 → mark_at self.now b ≡ 0 }
+        ensures some { IfSome result (λ b. IsFirstFlag self.now b) }
+        ensures none { result ≡ None → (b : ℕ) → b < 2048 → flag_at self.now b ≡ 0 }
         ensures steps { steps.new ≤ steps.old + 32 }
     {
-        for place in 0..32u32 {
+        for position in 0..32u32 {
             steps.tick();
-            let word = self.words[place as usize];
+            let word = self.words[position as usize];
             if word != 0 {
-                return Some(64 * place + word.trailing_zeros());
+                return Some(64 * position + word.trailing_zeros());
             }
         }
         None

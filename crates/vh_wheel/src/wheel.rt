@@ -128,7 +128,7 @@ fn free(buckets: &mut Buckets, number: u32) -> u64
     node.payload
 }
 
-// Gives each node its place at a new present time.
+// Gives each node its position at a new present time.
 fn advance<L: Ledger>(buckets: &mut Buckets, now: u64, time: u64, steps: &mut Steps<L>)
     requires now { now ≤ time }
     requires later { AreLater time buckets.old }

@@ -1,6 +1,6 @@
 use Rattle.std.proofs.Common.{◌≡◌, ◌∙◌, Some, ap, refl, length, rules}
 use Rattle.vh_bind.specs.declared.scope.Mode.TheVariants as mode
-use Rattle.vh_bind.specs.Constants.{mark_of}
+use Rattle.vh_bind.specs.Constants.{given_sign}
 use Rattle.vh_bind.specs.Views.{scope_seen}
 use Rattle.vh_bind.proofs.FoldsLemmas.{entries-more, links-more, sole_none}
 use Rattle.vh_bind.proofs.TreesLemmas.{tree-of, tree-Chain}
@@ -49,8 +49,8 @@ bind-returns-in_ok-operators-in-Chain-clause-step t c =
 pub bind_system-returns-then-arguments-ne1-clause-step : goal.bind_system-returns-then-arguments-ne1-clause-step
 bind_system-returns-then-arguments-ne1-clause-step t c =
     let other : length c.args.arguments.now ≡ 1 → ⊥ = λ one. c.if-arguments-ne1.true (ap length c.as_slice-arguments.ensures ∙ one) in
-    let mark : mark_of c.args.id.now.name ≡ Some c.in-Some.signed = search rules in
-    rw (mark, sole_none mode.Constant (scope_seen c.args.scope.now) c.args.arguments.now other) refl
+    let with_sign : given_sign c.args.id.now.name ≡ Some c.in-Some.signed = search rules in
+    rw (with_sign, sole_none mode.Constant (scope_seen c.args.scope.now) c.args.arguments.now other) refl
 
 pub bind_entries-loop-part-preserved : goal.bind_entries-loop-part-preserved
 bind_entries-loop-part-preserved t c =

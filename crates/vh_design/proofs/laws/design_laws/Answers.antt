@@ -1,5 +1,5 @@
 use Rattle.vh_design.proofs.LawsLemmas.{parts_come_before, reads_fit, nodes_are_measured, units_fit, scopes_come_before, drivers_are_of_nets, precision_fits}
-use Rattle.vh_design.proofs.CodeLawsLemmas.{codes_may_stand, bodies_may_stand, places_are_there, expressions_are_there, changes_fit, delays_fit, cases_are_measured, waits_fit, shows_fit, statements_fit}
+use Rattle.vh_design.proofs.CodeLawsLemmas.{codes_may_stand, bodies_may_stand, positions_are_there, expressions_are_there, changes_fit, delays_fit, cases_are_measured, waits_fit, shows_fit, statements_fit}
 use Rattle.vh_design.proofs.laws.design_laws.Goals as goal
 
 pub returns-clause-parts : goal.returns-clause-parts
@@ -29,8 +29,8 @@ returns-clause-codes c = codes_may_stand
 pub returns-clause-bodies : goal.returns-clause-bodies
 returns-clause-bodies c = bodies_may_stand
 
-pub returns-clause-places : goal.returns-clause-places
-returns-clause-places c = places_are_there
+pub returns-clause-positions : goal.returns-clause-positions
+returns-clause-positions c = positions_are_there
 
 pub returns-clause-changes : goal.returns-clause-changes
 returns-clause-changes c = changes_fit

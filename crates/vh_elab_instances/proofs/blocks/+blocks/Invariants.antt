@@ -2,7 +2,7 @@ use Rattle.std.proofs.Common.{◌≡◌, ◌+◌, ◌*◌, ◌-◌, map, drop}
 use Rattle.vh_ast.specs.Items.{items}
 use Rattle.vh_ast.specs.Views.{gblock_tree, item_tree}
 use Rattle.vh_elab_instances.specs.Instances.{items_made, turn_made, turns_made}
-use Rattle.vh_elab_sites.specs.Views.{block_text_seen, standing_seen}
+use Rattle.vh_elab_sites.specs.Views.{block_text_seen, around_seen}
 use Rattle.vh_elab_instances.specs.Views.{making_seen}
 use Rattle.vh_elab_instances.specs.declared.blocks.TheConstants.{MOST_TURNS}
 use Rattle.vh_elab_instances.proofs.blocks.+blocks.Given as goal
@@ -11,18 +11,18 @@ use Rattle.vh_elab_instances.proofs.blocks.+blocks.Given as goal
 abbrev pub invariant-add_turns-loop-turn : goal.invariant-add_turns-loop-turn
 invariant-add_turns-loop-turn l =
     turns_made (MOST_TURNS - l._turn)
-    (turn_made (standing_seen l.standing) l.id (gblock_tree l.block) (block_text_seen l.word))
+    (turn_made (around_seen l.around_it) l.id (gblock_tree l.block) (block_text_seen l.word))
     (making_seen l.left l.sites)
     ≡ turns_made MOST_TURNS
-    (turn_made (standing_seen l.standing) l.id (gblock_tree l.block) (block_text_seen l.word))
+    (turn_made (around_seen l.around_it) l.id (gblock_tree l.block) (block_text_seen l.word))
     (making_seen l.initial.left l.initial.sites)
 
 -- Those so far, with those that are left, are all of them.
 abbrev pub invariant-add_all-loop-item : goal.invariant-add_all-loop-item
 invariant-add_all-loop-item l =
-    items_made (standing_seen l.standing) (items (map item_tree (drop l.item-index l.items)))
+    items_made (around_seen l.around_it) (items (map item_tree (drop l.item-index l.items)))
     (making_seen l.left l.sites)
-    ≡ items_made (standing_seen l.standing) (items (map item_tree l.items))
+    ≡ items_made (around_seen l.around_it) (items (map item_tree l.items))
     (making_seen l.initial.left l.initial.sites)
 
 -- What a function hands on is smaller, or as deep and handed to one further down.

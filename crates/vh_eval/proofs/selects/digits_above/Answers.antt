@@ -8,5 +8,5 @@ returns-clause-value c =
       c.concat.ensures.value,
       c.unknown-2.ensures.value,
       c.select-2.ensures.value,
-      above_partly c.args.v.now.digits c.args.place c.args.width (c.width-2.result - c.args.place) (omega arith) (omega arith),
+      above_partly c.args.v.now.digits c.args.position c.args.width (c.width-2.result - c.args.position) (omega arith) (omega arith),
     ) refl

@@ -1,4 +1,4 @@
--- Each digit of the result is `digit_not` of the digit at its place, which the four pairs of bits show.
+-- Each digit of the result is `digit_not` of the digit at its position, which the four pairs of bits show.
 use Rattle.std.proofs.Common.{◌+◌, ◌%◌, max, rules, refl}
 use Rattle.std.proofs.lemmas.Nat.Bits.{bit_at-lt, bit_at_or, bit_at_xor, bit_at_ones}
 use Rattle.vh_logic.specs.Digit.{digit_not}

@@ -1,4 +1,4 @@
--- A plane marks the places where the test of the digits fails.
+-- A plane marks the positions where the test of the digits fails.
 use Rattle.std.proofs.Common.{◌<◌, ◌^◌, ◌+◌, ◌%◌, ap, max, eqb, rules, refl, sym, ◌∙◌}
 use Rattle.std.proofs.lemmas.Nat.Bits.{bit_at-lt, bit_at_or, bit_at_xor}
 use Rattle.vh_logic.specs.Compare.{is_same_or_unknown}
@@ -7,7 +7,7 @@ use Rattle.vh_logic.specs.Planes.{digit_of}
 use Rattle.vh_logic.proofs.PlanesLemmas.{bounds}
 use Rattle.vh_logic.proofs.Tables.{test_by_4}
 use Rattle.vh_logic.proofs.ArithmeticLemmas.{widths-planes}
-use Rattle.vh_logic.proofs.CompareLemmas.{all_places-vectors}
+use Rattle.vh_logic.proofs.CompareLemmas.{all_positions-vectors}
 use Rattle.vh_logic.proofs.compare.casex_equal.Goals as goal
 
 -- The second operand is within the width of the first
@@ -17,7 +17,7 @@ below c = rw (← widths-planes _ _ _ _ _ _ _ _ _ _ c.a.view_is c.b.view_is c.re
 pub returns : goal.returns
 returns c =
     let inside = below c in
-    c.from_test.ensures ∙ ap test_digit (sym (all_places-vectors is_same_or_unknown _ _ _ _ _ _ _ _ _ _ _ c.a.view_is c.b.view_is c.requires (search (rules, bounds))
+    c.from_test.ensures ∙ ap test_digit (sym (all_positions-vectors is_same_or_unknown _ _ _ _ _ _ _ _ _ _ _ c.a.view_is c.b.view_is c.requires (search (rules, bounds))
     (λ i within. simp (bit_at_or, bit_at_xor) (test_by_4
     (λ x y z t. is_same_or_unknown (digit_of x y) (digit_of z t))
     (λ x y z t. eqb ((max ((x + z) % 2) (max y t) + max y t) % 2) 0)

@@ -1,4 +1,4 @@
--- A plane marks the places that hold 0 against 1, and another those with an x or z.
+-- A plane marks the positions that hold 0 against 1, and another those with an x or z.
 use Rattle.std.proofs.Common.{refl}
 use Rattle.std.proofs.lemmas.Bool.{eq-eqb, ne_eqb}
 use Rattle.vh_logic.proofs.CompareLemmas.{equality-vectors}

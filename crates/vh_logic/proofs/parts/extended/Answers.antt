@@ -1,4 +1,4 @@
--- A mask of the places above is added where the highest bit is 1.
+-- A mask of the positions above is added where the highest bit is 1.
 use Rattle.vh_logic.proofs.PartsLemmas.{extended-set, extended-clear}
 use Rattle.vh_logic.proofs.parts.extended.Goals as goal
 

@@ -1,4 +1,4 @@
--- A mask of the places above is added where the highest bit is 1.
+-- A mask of the positions above is added where the highest bit is 1.
 use Rattle.vh_logic.proofs.PartsLemmas.{moved_down-set, moved_down-clear, moved_down-below}
 use Rattle.vh_logic.proofs.shift.moved_down.Goals as goal
 

@@ -2,21 +2,21 @@
 use Rattle.std.proofs.Common.{ap, ◌∙◌}
 use Rattle.vh_logic.specs.declared.vector.TheConstants.{MAX_WIDTH}
 use Rattle.vh_logic.proofs.PlanesLemmas.{digits_with}
-use Rattle.vh_logic.proofs.PartsLemmas.{places_known, places_unknown, digits_of-shl, zeros-moved_up}
+use Rattle.vh_logic.proofs.PartsLemmas.{positions_known, positions_unknown, digits_of-shl, zeros-moved_up}
 use Rattle.vh_logic.proofs.ArithmeticLemmas.{literal-width}
 use Rattle.vh_logic.proofs.shift.shl.Goals as goal
 
 pub returns-then-b-ne0-clause-value : goal.returns-then-b-ne0-clause-value
-returns-then-b-ne0-clause-value c = rw (places_unknown _ _ _ _ _ c.b.view_is c.b.invariant.2 c.b.invariant.3 c.if-b-ne0.true) c.unknown.ensures.value
+returns-then-b-ne0-clause-value c = rw (positions_unknown _ _ _ _ _ c.b.view_is c.b.invariant.2 c.b.invariant.3 c.if-b-ne0.true) c.unknown.ensures.value
 
 pub returns-then-b-a-clause-value : goal.returns-then-b-a-clause-value
 returns-then-b-a-clause-value c =
-    rw (places_known _ _ _ _ _ c.b.view_is c.b.invariant.2 c.if-b-ne0.false)
+    rw (positions_known _ _ _ _ _ c.b.view_is c.b.invariant.2 c.if-b-ne0.false)
     (c.with_number.ensures.value ∙ zeros-moved_up _ _ _ _ _ _ c.a.view_is c.if-b-a.true)
 
 pub returns-clause-value : goal.returns-clause-value
 returns-clause-value c =
-    rw (places_known _ _ _ _ _ c.b.view_is c.b.invariant.2 c.if-b-ne0.false, ← c.a.view_is)
+    rw (positions_known _ _ _ _ _ c.b.view_is c.b.invariant.2 c.if-b-ne0.false, ← c.a.view_is)
     (rw c.mask-all.ensures (ap (λ ds. digits_with ds c.a.inside.signed) (digits_of-shl _ MAX_WIDTH _ _ _ c.a.invariant.1)))
 
 pub returns-clause-width : goal.returns-clause-width

@@ -2,12 +2,12 @@
 use Rattle.std.proofs.Common.{ap, ◌∙◌, sym, true}
 use Rattle.vh_logic.specs.Vector.{Vector}
 use Rattle.vh_logic.proofs.PlanesLemmas.{digits_with}
-use Rattle.vh_logic.proofs.PartsLemmas.{places_known, places_unknown, digits_of-sshr, shifted_right-unsigned}
+use Rattle.vh_logic.proofs.PartsLemmas.{positions_known, positions_unknown, digits_of-sshr, shifted_right-unsigned}
 use Rattle.vh_logic.proofs.ArithmeticLemmas.{literal-width}
 use Rattle.vh_logic.proofs.shift.sshr.Goals as goal
 
 pub returns-then-b-ne0-clause-value : goal.returns-then-b-ne0-clause-value
-returns-then-b-ne0-clause-value c = rw (places_unknown _ _ _ _ _ c.b.view_is c.b.invariant.2 c.b.invariant.3 c.if-b-ne0.true) c.unknown.ensures.value
+returns-then-b-ne0-clause-value c = rw (positions_unknown _ _ _ _ _ c.b.view_is c.b.invariant.2 c.b.invariant.3 c.if-b-ne0.true) c.unknown.ensures.value
 
 pub returns-then-not-a-clause-value : goal.returns-then-not-a-clause-value
 returns-then-not-a-clause-value c =
@@ -15,9 +15,9 @@ returns-then-not-a-clause-value c =
 
 pub returns-clause-value : goal.returns-clause-value
 returns-clause-value c =
-    rw (places_known _ _ _ _ _ c.b.view_is c.b.invariant.2 c.if-b-ne0.false, ← c.a.view_is)
+    rw (positions_known _ _ _ _ _ c.b.view_is c.b.invariant.2 c.if-b-ne0.false, ← c.a.view_is)
     (rw c.if-not-a.false (ap (λ ds. digits_with ds true) (digits_of-sshr c.a.inside.width c.a.inside.aval c.a.inside.bval
-    c.min-places.result c.b.inside.aval _ _ c.a.invariant.0 c.min-places.ensures c.moved_down-aval.ensures.bits c.moved_down-bval.ensures.bits)))
+    c.min-positions.result c.b.inside.aval _ _ c.a.invariant.0 c.min-positions.ensures c.moved_down-aval.ensures.bits c.moved_down-bval.ensures.bits)))
 
 pub returns-clause-width : goal.returns-clause-width
 returns-clause-width c = literal-width _ _ _ _ _ _ c.a.view_is

@@ -1,8 +1,8 @@
 use Rattle.std.proofs.Common.{◌≡◌, ◌++◌}
-use Rattle.vh_lower.specs.Processes.{plain_labels}
+use Rattle.vh_lower.specs.Processes.{plain_instructions}
 use Rattle.vh_lower.specs.Views.{flows_seen}
 use Rattle.vh_lower.proofs.processes.add_plain.Given as goal
 
 -- Those so far are there.
 abbrev pub invariant-loop-operation : goal.invariant-loop-operation
-invariant-loop-operation l = flows_seen l.row ≡ flows_seen l.initial.row ++ plain_labels l.yielded
+invariant-loop-operation l = flows_seen l.row ≡ flows_seen l.initial.row ++ plain_instructions l.yielded

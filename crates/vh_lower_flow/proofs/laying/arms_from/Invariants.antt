@@ -7,5 +7,5 @@ use Rattle.vh_lower_flow.proofs.laying.arms_from.Given as goal
 -- The arms so far, with those of the statements that are left, are all of them.
 abbrev pub invariant-loop-item : goal.invariant-loop-item
 invariant-loop-item l =
-    l.arms.items ++ arms_from l.place l.after (case_items (map item_tree (drop l.item-index l.items)))
+    l.arms.items ++ arms_from l.position l.after (case_items (map item_tree (drop l.item-index l.items)))
     ≡ arms_from l.first l.after (case_items (map item_tree l.items))

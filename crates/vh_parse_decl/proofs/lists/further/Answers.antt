@@ -12,4 +12,4 @@ all-smaller g c = fewer _ _ (item_less (g.T.Listed.part c.args.form) (g.met.T.Li
 pub all-preserved : goal.all-preserved
 all-preserved g c =
     rw (c.in_ok-push.ensures.ok, map-append)
-    (c.all.invariant ∙ item_goes_on (g.T.Listed.part c.args.form) (g.met.T.Listed.advances c.args.form) _ _ _ (tokens_seen c.all.rest.tokens.now) (tokens_seen c.in_ok-item.end.tokens.now) c.all.rest.mark c.in_ok-item.end.mark (sym c.all-test.ensures) c.in_ok-item.ensures)
+    (c.all.invariant ∙ item_goes_on (g.T.Listed.part c.args.form) (g.met.T.Listed.advances c.args.form) _ _ _ (tokens_seen c.all.rest.tokens.now) (tokens_seen c.in_ok-item.end.tokens.now) c.all.rest.omission c.in_ok-item.end.omission (sym c.all-test.ensures) c.in_ok-item.ensures)

@@ -5,7 +5,7 @@ use Rattle.vh_parse_items.proofs.Loops.{items_go_on, item_less, within_go_on, wi
 use Rattle.vh_parse_items.proofs.generate.+gblock.Goals as goal
 
 pub inner_gblock-returns : goal.inner_gblock-returns
-inner_gblock-returns t c = let e : c.args.depth ≡ suc (c.args.depth - 1) = omega arith in rw e (rw (c.no_hidden-at.ensures.tokens, c.no_hidden-at.ensures.mark) at c.gblock.ensures)
+inner_gblock-returns t c = let e : c.args.depth ≡ suc (c.args.depth - 1) = omega arith in rw e (rw (c.no_hidden-at.ensures.tokens, c.no_hidden-at.ensures.omission) at c.gblock.ensures)
 
 pub all_items-items-smaller : goal.all_items-items-smaller
 all_items-items-smaller t c = fewer _ _ (item_less _ _ _ _ _ _ c.in_ok-longer.ensures)

@@ -12,4 +12,4 @@ all-smaller c = fewer _ _ (local_less _ _ _ _ _ c.in_ok-next.ensures)
 pub all-preserved : goal.all-preserved
 all-preserved c =
     rw (c.in_ok-push.ensures.ok, map-append)
-    (c.all.invariant ∙ locals_go_on _ _ _ (tokens_seen c.all.rest.tokens.now) (tokens_seen c.in_ok-next.end.tokens.now) c.all.rest.mark c.in_ok-next.end.mark (sym c.all-test.ensures) c.in_ok-next.ensures)
+    (c.all.invariant ∙ locals_go_on _ _ _ (tokens_seen c.all.rest.tokens.now) (tokens_seen c.in_ok-next.end.tokens.now) c.all.rest.omission c.in_ok-next.end.omission (sym c.all-test.ensures) c.in_ok-next.ensures)

@@ -1,13 +1,13 @@
 -- What has been read stands in front of what is left.
 use Rattle.std.proofs.Common.{◌≡◌, length, map}
-use Rattle.vh_parse_grammar.specs.Marking.{joined_marks}
+use Rattle.vh_parse_grammar.specs.Omissions.{joined_noted}
 use Rattle.vh_ast.specs.Views.{local_tree}
 use Rattle.vh_parse_expr.specs.Views.{read_from}
 use Rattle.vh_parse_parts.specs.Pieces.{locals}
 use Rattle.vh_parse_parts.proofs.targs.locals.Given as goal
 
 abbrev pub invariant-all : goal.invariant-all
-invariant-all l = read_from l.depth locals l.initial.rest ≡ joined_marks (map local_tree l.all) (read_from l.depth locals l.rest)
+invariant-all l = read_from l.depth locals l.initial.rest ≡ joined_noted (map local_tree l.all) (read_from l.depth locals l.rest)
 
 abbrev pub decreases-all : goal.decreases-all
 decreases-all l = length l.rest.tokens.now

@@ -1,7 +1,7 @@
 -- Depth falls first, and then what a statement is made of. What a loop has read stands in front of what
 -- is left.
 use Rattle.std.proofs.Common.{◌≡◌, length, ◌+◌, ◌*◌}
-use Rattle.vh_parse_grammar.specs.Marking.{joined_marks}
+use Rattle.vh_parse_grammar.specs.Omissions.{joined_noted}
 use Rattle.vh_parse_syntax.specs.Statements.{stmts}
 use Rattle.vh_parse_expr.specs.Views.{read_from}
 use Rattle.vh_parse_stmt.specs.Pieces.{more_citems}
@@ -69,13 +69,13 @@ abbrev pub decreases-statement : goal.decreases-statement
 decreases-statement l = 8 * l.depth + 7
 
 abbrev pub invariant-citems-all : goal.invariant-citems-all
-invariant-citems-all l = joined_marks (citems_seen l.initial.all) (read_from l.depth (more_citems l.inside) l.initial.rest) ≡ joined_marks (citems_seen l.all) (read_from l.depth (more_citems l.inside) l.rest)
+invariant-citems-all l = joined_noted (citems_seen l.initial.all) (read_from l.depth (more_citems l.inside) l.initial.rest) ≡ joined_noted (citems_seen l.all) (read_from l.depth (more_citems l.inside) l.rest)
 
 abbrev pub decreases-citems-all : goal.decreases-citems-all
 decreases-citems-all l = length l.rest.tokens.now
 
 abbrev pub invariant-stmts-all : goal.invariant-stmts-all
-invariant-stmts-all l = read_from l.depth (stmts l.inside) l.initial.rest ≡ joined_marks (stmts_seen l.all) (read_from l.depth (stmts l.inside) l.rest)
+invariant-stmts-all l = read_from l.depth (stmts l.inside) l.initial.rest ≡ joined_noted (stmts_seen l.all) (read_from l.depth (stmts l.inside) l.rest)
 
 abbrev pub decreases-stmts-all : goal.decreases-stmts-all
 decreases-stmts-all l = length l.rest.tokens.now

@@ -1,12 +1,12 @@
 use Rattle.std.proofs.Common.{◌≡◌, ◌∙◌, ◌<◌, length, true, false, Some, is_some, sym, ap}
-use Rattle.vh_proc.proofs.SetsLemmas.{at-place, none-at, leaves-set, leaves-none}
+use Rattle.vh_proc.proofs.SetsLemmas.{at-position, none-at, leaves-set, leaves-none}
 use Rattle.vh_proc.proofs.families.remove_at.Goals as goal
 
 pub returns-in-Some : goal.returns-in-Some
 returns-in-Some c =
     let sets = c.args.sets.now.items in
     let low : c.args.k < length sets = c.in-Some.ensures.item.3.0 in
-    leaves-set sets c.args.k c.args.p c.in-Some.family.now c.remove.new.self (at-place sets c.args.k c.in-Some.family.now low ∙ ap Some (sym c.in-Some.ensures.value))
+    leaves-set sets c.args.k c.args.p c.in-Some.family.now c.remove.new.self (at-position sets c.args.k c.in-Some.family.now low ∙ ap Some (sym c.in-Some.ensures.value))
     c.remove.ensures.updates.0
 
 pub returns-in_default : goal.returns-in_default

@@ -6,7 +6,7 @@ use Rattle.vh_store.specs.Resolution.{wired_or_digit}
 use Rattle.vh_store.proofs.JoinLemmas.{join_by_table}
 use Rattle.vh_store.proofs.join.wired_or.Goals as goal
 
--- What the code makes of the bits at a place.
+-- What the code makes of the bits at a position.
 abbrev table : ℕ → ℕ → ℕ → ℕ → Digit
 table p q r s =
     let first = (q + min q p) % 2 in let second = (s + min s r) % 2 in

@@ -10,5 +10,5 @@ returns-then-number-records-clause-records c =
     (put_record c.args.records.now c.number-number.result _ c.connect.new.self (with_one_driver c.args.x.now)
     (slice_get-get_or c.args.records.now c.number-number.result c.index-records-number.result (omega arith)) c.in_ok-index.ensures.known)
 
-pub returns-clause-place : goal.returns-clause-place
-returns-clause-place c = rw (← c.number-number.ensures) (no_count c.args.records.now c.number-number.result (omega arith))
+pub returns-clause-position : goal.returns-clause-position
+returns-clause-position c = rw (← c.number-number.ensures) (no_count c.args.records.now c.number-number.result (omega arith))

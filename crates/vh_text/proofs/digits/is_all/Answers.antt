@@ -4,8 +4,8 @@ use Rattle.vh_logic.specs.contracts.digits.Digit.{the_type}
 use Rattle.vh_logic.specs.declared.digits.Digit.{Digit}
 use Rattle.vh_logic.specs.declared.digits.Digit.TheVariants.{One}
 use Rattle.vh_logic.specs.Digit.{is_same}
-use Rattle.vh_logic.specs.Vector.{Vector, all_places}
-use Rattle.vh_text.proofs.TextsLemmas.{all_places-replicate, sameb-test}
+use Rattle.vh_logic.specs.Vector.{Vector, all_positions}
+use Rattle.vh_text.proofs.TextsLemmas.{all_positions-replicate, sameb-test}
 use Rattle.vh_text.proofs.digits.is_all.Goals as goal
 
 pub returns : goal.returns
@@ -14,4 +14,4 @@ returns c =
     let copies : c.filled.result.digits ≡ replicate (length ds) c.args.digit =
     ap (λ (v : Vector). v.digits) c.filled.ensures.value ∙ ap (λ n. replicate n c.args.digit) c.width.ensures.value in
     c.eq.ensures ∙ ap (λ (d : Digit). sameb the_type d One) c.case_equal.ensures ∙ sameb-test _
-    ∙ ap (λ (xs : List Digit). all_places is_same ds xs) copies ∙ all_places-replicate c.args.digit ds
+    ∙ ap (λ (xs : List Digit). all_positions is_same ds xs) copies ∙ all_positions-replicate c.args.digit ds

@@ -11,8 +11,8 @@ use Rattle.vh_text.proofs.literal.lone_letter.Goals as goal
 -- A text of one byte and underscores
 alone : (bs rest : List ℕ) (b letter : ℕ) → bs ≡ b ∷ rest → IsSome (spelled_characters bs) → list_all (λ x. eqb x 95) rest ≡ true → letter ≡ question_as_z b
     → characters bs ≡ letter ∷ []
-alone bs rest b letter e begun marks is =
-    characters-first bs rest b e begun ∙ ap (λ (xs : List ℕ). question_as_z b ∷ xs) (characters-none rest marks) ∙ ap (λ n. n ∷ []) (sym is)
+alone bs rest b letter e begun symbols is =
+    characters-first bs rest b e begun ∙ ap (λ (xs : List ℕ). question_as_z b ∷ xs) (characters-none rest symbols) ∙ ap (λ n. n ∷ []) (sym is)
 
 pub returns-then-not-are_underscores : goal.returns-then-not-are_underscores
 returns-then-not-are_underscores c =

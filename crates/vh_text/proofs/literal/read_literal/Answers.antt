@@ -1,6 +1,6 @@
 use Rattle.std.proofs.Common.{ap, ◌∙◌, sym, ℕ, List, length, take, drop, Result}
 use Rattle.std.specs.List.{take_while}
-use Rattle.vh_text.specs.Marks.{is_number_byte}
+use Rattle.vh_text.specs.Symbols.{is_number_byte}
 use Rattle.std.proofs.lemmas.Bool.{eqb-false}
 use Rattle.vh_text.specs.declared.literal.LiteralFault.{LiteralFault}
 use Rattle.vh_text.specs.declared.literal.Size.{Size}

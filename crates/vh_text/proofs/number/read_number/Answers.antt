@@ -2,7 +2,7 @@ use Rattle.std.proofs.Common.{◌≡◌, ap, ◌∙◌, sym, ◌<◌, ◌+◌, �
 use Rattle.std.specs.Char.{is_ascii_digit}
 use Rattle.std.proofs.lemmas.List.{drop_more}
 use Rattle.vh_text.specs.Digits.{characters}
-use Rattle.vh_text.proofs.ViewsLemmas.{characters-next, characters-mark}
+use Rattle.vh_text.proofs.ViewsLemmas.{characters-next, characters-symbol}
 use Rattle.vh_text.proofs.LiteralsLemmas.{number_after, number_after-more, digit_value-is, question-same}
 use Rattle.vh_text.proofs.number.read_number.Goals as goal
 use Rattle.vh_text.proofs.number.read_number.Goals.{then-b-ne95+else-not-is_ascii_digit, else-b-ne95}
@@ -19,10 +19,10 @@ left-digit bs i n h no_mark digit =
     ∙ number_after-more n b (characters rest) digit
     ∙ ap (λ d. number_after (n * 10 + d) (characters rest)) (digit_value-is b digit)
 
-left-mark : (bs : List ℕ) (i n : ℕ) → i < length bs → get_or bs i 0 ≡ 95 → number_after n (characters (drop i bs)) ≡ number_after n (characters (drop (i + 1) bs))
-left-mark bs i n h e =
+left-symbol : (bs : List ℕ) (i n : ℕ) → i < length bs → get_or bs i 0 ≡ 95 → number_after n (characters (drop i bs)) ≡ number_after n (characters (drop (i + 1) bs))
+left-symbol bs i n h e =
     ap (λ (xs : List ℕ). number_after n (characters xs)) (drop_more bs i 0 h)
-    ∙ ap (λ (xs : List ℕ). number_after n xs) (characters-mark (get_or bs i 0) (drop (i + 1) bs) e)
+    ∙ ap (λ (xs : List ℕ). number_after n xs) (characters-symbol (get_or bs i 0) (drop (i + 1) bs) e)
 
 pub loop-b-preserved : goal.loop-b-preserved
 loop-b-preserved c =
@@ -37,7 +37,7 @@ loop-b-preserved c =
       )
       | else-b-ne95 w ↦ (
         n,
-        c.loop-b.invariant.1 ∙ left-mark bs i n c.loop-b-test.true w.if-b-ne95.false,
+        c.loop-b.invariant.1 ∙ left-symbol bs i n c.loop-b-test.true w.if-b-ne95.false,
         w.number-is ∙ c.loop-b.invariant.2,
       )
     ]

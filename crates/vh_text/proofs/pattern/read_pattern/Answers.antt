@@ -5,7 +5,7 @@ use Rattle.vh_logic.specs.declared.digits.Digit.{Digit}
 use Rattle.vh_text.specs.declared.pattern.Pattern.{Pattern}
 use Rattle.vh_text.specs.Digits.{spelled_digits, characters, character_digits, joined_digits, question_as_z}
 use Rattle.vh_text.specs.Views.{pattern_of, pattern_pushed}
-use Rattle.vh_text.proofs.ViewsLemmas.{characters-first, characters-next, characters-mark, spelled_digits-none, spelled_digits-first, spelled_digits-stop, spelled_digits-more, spelled_digits-nil, from_some, from_none, pattern_of-short, pattern_of-pushed}
+use Rattle.vh_text.proofs.ViewsLemmas.{characters-first, characters-next, characters-symbol, spelled_digits-none, spelled_digits-first, spelled_digits-stop, spelled_digits-more, spelled_digits-nil, from_some, from_none, pattern_of-short, pattern_of-pushed}
 use Rattle.vh_text.proofs.pattern.read_pattern.Goals as goal
 use Rattle.vh_text.proofs.pattern.read_pattern.Goals.{then-b-ne95+in_ok-digits, else-b-ne95}
 
@@ -14,8 +14,8 @@ left-digit : (rest : List ℕ) (i : ℕ) → i < length rest → (get_or rest i 
     → characters (drop i rest) ≡ question_as_z (get_or rest i 0) ∷ characters (drop (i + 1) rest)
 left-digit rest i h n = ap (λ (xs : List ℕ). characters xs) (drop_more rest i 0 h) ∙ characters-next (get_or rest i 0) (drop (i + 1) rest) n
 
-left-mark : (rest : List ℕ) (i : ℕ) → i < length rest → get_or rest i 0 ≡ 95 → characters (drop i rest) ≡ characters (drop (i + 1) rest)
-left-mark rest i h e = ap (λ (xs : List ℕ). characters xs) (drop_more rest i 0 h) ∙ characters-mark (get_or rest i 0) (drop (i + 1) rest) e
+left-symbol : (rest : List ℕ) (i : ℕ) → i < length rest → get_or rest i 0 ≡ 95 → characters (drop i rest) ≡ characters (drop (i + 1) rest)
+left-symbol rest i h e = ap (λ (xs : List ℕ). characters xs) (drop_more rest i 0 h) ∙ characters-symbol (get_or rest i 0) (drop (i + 1) rest) e
 
 pub returns-in_err-character_digits : goal.returns-in_err-character_digits
 returns-in_err-character_digits c =
@@ -64,7 +64,7 @@ loop-b-preserved c =
       | else-b-ne95 w ↦ (
         ds,
         c.loop-b.invariant.1,
-        c.loop-b.invariant.2 ∙ ap (λ (xs : List ℕ). joined_digits (spelled_digits k xs) (Some ds)) (left-mark rest i c.loop-b-test.true w.if-b-ne95.false),
+        c.loop-b.invariant.2 ∙ ap (λ (xs : List ℕ). joined_digits (spelled_digits k xs) (Some ds)) (left-symbol rest i c.loop-b-test.true w.if-b-ne95.false),
         w.pattern-is ∙ c.loop-b.invariant.3,
       )
     ]

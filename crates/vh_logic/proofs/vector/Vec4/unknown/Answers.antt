@@ -1,4 +1,4 @@
--- A 1 in each bit of both planes is an x at each place.
+-- A 1 in each bit of both planes is an x at each position.
 use Rattle.std.proofs.Common.{ap}
 use Rattle.vh_logic.specs.PlanesBack.{length-digits_of}
 use Rattle.vh_logic.proofs.PlanesLemmas.{digits_of-xs}

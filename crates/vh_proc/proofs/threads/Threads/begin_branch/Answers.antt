@@ -29,4 +29,4 @@ invariant_of-self-2 c = λ kept.
     kept-more fs _ next next parent.thread.root c.self.inside.all.entries _ _
     (c.in_ok-are_kept.ensures.joins kept parent.thread.root (before.exact parent.thread.root c.args.p there.own)) from refl c.in_ok-keep.ensures
     (subst (λ (k : ℕ). IsParent fs next k c.args.p) from (begun-by fs next c.args.p parent before.exact there))
-    (branch-notes fs.callers.entries c.args.place parent.thread _ c.in_ok-branch.ensures.branch there.calls) before
+    (branch-notes fs.callers.entries c.args.position parent.thread _ c.in_ok-branch.ensures.branch there.calls) before

@@ -13,7 +13,7 @@ returns-then-is_empty t c =
 
 pub returns-in-To : goal.returns-in-To
 returns-in-To t c =
-    label-at c.args.d.now c.args.self.now.root c.in-To.place _ c.args.calls.now c.index-calls-last.result c.code_of.result.now c.args.goes _
+    label-at c.args.d.now c.args.self.now.root c.in-To.position _ c.args.calls.now c.index-calls-last.result c.code_of.result.now c.args.goes _
     refl (search rules) (search rules) c.in-To.is (search rules) (search rules)
 
 pub returns-then-last-eq0 : goal.returns-then-last-eq0

@@ -10,9 +10,9 @@ pub returns-in-Some-clause-on : goal.returns-in-Some-clause-on
 returns-in-Some-clause-on t c =
     let i = c.self.inside in
     ap (λ (cs : List Call). (let q : Control = record { root = i.root; outer = i.outer; calls = cs; repeats = reverse i.repeats.items; goes = i.goes } in q))
-    (to-last c.args.d.now i.root c.in-To.place _ i.calls.items c.in-Some.call.now (ap (λ (n : ℕ). n - 1) i.calls.ok.0)
+    (to-last c.args.d.now i.root c.in-To.position _ i.calls.items c.in-Some.call.now (ap (λ (n : ℕ). n - 1) i.calls.ok.0)
     c.in-Some.ensures.item.3.0 c.in-Some.ensures.value)
-    ∙ ap (walked c.args.d.now (goes.To c.in-To.place)) c.self.view_is
+    ∙ ap (walked c.args.d.now (goes.To c.in-To.position)) c.self.view_is
     ∙ ap (λ (g : Goes). walked c.args.d.now g c.args.self.now) (sym c.in-To.is)
 
 pub returns-in-Some-clause-runs : goal.returns-in-Some-clause-runs
@@ -23,8 +23,8 @@ pub returns-in_default-clause-on : goal.returns-in_default-clause-on
 returns-in_default-clause-on t c =
     let i = c.self.inside in let few = c.in_default.ensures.item.3 in
     ap (λ (cs : List Call). (let q : Control = record { root = i.root; outer = i.outer; calls = cs; repeats = reverse i.repeats.items; goes = i.goes } in q))
-    (to-none c.args.d.now i.root c.in-To.place i.calls.items (omega (arith, few)))
-    ∙ ap (walked c.args.d.now (goes.To c.in-To.place)) c.self.view_is
+    (to-none c.args.d.now i.root c.in-To.position i.calls.items (omega (arith, few)))
+    ∙ ap (walked c.args.d.now (goes.To c.in-To.position)) c.self.view_is
     ∙ ap (λ (g : Goes). walked c.args.d.now g c.args.self.now) (sym c.in-To.is)
 
 pub returns-in-Some-last-clause-on : goal.returns-in-Some-last-clause-on

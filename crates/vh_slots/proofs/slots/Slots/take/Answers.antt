@@ -4,46 +4,46 @@ use Rattle.vh_slots.specs.declared.slots.TheConstants.{GENERATIONS}
 use Rattle.vh_slots.specs.declared.slots.Key.{Key}
 use Rattle.vh_slots.specs.declared.slots.Slot.{Slot}
 use Rattle.vh_slots.specs.Table.{Table, held, with_cell, after_take}
-use Rattle.vh_slots.specs.Views.{place_of, value_in, table_in, IsSound}
+use Rattle.vh_slots.specs.Views.{position_of, value_in, table_in, IsSound}
 use Rattle.std.proofs.lemmas.List.Sums.{count_by-le-length}
 use Rattle.vh_slots.specs.Views.{is_over}
-use Rattle.vh_slots.proofs.ViewsLemmas.{place-found, held-is, sound-take, sound-retire, taken-is}
+use Rattle.vh_slots.proofs.ViewsLemmas.{position-found, held-is, sound-take, sound-retire, taken-is}
 use Rattle.vh_slots.proofs.slots.Slots.take.Goals as goal
 
 -- The value that was under a key
 was-held : {T : Type 0} (slots : List Slot) (values : Slab T) (limit first k : ℕ) (key : Key) (v : T) (t : Table T) → table_in slots values limit first ≡ t
-    → Some k ≡ place_of slots key → get values k ≡ Some v → Some v ≡ held key t
+    → Some k ≡ position_of slots key → get values k ≡ Some v → Some v ≡ held key t
 was-held slots values limit first k key v t seen at value =
     sym (ap (held key) (sym seen) ∙ held-is key.generation values slots key.slot ∙ ap (value_in values) (sym at) ∙ value)
 
 -- What is left under it
 was-taken : {T : Type 0} (slots : List Slot) (old new : Slab T) (head next : Option ℕ) (retired first limit k g : ℕ) (key : Key) (t : Table T)
-    → table_in slots old limit first ≡ t → IsSound slots old head retired first → Some k ≡ place_of slots key → Updates old new k None → g ≡ key.generation
+    → table_in slots old limit first ≡ t → IsSound slots old head retired first → Some k ≡ position_of slots key → Updates old new k None → g ≡ key.generation
     → table_in (set slots key.slot (record { generation = g + 1; at = None; next = next })) new limit first ≡ after_take key t
 was-taken slots old new head next retired first limit k g key t seen h at u gen =
-    let p = place-found key.generation slots key.slot k (sym at) in
+    let p = position-found key.generation slots key.slot k (sym at) in
     taken-is slots old new head next retired first limit key.slot k g h p.2 u
     ∙ ap (λ n. with_cell key.slot (record { generation = n + 1; value = None }) (table_in slots old limit first)) gen
     ∙ ap (λ (s : Table _). after_take key s) seen
 
 retires : {T : Type 0} (slots : List Slot) (old new : Slab T) (head : Option ℕ) (retired first k g : ℕ) (key : Key)
-    → IsSound slots old head retired first → Some k ≡ place_of slots key → Updates old new k None → slab_len new + 1 ≡ slab_len old → g ≡ key.generation
+    → IsSound slots old head retired first → Some k ≡ position_of slots key → Updates old new k None → slab_len new + 1 ≡ slab_len old → g ≡ key.generation
     → g + 1 ≡ GENERATIONS → IsSound (set slots key.slot (record { generation = g + 1; at = None; next = None })) new head (retired + 1) first
 retires slots old new head retired first k g key h at u len gen last =
-    let p = place-found key.generation slots key.slot k (sym at) in
+    let p = position-found key.generation slots key.slot k (sym at) in
     sound-retire slots old new head retired first key.slot k g h p.0 (p.1 ∙ sym gen) p.2 last u len
 
 takes : {T : Type 0} (slots : List Slot) (old new : Slab T) (head : Option ℕ) (retired first k g : ℕ) (key : Key)
-    → IsSound slots old head retired first → Some k ≡ place_of slots key → Updates old new k None → slab_len new + 1 ≡ slab_len old → g ≡ key.generation
+    → IsSound slots old head retired first → Some k ≡ position_of slots key → Updates old new k None → slab_len new + 1 ≡ slab_len old → g ≡ key.generation
     → (g + 1 ≡ GENERATIONS → ⊥)
     → IsSound (set slots key.slot (record { generation = g + 1; at = None; next = head })) new (Some key.slot) retired first
 takes slots old new head retired first k g key h at u len gen more =
-    let p = place-found key.generation slots key.slot k (sym at) in
+    let p = position-found key.generation slots key.slot k (sym at) in
     let below = h.keyed key.slot k p.2 in
     sound-take slots old new head retired first key.slot k g h p.0 (p.1 ∙ sym gen) p.2 (omega (arith, below, p.1, gen, more)) u len
 
-in-slots : (slots : List Slot) (n k : ℕ) (key : Key) → Some k ≡ place_of slots key → n ≡ length slots → key.slot < n
-in-slots slots n k key at len = let p = place-found key.generation slots key.slot k (sym at) in omega (arith, p.0, len)
+in-slots : (slots : List Slot) (n k : ℕ) (key : Key) → Some k ≡ position_of slots key → n ≡ length slots → key.slot < n
+in-slots slots n k key at len = let p = position-found key.generation slots key.slot k (sym at) in omega (arith, p.0, len)
 
 pub overflow_add-self : goal.overflow_add-self
 overflow_add-self g c =

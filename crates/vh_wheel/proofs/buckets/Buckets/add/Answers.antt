@@ -2,7 +2,7 @@ use Rattle.std.proofs.Common.{◌≡◌, ap, ◌∙◌, sym, subst, length, ◌<
 use Rattle.vh_links.specs.Lists.{is_linked, after_push}
 use Rattle.vh_wheel.specs.declared.node.Node.{Node}
 use Rattle.vh_wheel.proofs.LiesLemmas.{new-free}
-use Rattle.vh_wheel.proofs.MarksLemmas.{kept-add}
+use Rattle.vh_wheel.proofs.FlagsLemmas.{kept-add}
 use Rattle.vh_wheel.proofs.buckets.Buckets.add.Goals as goal
 
 pub push_back-requires-clause-free : goal.push_back-requires-clause-free

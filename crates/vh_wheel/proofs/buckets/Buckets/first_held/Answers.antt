@@ -2,7 +2,7 @@ use Rattle.std.proofs.Common.{◌<◌, List, length, arith, subst, sym}
 use Rattle.std.specs.Prelude.{IfSome}
 use Rattle.vh_wheel.specs.declared.node.Node.{Node}
 use Rattle.vh_wheel.specs.Views.{bucket_at, IsKept, AreFrom}
-use Rattle.vh_wheel.proofs.MarksLemmas.{first-held}
+use Rattle.vh_wheel.proofs.FlagsLemmas.{first-held}
 use Rattle.vh_wheel.proofs.buckets.Buckets.first_held.Goals as goal
 
 pub returns-clause-some : goal.returns-clause-some

@@ -1,4 +1,4 @@
-use Rattle.vh_wheel.proofs.MarksLemmas.{kept-new}
+use Rattle.vh_wheel.proofs.FlagsLemmas.{kept-new}
 use Rattle.vh_wheel.proofs.buckets.Buckets.new.Goals as goal
 
 pub invariant_of-result : goal.invariant_of-result

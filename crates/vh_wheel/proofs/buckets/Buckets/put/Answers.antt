@@ -3,7 +3,7 @@ use Rattle.vh_wheel.specs.declared.node.Node.{Node}
 use Rattle.vh_links.specs.Lists.{is_linked, after_push}
 use Rattle.vh_wheel.specs.Views.{bucket_at}
 use Rattle.vh_wheel.proofs.LiesLemmas.{linked, unlinked-free}
-use Rattle.vh_wheel.proofs.MarksLemmas.{kept-put, mark-there}
+use Rattle.vh_wheel.proofs.FlagsLemmas.{kept-put, flag-there}
 use Rattle.vh_wheel.proofs.buckets.Buckets.put.Goals as goal
 
 pub unlink-requires : goal.unlink-requires
@@ -18,7 +18,7 @@ push_back-requires-clause-free c =
 pub clear_if_empty-requires-clause-set : goal.clear_if_empty-requires-clause-set
 clear_if_empty-requires-clause-set c =
     let h : c.args.number < length c.self.inside.nodes.items = subst (λ (ns : List Node). c.args.number < length ns) (sym c.self.view_is) c.requires.number in
-    mark-there c.self.inside.links c.self.inside.nodes.items c.self.inside.occupied c.set.new.self c.args.number c.get-from.result.bucket c.args.node.bucket
+    flag-there c.self.inside.links c.self.inside.nodes.items c.self.inside.occupied c.set.new.self c.args.number c.get-from.result.bucket c.args.node.bucket
     c.self.invariant h (ap (λ (n : Node). n.bucket) c.get-from.ensures ∙ ap (λ (ns : List Node). bucket_at ns c.args.number) (sym c.self.view_is))
     c.set.ensures.there c.set.ensures.others
 

@@ -2,14 +2,14 @@ use Rattle.std.proofs.Common.{ℕ, ◌≡◌, ◌≤◌, ◌<◌, ◌^◌, ◌++
 use Rattle.vh_base.specs.declared.faults.NoMemory.{NoMemory}
 use Rattle.vh_wheel.specs.declared.node.Node.{Node}
 use Rattle.vh_wheel.specs.Schedule.{Schedule, Schedules}
-use Rattle.vh_wheel.specs.Views.{bucket_from, schedule_in, HasPlace}
+use Rattle.vh_wheel.specs.Views.{bucket_from, schedule_in, HasPosition}
 use Rattle.vh_wheel.proofs.TimesLemmas.{level-range}
 use Rattle.vh_wheel.proofs.SchedulesLemmas.{schedules-held, schedules-put, schedules-add, moves-put, moves-more, few-nodes}
 use Rattle.vh_wheel.proofs.wheel.Wheel.schedule.Goals as goal
 
--- The place of the node
+-- The position of the node
 placed : (t b v : ℕ) (s : Schedule) (q : ℕ) → q ≡ s.present → s.present ≤ t → t < 2 ^ 64 → b ≡ bucket_from 7 q t
-    → HasPlace q (record { time = t; payload = v; bucket = b })
+    → HasPosition q (record { time = t; payload = v; bucket = b })
 placed t b v s q seen later fits is = record { later = omega (arith, seen, later); fits = fits; bucket = is }
 
 pub add-requires-clause-few : goal.add-requires-clause-few

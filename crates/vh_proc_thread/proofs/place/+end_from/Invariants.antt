@@ -1,5 +1,0 @@
-use Rattle.vh_proc_thread.proofs.place.+end_from.Given as goal
-
--- The steps that are left.
-abbrev pub decreases-end_from : goal.decreases-end_from
-decreases-end_from l = l.steps
