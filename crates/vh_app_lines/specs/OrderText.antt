@@ -172,11 +172,3 @@ answer_text (answer.Handle number) = handle_text (Some number)
 answer_text (answer.Number n) = decimal n
 answer_text (answer.Text text) = quoted text
 answer_text (answer.Refused code) = code_name code
-
--- Callback n, as who gives an order. (own)
-abbrev pub callback_text : ℕ → List ℕ
-callback_text n = codes "c" ++ decimal n
-
--- The startup of script n, as who gives an order. (own)
-abbrev pub startup_text : ℕ → List ℕ
-startup_text n = codes "s" ++ decimal n

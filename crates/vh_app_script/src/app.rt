@@ -18,7 +18,7 @@ use crate::arguments::order;
 use crate::block::{Run, nested_block};
 use crate::env::{Block, Env, MOST_COMMANDS, counts};
 use crate::take::{
-    At, Read, is_long_name, symbol_is_next, new_name, order_is_next, take_symbol, take_word,
+    At, Read, is_long_name, new_name, order_is_next, symbol_is_next, take_symbol, take_word,
     word_is_next,
 };
 use crate::token::{Keyword, Kind, Symbol, Token};

@@ -12,8 +12,8 @@ ghost use Rattle.vh_app_script.specs.Views.{Reads, env_seen, atom_seen, atoms_se
 
 use crate::env::Env;
 use crate::take::{
-    At, Read, atom, body_word, control, format, symbol_is_next, mode, name, order_opening, property,
-    reason, relation, systf_kind, take_symbol, take_word, word_is_next,
+    At, Read, atom, body_word, control, format, mode, name, order_opening, property, reason,
+    relation, symbol_is_next, systf_kind, take_symbol, take_word, word_is_next,
 };
 use crate::token::{Keyword, Symbol};
 use crate::tree::{Atom, Body, Order, Test};

@@ -16,7 +16,7 @@ ghost use Rattle.vh_app_script.specs.Views.{Reads, Gives, terminals, env_seen, a
 use crate::arguments::{arguments, order, test};
 use crate::env::Env;
 use crate::take::{
-    At, Read, atom, symbol_is_next, opening, opening_is_next, take_symbol, take_word, variable,
+    At, Read, atom, opening, opening_is_next, symbol_is_next, take_symbol, take_word, variable,
     word_is_next,
 };
 use crate::token::{Keyword, Symbol};

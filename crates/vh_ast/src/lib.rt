@@ -42,8 +42,8 @@ pub use operator::{Binary, Unary};
 pub use port::{Direction, Par, Pdecl, Port, PortType, Ports};
 pub use routine::{Function, Local, ResultType, Targ, Task, TaskDirection};
 pub use stmt::{
-    AssignWord, BlockWord, CaseWord, Citem, ForceWord, Matched, LoopWord, ReleaseWord, Simple, Stmt,
-    StmtForm,
+    AssignWord, BlockWord, CaseWord, Citem, ForceWord, LoopWord, Matched, ReleaseWord, Simple,
+    Stmt, StmtForm,
 };
 pub use target::{Lv, LvPart, Set};
 pub use timing::{Delay, DelayValue, Edge, Ev, Event};

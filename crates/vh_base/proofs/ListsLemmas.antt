@@ -1,7 +1,7 @@
 -- Names that differ, a name at a time.
-use Rattle.std.proofs.Common.{◌≡◌, ℕ, ◌+◌, ◌<◌, Bool, true, false, not, ◌&&◌, ◌||◌, cond, List, [], ◌∷◌, ◌++◌, get_or, Bor, refl, ap, ◌∙◌}
+use Rattle.std.proofs.Common.{◌≡◌, ℕ, ◌+◌, ◌<◌, Bool, not, ◌&&◌, ◌||◌, cond, List, [], ◌∷◌, ◌++◌, Bor, refl, ap, ◌∙◌}
 use Rattle.std.specs.List.{list_any, position, prefix_len}
-use Rattle.std.proofs.lemmas.List.{length-map, map_push}
+use Rattle.std.proofs.lemmas.List.{length-map}
 use Rattle.vh_base.specs.Lists.{names_seen}
 
 -- The place of a name among the names of the code
@@ -15,26 +15,3 @@ position-seen p keys = rw (length-map keys (λ key. key.now), prefix-seen p keys
 pub list_any-seen : (p : List ℕ → Bool) (keys : List (Bor (List ℕ))) → list_any p (names_seen keys) ≡ list_any (λ key. p key.now) keys
 list_any-seen p [] = refl
 list_any-seen p (key ∷ keys) = ap (λ b. p key.now || b) (list_any-seen p keys)
-
-or_true : (b : Bool) → (b || true) ≡ true
-or_true true = refl
-or_true false = refl
-
-or_false : (b : Bool) → (b || false) ≡ b
-or_false true = refl
-or_false false = refl
-
-and_false : (b : Bool) → (b && false) ≡ false
-and_false true = refl
-and_false false = refl
-
-not-false : (b d : Bool) → d ≡ not b → d ≡ false → b ≡ true
-not-false true d e h = refl
-not-false false d e h = cc
-
-not-true : (b d : Bool) → d ≡ not b → d ≡ true → b ≡ false
-not-true true d e h = cc
-not-true false d e h = refl
-
-    keys_are : names_seen keys' ≡ names_seen keys ++ (get_or names i next).now ∷ []
-    keys_are = ap names_seen (grown ∙ ap (λ b. cond b keys (keys ++ get_or names i next ∷ [])) is_absent) ∙ map_push (λ key. key.now) keys (get_or names i next)

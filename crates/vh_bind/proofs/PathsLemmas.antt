@@ -8,19 +8,11 @@ use Rattle.vh_ast.specs.declared.expr.Expr.{Expr}
 use Rattle.vh_ast.specs.Expressions.{Steps, name, steps}
 use Rattle.vh_ast.specs.Views.{expr_tree, name_tree, index_by, step_by}
 use Rattle.vh_bind.specs.Scopes.{Scope}
-use Rattle.vh_bind.specs.Paths.{alone_meant}
 use Rattle.vh_bind.specs.Constants.{path_meant, name_meant}
 
 -- The parts of a path behind the first, as they are seen.
 abbrev pub steps_seen : List (NameStep Expr) → Steps
 steps_seen all = steps (map (step_by expr_tree) all)
-
--- A name alone, and a path.
-alone : (s : Scope) (call : Bool) (id : Id) (i : Option Expr) (all : List (NameStep Expr)) → is_some i ≡ false → all ≡ []
-    → name_meant s call (name id (index_by expr_tree i) (steps_seen all)) ≡ alone_meant s call id
-alone s call id None [] h g = refl
-alone s call id None (x ∷ all) h g = absurd (cc)
-alone s call id (Some e) all h g = absurd (cc)
 
 longer : (s : Scope) (call : Bool) (id : Id) (i : Option Expr) (all : List (NameStep Expr)) → (is_some i ≡ false → all ≡ [] → ⊥)
     → name_meant s call (name id (index_by expr_tree i) (steps_seen all)) ≡ path_meant s id (index_by expr_tree i) (steps_seen all)

@@ -14,7 +14,7 @@ use crate::fault::ElabFault;
 use crate::named::{Named, alone_called, look_up};
 use crate::nodes::{Nodes, Numbered, Numbers, push, push_text};
 use crate::parts::{
-    Prefix, chain_operators, is_unsized, given_sign, push_choice, push_concat, push_links,
+    Prefix, chain_operators, given_sign, is_unsized, push_choice, push_concat, push_links,
     push_literal, push_prefixed, push_times, sequence, with_number,
 };
 use crate::scope::{Mode, Scope};
@@ -24,7 +24,7 @@ use sqlite_items::{Boxed, Items};
 use std::alloc::Global;
 use vh_ast::{Expr, ExprForm, Id, Link, Name, Part, Primary, Sel};
 use vh_base::{DesignFault, ExprId, Place};
-use vh_design_nodes::ExprKind;
+use vh_design::ExprKind;
 use vh_logic::Vec4;
 
 /// The value of a constant expression in its own width or in `least`, the greater of the two, with its

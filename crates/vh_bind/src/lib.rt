@@ -27,7 +27,7 @@ pub use fault::ElabFault;
 pub use nodes::{MOST_EXPRS, Nodes, Numbered, Numbers, push, push_text};
 pub use operators::Operator;
 pub use parts::{
-    Prefix, chain_operators, is_unsized, given_sign, push_choice, push_concat, push_links,
+    Prefix, chain_operators, given_sign, is_unsized, push_choice, push_concat, push_links,
     push_literal, push_prefixed, push_times, sequence, with_number,
 };
 pub use paths::meaning;

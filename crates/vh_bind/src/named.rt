@@ -6,7 +6,7 @@ ghost use Rattle.vh_bind.specs.Views.{scope_seen};
 use crate::scope::{Genvar, Scope};
 use vh_base::{DesignFault, ExprId, ObjId};
 use vh_bind_scope::{Meaning, found};
-use vh_design_nodes::{Detail, ExprKind, ExprNode, Kind, ObjectInfo, Range};
+use vh_design::{Detail, ExprKind, ExprNode, Kind, ObjectInfo, Range};
 use vh_logic::Vec4;
 
 // What a name stands for where a constant is needed.

@@ -11,7 +11,8 @@ use crate::operators::{Operator, links_of};
 use crate::scope::{Mode, Scope};
 use std::alloc::Global;
 use vh_base::{DesignFault, ExprId, NoMemory, Place, Sequence};
-use vh_design_nodes::{ExprIds, ExprKind, ExprNode, ObjectInfo, is_width, kind_signed, kind_width};
+use vh_design::{ExprIds, ExprKind, ExprNode, ObjectInfo};
+use vh_design_nodes::{is_width, kind_signed, kind_width};
 use vh_logic::{Digit, MAX_WIDTH, Vec4, concat};
 
 /// Nodes of expressions, each under its place as its number.

@@ -4,7 +4,7 @@ ghost use Rattle.vh_bind.specs.Nodes.{unary_of, operator_of, links_by};
 use std::alloc::Global;
 use vh_ast::{Binary, Unary as UnaryOperator};
 use vh_base::{ExprId, NoMemory, Sequence};
-use vh_design_nodes::{Arithmetic, Comparison, Link, Links, Logic, Shift, Unary};
+use vh_design::{Arithmetic, Comparison, Link, Links, Logic, Shift, Unary};
 
 /// A binary operator, by the kind of its chain.
 #[derive(Clone, Copy)]

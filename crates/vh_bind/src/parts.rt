@@ -14,7 +14,7 @@ use crate::scope::{Mode, Scope};
 use std::alloc::Global;
 use vh_ast::{Expr, ExprForm, Link, Primary, Unary};
 use vh_base::{ExprId, NoMemory, Place, Sequence};
-use vh_design_nodes::{ExprIds, ExprKind};
+use vh_design::{ExprIds, ExprKind};
 use vh_logic::Vec4;
 
 /// How `$signed` or `$unsigned` marks its argument.
@@ -130,7 +130,13 @@ pub fn push_prefixed(
     };
     match prefix {
         Prefix::WithSign { signed } => {
-            push(scope, mode, nodes, place, ExprKind::WithSign { part, signed })
+            push(
+                scope,
+                mode,
+                nodes,
+                place,
+                ExprKind::WithSign { part, signed },
+            )
         }
         Prefix::UnaryOperator(sign) => {
             let op = unary_of(sign);

@@ -6,7 +6,7 @@ use crate::named::{constant_in, genvar_value};
 use crate::scope::Scope;
 use vh_base::ObjId;
 use vh_bind_scope::{Meaning, found};
-use vh_design_nodes::{ExprNode, Kind, ObjectInfo, Range};
+use vh_design::{ExprNode, Kind, ObjectInfo, Range};
 use vh_logic::Vec4;
 
 /// What a name stands for where a value is wanted (IEEE 1364-2005, 5.2).

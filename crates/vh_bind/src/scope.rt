@@ -1,7 +1,7 @@
 use vh_ast::TaskDirection;
 use vh_base::{ObjId, Sequence};
 use vh_bind_scope::{Names, Top};
-use vh_design_nodes::{ExprNode, Name, ObjectInfo};
+use vh_design::{ExprNode, Name, ObjectInfo};
 use vh_logic::Vec4;
 
 /// A genvar that has a value: the scope that declares it, and its name.

@@ -5,7 +5,7 @@ ghost use Rattle.vh_bind.specs.Selects.{integer_in, number_in, most_bound, bit_o
 
 use crate::fault::ElabFault;
 use vh_base::{DesignFault, Place};
-use vh_design_nodes::{Range, Select};
+use vh_design::{Range, Select};
 use vh_eval::{integer, selected, sliced};
 use vh_logic::{MAX_WIDTH, Vec4};
 

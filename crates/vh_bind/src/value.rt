@@ -5,8 +5,7 @@ ghost use Rattle.vh_bind.specs.Constants.{bare, value_at};
 
 use std::alloc::Global;
 use vh_base::{ExprId, NoMemory};
-use vh_design::{Design, Parts};
-use vh_design_nodes::ExprNode;
+use vh_design::{Design, ExprNode, Parts};
 use vh_eval::eval;
 use vh_logic::Vec4;
 use vh_store::Store;

@@ -20,19 +20,12 @@ use Rattle.vh_ast.specs.Views.{expr_tree, name_tree, index_by}
 use Rattle.vh_bind.specs.declared.scope.Mode.TheVariants as mode
 use Rattle.vh_bind.specs.Steps.{Fault, Nodes, Step, ◌>>=◌, and_then, pure, refused}
 use Rattle.vh_bind.specs.Scopes.{Scope}
-use Rattle.vh_bind.specs.Objects.{alone_read, goes_so}
+use Rattle.vh_bind.specs.Objects.{goes_so}
 use Rattle.vh_bind.specs.Nodes.{IsSound}
 use Rattle.vh_bind.specs.Constants.{argument_row, with_number, with_numbers, count_of, name_meant, name_read, path_outcome, time_pushed}
 use Rattle.vh_bind.proofs.NodesLemmas.{all_before-later}
 use Rattle.vh_bind.proofs.PathsLemmas.{steps_seen}
 use Rattle.vh_bind.proofs.FoldsLemmas.{Bound, numbers-below}
-
--- A name alone, and a path.
-alone : (s : Scope) (id : Id) (i : Option Expr) (all : List (NameStep Expr)) → is_some i ≡ false → all ≡ []
-    → name_read s (name id (index_by expr_tree i) (steps_seen all)) ≡ Ok (alone_read s id.name)
-alone s id None [] h g = refl
-alone s id None (x ∷ all) h g = absurd (cc)
-alone s id (Some e) all h g = absurd (cc)
 
 longer : (s : Scope) (id : Id) (i : Option Expr) (all : List (NameStep Expr)) → (is_some i ≡ false → all ≡ [] → ⊥)
     → name_read s (name id (index_by expr_tree i) (steps_seen all))

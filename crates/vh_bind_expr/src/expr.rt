@@ -26,8 +26,8 @@ use std::alloc::Global;
 use vh_ast::{Esel, Expr, ExprForm, Id, Link, Name, Part, Primary, Sel, TaskDirection};
 use vh_base::{DesignFault, ExprId, ObjId, Place, Sequence};
 use vh_bind::{
-    ElabFault, Function, Mode, Nodes, Numbered, Numbers, Prefix, Readable, Scope, is_unsized,
-    given_sign, push, push_choice, push_concat, push_literal, push_prefixed, push_text, sequence,
+    ElabFault, Function, Mode, Nodes, Numbered, Numbers, Prefix, Readable, Scope, given_sign,
+    is_unsized, push, push_choice, push_concat, push_literal, push_prefixed, push_text, sequence,
     with_number,
 };
 use vh_bind_least::lesser;
@@ -100,7 +100,14 @@ fn bind(alloc: Global, scope: &Scope, nodes: &mut Nodes, e: &Expr) -> Numbered
         },
         ExprForm::Unary(sign, operand) => {
             let part = bind(alloc, scope, nodes, operand.get())?;
-            push_prefixed(scope, Mode::Value, nodes, place, Prefix::UnaryOperator(*sign), part)
+            push_prefixed(
+                scope,
+                Mode::Value,
+                nodes,
+                place,
+                Prefix::UnaryOperator(*sign),
+                part,
+            )
         }
         ExprForm::Chain(first, links) => {
             let first = bind(alloc, scope, nodes, first.get())?;

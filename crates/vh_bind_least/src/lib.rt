@@ -4,6 +4,6 @@
 //! lesser place, and at one place the one with the lesser number, as `specs/Least.antt` says.
 #![tactic(auto)]
 
-mod order;
+mod earlier;
 
-pub use order::{Fault, fault_if, least, lesser};
+pub use earlier::{Fault, fault_if, least, lesser};

@@ -133,16 +133,6 @@ among_less d c [] among = absurd (cc)
 among_less d c (x ∷ xs) among =
     less_by (nat_eq x c) (nat_eq d x) d c x xs (without_number c xs) refl refl (among_less d c xs) among
 
-kept_by : (b here : Bool) (d c x : ℕ) (xs rest : List ℕ) → nat_eq x c ≡ b → nat_eq d x ≡ here → nat_eq d c ≡ false
-    → (is_among d xs ≡ true → is_among d rest ≡ true) → (here || is_among d xs) ≡ true
-    → is_among d (cond (not b) (x ∷ rest) rest) ≡ true
-kept_by true true d c x xs rest is at apart kept among =
-    let same : d ≡ x = eqb-true d x at in
-    absurd (not_both (nat_eq d c) (ap (λ (n : ℕ). nat_eq n c) same ∙ is) apart)
-kept_by true false d c x xs rest is at apart kept among = kept among
-kept_by false true d c x xs rest is at apart kept among = or_left (nat_eq d x) (is_among d rest) at
-kept_by false false d c x xs rest is at apart kept among = or_right (nat_eq d x) (is_among d rest) (kept among)
-
 pub set_none : IsSet []
 set_none = record { rising = tt; few = omega arith }
 

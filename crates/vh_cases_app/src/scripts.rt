@@ -4,10 +4,10 @@ use indexmap::IndexSet;
 use std::alloc::Global;
 use std::process::Abort;
 use std::test::Fail;
+use vh_app::ScriptFault;
 use vh_app_lines::Routine;
 use vh_app_script::{
-    App, Atom, Block, Command, Env, MOST_LEVELS, Order, ScriptFault, read_arguments, read_script,
-    tokens,
+    App, Atom, Block, Command, Env, MOST_LEVELS, Order, read_arguments, read_script, tokens,
 };
 use vh_base::{AppFault, Place, Short};
 

@@ -7,7 +7,7 @@ use vh_ast::{Expr, ExprForm, Name, Primary};
 use vh_base::{ExprId, NoMemory, ObjId, Place, Sequence};
 use vh_bind::{ElabFault, Genvar, Scope, constant, meaning};
 use vh_bind_scope::{Meaning, Names, Top};
-use vh_design_nodes::{Detail, ExprKind, ExprNode, Kind, ObjectInfo, Range};
+use vh_design::{Detail, ExprKind, ExprNode, Kind, ObjectInfo, Range};
 use vh_lex::Lexer;
 use vh_logic::Vec4;
 use vh_parse_expr::parse_expr;

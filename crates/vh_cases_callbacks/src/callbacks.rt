@@ -339,86 +339,86 @@ enum Mark {
 
 // An act, the number that it gives or the body that comes back (0 where there is neither), and
 // then how many are in the sets of depths 0 and 1. All are registered for object 7.
-struct WithSign {
+struct Marked {
     act: Mark,
     answer: u64,
     counts: (u32, u32),
 }
 
-static MARKS: [WithSign; 15] = [
-    WithSign {
+static MARKS: [Marked; 15] = [
+    Marked {
         act: Mark::Register,
         answer: 1,
         counts: (0, 0),
     },
-    WithSign {
+    Marked {
         act: Mark::Register,
         answer: 2,
         counts: (0, 0),
     },
-    WithSign {
+    Marked {
         act: Mark::Register,
         answer: 3,
         counts: (0, 0),
     },
-    WithSign {
+    Marked {
         act: Mark::All(0),
         answer: 0,
         counts: (3, 0),
     },
-    WithSign {
+    Marked {
         act: Mark::One(1, 2),
         answer: 0,
         counts: (3, 1),
     },
     // One that is registered now is in no set.
-    WithSign {
+    Marked {
         act: Mark::Register,
         answer: 4,
         counts: (3, 1),
     },
     // A removal takes its number out of both.
-    WithSign {
+    Marked {
         act: Mark::Remove(2),
         answer: 102,
         counts: (2, 0),
     },
-    WithSign {
+    Marked {
         act: Mark::Take(0, 1),
         answer: 3,
         counts: (1, 0),
     },
-    WithSign {
+    Marked {
         act: Mark::Take(0, 1),
         answer: 0,
         counts: (1, 0),
     },
-    WithSign {
+    Marked {
         act: Mark::Take(1, 0),
         answer: 0,
         counts: (1, 0),
     },
-    WithSign {
+    Marked {
         act: Mark::All(1),
         answer: 0,
         counts: (1, 3),
     },
-    WithSign {
+    Marked {
         act: Mark::Take(1, 2),
         answer: 4,
         counts: (1, 2),
     },
-    WithSign {
+    Marked {
         act: Mark::Clear(0),
         answer: 0,
         counts: (0, 2),
     },
-    WithSign {
+    Marked {
         act: Mark::Take(1, 0),
         answer: 1,
         counts: (0, 1),
     },
-    WithSign {
+    Marked {
         act: Mark::Take(63, 0),
         answer: 0,
         counts: (0, 1),

@@ -1,5 +1,5 @@
 use std::mem::size_of;
-use vh_design_code::{Block, Instruction, Operation, ShowCall, StmtInfo, Term};
+use vh_design::{Block, Instruction, Operation, ShowCall, StmtInfo, Term};
 
 // 4 million statements are to fit.
 #[test]

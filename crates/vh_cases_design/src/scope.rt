@@ -4,7 +4,7 @@ use vh_base::{NoMemory, ObjId};
 use vh_bind_scope::{
     Declaration, Meaning, Names, Top, found, found_first, found_inside, found_scope, indexed,
 };
-use vh_design_nodes::Range;
+use vh_design::Range;
 
 const TOP: u32 = 0;
 

@@ -1,8 +1,7 @@
 use std::alloc::Global;
 use std::test::Fail;
 use vh_base::{DriverId, ExprId, NoMemory, ObjId, Object};
-use vh_design::{Design, Detail, DriverInfo, Kind, Name, NetType, ObjectInfo, Parts};
-use vh_design_code::Change;
+use vh_design::{Change, Design, Detail, DriverInfo, Kind, Name, NetType, ObjectInfo, Parts};
 use vh_logic::{Digit, Vec4};
 use vh_store::Store;
 

@@ -3,10 +3,10 @@
 use std::test::Fail;
 use vh_ast::{Binary, NetType, PortType};
 use vh_base::Place;
-use vh_lex::{Keyword, Kind, Mark, Token};
+use vh_lex::{Keyword, Kind, Symbol, Token};
 use vh_parse_grammar::{Cursor, Stop};
 use vh_parse_syntax::tables::{NET, PORT_TYPE};
-use vh_parse_syntax::{Class, Group, Rows, Sign, Start, Syntax, Word, syntax_laws};
+use vh_parse_syntax::{Class, Group, Lexeme, Rows, Start, Syntax, Word, syntax_laws};
 
 fn token(kind: Kind) -> Token {
     let place = Place {
@@ -22,7 +22,7 @@ fn token(kind: Kind) -> Token {
 fn words(rt: HostRuntime) -> Result<(), Fail> {
     let tokens = [
         token(Kind::Word(Keyword::Wire)),
-        token(Kind::Mark(Mark::Semicolon)),
+        token(Kind::Symbol(Symbol::Semicolon)),
         token(Kind::Word(Keyword::Specify)),
     ];
     let wire = Word { token: &tokens[0] };
@@ -35,8 +35,8 @@ fn words(rt: HostRuntime) -> Result<(), Fail> {
     assert!(rt; at.next_is(Class::Row(Rows::Net)));
     assert!(rt; !at.next_is(Class::Among(Group::Hidden)));
     let behind = at
-        .take(Class::Is(Sign::Wire))?
-        .take(Class::Is(Sign::Semicolon))?;
+        .take(Class::Is(Lexeme::Wire))?
+        .take(Class::Is(Lexeme::Semicolon))?;
     assert!(rt; behind.lost() == Stop::LeftOut(1));
     assert!(rt; at.lost() == Stop::Lost(3));
     Ok(())

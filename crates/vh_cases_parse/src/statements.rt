@@ -7,8 +7,8 @@ use std::process::Abort;
 use std::test::Fail;
 use vh_ast::{
     AssignWord, BlockWord, CaseWord, DataType, Decl, Delay, DelayValue, Edge, Ev, Event, Expr,
-    ExprForm, ForceWord, Id, Init, Matched, LoopWord, Lv, LvPart, Name, Primary, Range, ReleaseWord,
-    Sel, Set, Simple, Step, Stmt, StmtForm, Var, VarPart, held,
+    ExprForm, ForceWord, Id, Init, LoopWord, Lv, LvPart, Matched, Name, Primary, Range,
+    ReleaseWord, Sel, Set, Simple, Step, Stmt, StmtForm, Var, VarPart, held,
 };
 use vh_base::Place;
 use vh_lex::Lexer;

@@ -9,8 +9,8 @@ use sqlite_items::{Boxed, Items};
 use std::alloc::Global;
 use std::test::Fail;
 use vh_ast::{
-    Assigned, Binary, CaseWord, Citem, Expr, ExprForm, Gblock, Id, Item, ItemForm, Matched, Link,
-    Lv, LvPart, Name, Number, Primary, Simple, Step, Stmt, StmtForm, Unary,
+    Assigned, Binary, CaseWord, Citem, Expr, ExprForm, Gblock, Id, Item, ItemForm, Link, Lv,
+    LvPart, Matched, Name, Number, Primary, Simple, Step, Stmt, StmtForm, Unary,
 };
 use vh_base::{NoMemory, Place};
 use vh_base_shared::SharedBytes;

@@ -2,12 +2,9 @@ use crate::statements::{Run, built, code, delay, node, object, shown};
 use std::alloc::Global;
 use std::test::Fail;
 use vh_base::{Boxed, Bytes, DriverId, ExprId, NoMemory, ObjId, Object, Sequence, ShowId, WaitId};
-use vh_design::Parts;
-use vh_design_code::{
-    Drive, Operation, Pause, ShowArg, ShowCall, ShowTask, Single, Term, WaitInfo,
-};
-use vh_design_nodes::{
-    Chosen, Detail, DriverInfo, ExprKind, ExprNode, Kind, NetType, ObjectInfo, Select, Selected,
+use vh_design::{
+    Chosen, Detail, Drive, DriverInfo, ExprKind, ExprNode, Kind, NetType, ObjectInfo, Operation,
+    Parts, Pause, Select, Selected, ShowArg, ShowCall, ShowTask, Single, Term, WaitInfo,
 };
 use vh_logic::{Digit, Vec4};
 use vh_proc_simulation::StepFault;

@@ -1,15 +1,12 @@
 use std::alloc::Global;
 use std::test::Fail;
 use vh_base::{Boxed, Bytes, DriverId, ExprId, NoMemory, ObjId, ProcId, Sequence, ShowId, WaitId};
-use vh_design::{Design, Parts};
-use vh_design_code::{
-    Code, Delay, Drive, Goes, Instruction, Operation, Pause, ShowArg, ShowCall, ShowTask, Single,
-    Term, WaitInfo,
+use vh_design::{
+    Chosen, Code, Delay, Design, Detail, Drive, DriverInfo, ExprKind, ExprNode, Goes, Instruction,
+    Kind, Name, NetType, ObjectInfo, Operation, Parts, Pause, Select, Selected, ShowArg, ShowCall,
+    ShowTask, Single, Term, WaitInfo,
 };
-use vh_design_nodes::{
-    Chosen, Detail, DriverInfo, ExprKind, ExprNode, Kind, Name, NetType, ObjectInfo, Select,
-    Selected, kind_signed, kind_width,
-};
+use vh_design_nodes::{kind_signed, kind_width};
 use vh_logic::{Digit, Vec4};
 use vh_proc_simulation::{Came, Next, Simulation, StepFault};
 use vh_queue::{Entry, Work};

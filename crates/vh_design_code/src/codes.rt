@@ -72,7 +72,15 @@ fn all_instructions_fit(
         instructions.now }
 {
     instructions.iter().all(|instruction| {
-        fits_instruction(objects, exprs, drivers, limits, positions, blocks, instruction)
+        fits_instruction(
+            objects,
+            exprs,
+            drivers,
+            limits,
+            positions,
+            blocks,
+            instruction,
+        )
     })
 }
 

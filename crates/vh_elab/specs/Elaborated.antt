@@ -20,8 +20,8 @@ use Rattle.vh_elab_sites.specs.declared.site.CodeWord.TheVariants as word
 use Rattle.vh_elab_sites.specs.Sites as S
 use Rattle.vh_elab_sites.specs.Sites.{Declared, SiteTree, variable, words, named_event, code, named_block, result, argument, net, wire, port, drives, gate, genvar, gen_block, loop_name, child}
 use Rattle.vh_elab_modules.specs.Modules.{module_named, modules_fault, top_of}
-use Rattle.vh_elab_walk.specs.Order.{Placed, Walk, Walked, instances_of, least_precision}
-use Rattle.vh_elab_walk.specs.Order as W
+use Rattle.vh_elab_walk.specs.Walks.{Placed, Walk, Walked, instances_of, least_precision}
+use Rattle.vh_elab_walk.specs.Walks as W
 use Rattle.vh_elab_declare.specs.Constants.{literal_node}
 use Rattle.vh_elab.specs.Routines.{routines_of}
 use Rattle.vh_elab.specs.Coded.{Coding, Ready, assignment_coded, counted, gate_coded, is_full, only_values, statement_coded, surroundings_at, value_coded}

@@ -7,7 +7,7 @@ use Rattle.vh_elab_sites.specs.declared.site.CodeWord.TheVariants as word
 use Rattle.vh_elab_sites.specs.Sites as S
 use Rattle.vh_elab_sites.specs.Sites.{Declared, SiteTree, variable, words, named_event, code, named_block, result, argument, net, wire, port, drives, gate, genvar, gen_block, loop_name, child}
 use Rattle.vh_elab_declare.specs.Objects.{is_routine}
-use Rattle.vh_elab_walk.specs.Order.{Placed}
+use Rattle.vh_elab_walk.specs.Walks.{Placed}
 
 -- The arguments of a task or function stand directly behind it, in its scope, and the result of a function, which is the first.
 abbrev pub argument_in : ℕ → Declared → List Argument

@@ -17,7 +17,7 @@ use vh_ast::{Conn, Direction, Expr, Id, Inst};
 use vh_base::{DesignFault, NoMemory, ObjId, Place};
 use vh_bind_least::{Fault, fault_if, least};
 use vh_bind_stmt::object_of;
-use vh_design_code::DriverIds;
+use vh_design::DriverIds;
 use vh_design_nodes::is_vector_at;
 use vh_elab_drives::{is_net_at, output_drivers, port_code};
 use vh_elab_index::Index;

@@ -5,7 +5,7 @@ ghost use Rattle.vh_elab.specs.Views.{coding_seen};
 use crate::coding::Coding;
 use vh_base::{DesignFault, NoMemory, Place};
 use vh_bind_least::{fault_if, least};
-use vh_design_nodes::{ExprKind, ExprNode};
+use vh_design::{ExprKind, ExprNode};
 
 // How many statements and operators a design may have.
 pub(crate) const MOST_COUNTED: u64 = 4_194_304;

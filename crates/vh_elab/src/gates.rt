@@ -16,8 +16,7 @@ use std::alloc::Global;
 use vh_ast::{Delay, Expr, Gate, GateType};
 use vh_base::{DesignFault, ExprId, NoMemory, Place, Sequence};
 use vh_bind::{ElabFault, Scope, with_number};
-use vh_design_code::{Delay as Wait, DriverIds, Operation};
-use vh_design_nodes::{ExprIds, ExprNode};
+use vh_design::{Delay as Wait, DriverIds, ExprIds, ExprNode, Operation};
 use vh_elab_drives::{
     Driving, drivers_sum, gate_code, gate_delay, gate_input, has_terminals, output_drivers,
 };

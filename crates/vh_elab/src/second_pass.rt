@@ -22,7 +22,7 @@ use vh_base::{NoMemory, ObjId};
 use vh_bind::Scope;
 use vh_bind_scope::Top;
 use vh_bind_stmt::Surroundings;
-use vh_design_nodes::ExprNode;
+use vh_design::ExprNode;
 use vh_elab_declare::{around, genvars_in};
 use vh_elab_ports::Ports;
 use vh_elab_sites::{CodeWord, Declared, Site, Thing};

@@ -5,4 +5,4 @@ pub mod GivenLemmas
 -- A round that changes nothing
 pub mod RoundsLemmas
 -- Sites by their depths
-pub mod OrderLemmas
+pub mod SettlingLemmas

@@ -11,7 +11,7 @@ use Rattle.vh_elab_sites.specs.Sites.{Declared, SiteTree, gen_block}
 use Rattle.vh_elab_declare.specs.Needs.{needs_fault}
 use Rattle.vh_elab_declare.specs.Objects.{Made, Naming, each, made_site, named_site}
 use Rattle.vh_elab_declare.specs.Constants.{Genvars, Home, Known, Checked, settled_in, measured_site, with_genvar}
-use Rattle.vh_elab_declare.specs.Order.{in_order}
+use Rattle.vh_elab_declare.specs.Settling.{as_needed}
 
 -- The objects behind those so far, the first of which is the instance.
 abbrev pub made_of : ObjectInfo → List SiteTree → Known → Made
@@ -48,7 +48,7 @@ first_known o so k = record {
 
 -- The parameters take their values.
 abbrev pub all_settled : Home → List SiteTree → Known → Known
-all_settled h so k = settled_in h (in_order h k so) k
+all_settled h so k = settled_in h (as_needed h k so) k
 
 unfoldable pub settled_known : Home → ObjectInfo → List SiteTree → Known → Known
 settled_known h o so k = all_settled h so (first_known o so k)

@@ -5,7 +5,7 @@ pub mod Constants
 -- Parameters that need themselves
 pub mod Needs
 -- The order in which parameters take their values
-pub mod Order
+pub mod Settling
 -- How the code orders sites
 pub mod Layers
 -- The first pass

@@ -85,6 +85,6 @@ BothBy (Err (faults.Refused f p)) (Err (faults.Refused g q)) r =
 abbrev pub layers_seen : {A : Type 0} → List (Vec at_site.Site A) → List (List SiteTree)
 layers_seen layers = map (λ v. all_seen v.items) layers
 
-abbrev pub order_seen : {A : Type 0} → List SiteTree → Option (Vec at_site.Site A) → List SiteTree
-order_seen so None = so
-order_seen so (Some v) = all_seen v.items
+abbrev pub sequence_seen : {A : Type 0} → List SiteTree → Option (Vec at_site.Site A) → List SiteTree
+sequence_seen so None = so
+sequence_seen so (Some v) = all_seen v.items

@@ -16,9 +16,9 @@ mod given;
 mod known;
 mod needs;
 mod objects;
-mod order;
 mod parameters;
 mod ranges;
+mod settling;
 mod standing;
 
 pub use checked::{Checked, declare, first_pass};

@@ -92,7 +92,7 @@ fn inverted(
         Mode::Value,
         nodes,
         place,
-        Prefix::Sign(Unary::Invert),
+        Prefix::UnaryOperator(Unary::Invert),
         value,
     )
 }

@@ -15,7 +15,7 @@ use vh_ast::{Gblock, Id, Item, ItemForm};
 use vh_base::{NoMemory, ObjId, Place};
 use vh_bind_scope::{Meaning, Names, found};
 use vh_elab_sites::{
-    BlockName, BlockText, Choice, Declared, GenvarAt, Listing, Around, add_plain, add_site,
+    Around, BlockName, BlockText, Choice, Declared, GenvarAt, Listing, add_plain, add_site,
     block_place, is_lone, name_place,
 };
 

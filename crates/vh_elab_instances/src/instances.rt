@@ -13,7 +13,7 @@ use vh_ast::{Item, Module};
 use vh_base::{NoMemory, ObjId};
 use vh_bind_scope::Names;
 use vh_elab_ports::{Directed, Ports, add_header};
-use vh_elab_sites::{Choice, Listing, Around, add_item, add_pars, add_ports};
+use vh_elab_sites::{Around, Choice, Listing, add_item, add_pars, add_ports};
 use vh_lex::DefaultNet;
 
 fn header_of(alloc: Global, module: &Module) -> Result<Vec<Directed<'_>>, NoMemory>

@@ -69,7 +69,8 @@ fn is_seen(around_it: Around, name: &[u8], sites: &Listing) -> bool
         (around_seen around_it.entry)) name.now) }
 {
     let scope = ObjId::new(around_it.scope);
-    sites.seen.meaning(scope, name).is_some() || found(&sites.seen, around_it.around, name).is_some()
+    sites.seen.meaning(scope, name).is_some()
+        || found(&sites.seen, around_it.around, name).is_some()
 }
 
 fn add_missing<'a>(

@@ -3,7 +3,7 @@ use Rattle.std.proofs.Common.{◌≡◌, ◌∙◌, ◌++◌, ℕ, zero, suc, Li
 use Rattle.std.proofs.lemmas.List.{map-append, reverse-append}
 use Rattle.vh_ast.specs.Items.{SourceTree}
 use Rattle.vh_elab_walk.specs.declared.walk.Waiting as next
-use Rattle.vh_elab_walk.specs.Order.{Waiting, Walk, Walked, walked, later, walk, on, ended, going, one_walked}
+use Rattle.vh_elab_walk.specs.Walks.{Waiting, Walk, Walked, walked, later, walk, on, ended, going, one_walked}
 use Rattle.vh_elab_walk.specs.Views.{all_waiting, stack_seen, waiting_seen}
 
 -- The last of a stack comes first.

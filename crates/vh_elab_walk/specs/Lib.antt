@@ -1,6 +1,6 @@
 -- The values that instances give to parameters
 pub mod Overrides
 -- The instances in walk order
-pub mod Order
+pub mod Walks
 -- How contracts see what the code holds
 pub mod Views

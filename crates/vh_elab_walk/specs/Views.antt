@@ -19,7 +19,7 @@ use Rattle.vh_logic.specs.Vector.{Vector}
 use Rattle.vh_bind.specs.declared.fault.ElabFault.{ElabFault}
 use Rattle.vh_bind.specs.declared.fault.ElabFault.TheVariants as faults
 use Rattle.vh_elab_walk.specs.Overrides.{Overriding, taken_by}
-use Rattle.vh_elab_walk.specs.Order.{Children, Going, Placed, Waiting, Walk, Walked, on, ended, walked, refused, later}
+use Rattle.vh_elab_walk.specs.Walks.{Children, Going, Placed, Waiting, Walk, Walked, on, ended, walked, refused, later}
 
 abbrev pub names_seen : List (Bor (List ℕ)) → List (List ℕ)
 names_seen names = map (λ b. b.now) names

@@ -10,8 +10,8 @@ ghost use Rattle.vh_elab_modules.specs.Modules.{module_named};
 ghost use Rattle.vh_elab_unroll.specs.Constructs.{unrolled};
 ghost use Rattle.vh_elab_unroll.specs.Views.{unrolled_seen};
 ghost use Rattle.vh_elab_walk.specs.Overrides.{overrides};
-ghost use Rattle.vh_elab_walk.specs.Order;
-ghost use Rattle.vh_elab_walk.specs.Order.{with_instance};
+ghost use Rattle.vh_elab_walk.specs.Walks;
+ghost use Rattle.vh_elab_walk.specs.Walks.{with_instance};
 ghost use Rattle.vh_elab_walk.specs.Views.{IsSource, all_waiting, children_seen, going_seen, placed_seen, source_seen, stack_seen, waiting_seen, walk_seen, walked_seen};
 
 use crate::overrides::overrides;
@@ -146,8 +146,8 @@ fn add_waiting<'a, 'b>(
     children: &mut Children<'a, 'b>,
 ) -> Result<(), NoMemory>
     ensures { OnOk result (children_seen children.new
-        ≡ Order.with_child (children_seen children.old)
-        (Order.waiting_for scope (inst_tree inst.now)
+        ≡ Walks.with_child (children_seen children.old)
+        (Walks.waiting_for scope (inst_tree inst.now)
         (module_tree ports.now) (overrides (scope_at (home_seen home.entry)
         (known_seen known.now) scope) place (module_tree ports.now)
         (map conn_tree parameters.now)))) }
@@ -189,7 +189,7 @@ fn add_instance<'a, 'b>(
 ) -> Result<(), NoMemory>
     requires { IsSource modules }
     ensures { OnOk result (children_seen children.new
-        ≡ Order.with_child (children_seen children.old) (Order.child_by (home_seen home.entry)
+        ≡ Walks.with_child (children_seen children.old) (Walks.child_by (home_seen home.entry)
         (known_seen known.now) scope id.now (map conn_tree parameters.now)
         (inst_tree inst.now) (module_named (source_seen modules.entry) id.now.name))) }
 {
@@ -216,7 +216,7 @@ fn add_child<'a, 'b>(
 ) -> Result<(), NoMemory>
     requires { IsSource modules }
     ensures { OnOk result (children_seen children.new
-        ≡ Order.child_declared (source_seen modules.entry) (home_seen home.entry)
+        ≡ Walks.child_declared (source_seen modules.entry) (home_seen home.entry)
         (known_seen known.now) scope (declared_seen declared.entry)
         (children_seen children.old)) }
 {
@@ -250,7 +250,7 @@ fn children_of<'a, 'b>(
 ) -> Result<Children<'a, 'b>, NoMemory>
     requires { IsSource modules }
     ensures { IfOk result (λ cs. children_seen cs
-        ≡ Order.children_of (source_seen modules.entry) (home_seen home.entry)
+        ≡ Walks.children_of (source_seen modules.entry) (home_seen home.entry)
         (known_seen known.now)
         (all_seen sites.now) fault) }
 {
@@ -274,7 +274,7 @@ fn children_of<'a, 'b>(
 
 // The name that an instance's item declares stands for the instance.
 fn name_in(scope: Option<ObjId>, name: &[u8], number: u32, names: &mut Names)
-    ensures { names.new ≡ Order.named_in scope name.now number names.old }
+    ensures { names.new ≡ Walks.named_in scope name.now number names.old }
 {
     if let Some(scope) = scope {
         let meaning = Meaning::Object {
@@ -312,7 +312,7 @@ fn with_placed<'a, 'b>(
     placed: Vec<Placed<'a, 'b>>,
 ) -> Result<Walk<'a, 'b>, NoMemory>
     ensures { IfOk result (λ wk. walk_seen wk
-        ≡ Order.with_placed (Order.home_of top_name.now number (waiting_seen next.entry))
+        ≡ Walks.with_placed (Walks.home_of top_name.now number (waiting_seen next.entry))
         (module_tree next.entry.ports.now) (all_seen sites.entry.items) (checked_seen checked)
         (map placed_seen placed.entry.items)) }
 {
@@ -351,7 +351,7 @@ fn gone<'a, 'b>(
     children: Children<'a, 'b>,
 ) -> Result<Going<'a, 'b>, NoMemory>
     ensures { IfOk result (λ g. going_seen g
-        ≡ Order.children_walked (Order.home_of top_name.now number (waiting_seen next.entry))
+        ≡ Walks.children_walked (Walks.home_of top_name.now number (waiting_seen next.entry))
         (module_tree next.entry.ports.now) (all_seen sites.entry.items) passed
         (checked_seen checked) (stack_seen waiting.entry.items)
         (map placed_seen placed.entry.items) (children_seen children.entry)) }
@@ -409,8 +409,8 @@ fn walk_unrolled<'a, 'b>(
 ) -> Result<Going<'a, 'b>, NoMemory>
     requires { IsSource modules }
     ensures { IfOk result (λ g. going_seen g
-        ≡ Order.unrolled_walked (source_seen modules.entry)
-        (Order.home_of top_name.now number (waiting_seen next.entry))
+        ≡ Walks.unrolled_walked (source_seen modules.entry)
+        (Walks.home_of top_name.now number (waiting_seen next.entry))
         (waiting_seen next.entry) (stack_seen waiting.entry.items) (walk_seen walk.entry)
         (unrolled_seen unrolled.entry)) }
 {
@@ -447,7 +447,7 @@ fn unroll<'a>(
     next: &Waiting<'a, '_>,
 ) -> Result<Unrolled<'a>, NoMemory>
     ensures { IfOk result (λ u. unrolled_seen u
-        ≡ unrolled (Order.home_of top_name.now 0 (waiting_seen next.now))
+        ≡ unrolled (Walks.home_of top_name.now 0 (waiting_seen next.now))
         (module_tree next.now.ports.now)) }
 {
     unroll_module(alloc, next.ports, top_name, &next.given)
@@ -464,7 +464,7 @@ fn walk_one<'a, 'b>(
 ) -> Result<Going<'a, 'b>, NoMemory>
     requires { IsSource modules }
     ensures { IfOk result (λ g. going_seen g
-        ≡ Order.one_walked (source_seen modules.entry) top_name.now (waiting_seen next.entry)
+        ≡ Walks.one_walked (source_seen modules.entry) top_name.now (waiting_seen next.entry)
         (stack_seen waiting.entry.items) (walk_seen walk.entry)) }
 {
     let Ok(number) = u32::try_from(walk.known.objects.len()) else {
@@ -489,7 +489,7 @@ fn walk_all<'a, 'b>(
 ) -> Result<Walked<'a, 'b>, NoMemory>
     requires { IsSource modules }
     ensures { IfOk result (λ w. walked_seen w
-        ≡ Order.walk Order.most_instances (source_seen modules.entry) top_name.now
+        ≡ Walks.walk Walks.most_instances (source_seen modules.entry) top_name.now
         (stack_seen waiting.entry.items) (walk_seen walk.entry)) }
 {
     let mut waiting = waiting;
@@ -518,7 +518,7 @@ pub fn instances_of<'a, 'b>(
 ) -> Result<Walked<'a, 'b>, NoMemory>
     requires { IsSource modules }
     ensures { IfOk result (λ w. walked_seen w
-        ≡ Order.instances_of (source_seen modules.entry) (module_tree top.now)) }
+        ≡ Walks.instances_of (source_seen modules.entry) (module_tree top.now)) }
 {
     let id = &top.module().id;
     let top_name = id.name.as_slice();

@@ -12,8 +12,8 @@ ghost use Rattle.vh_eval.specs.Selects.{address_of};
 ghost use Rattle.vh_eval.specs.Value.{value_of, value_below, kind_value, own_value, unary_value, alone, whole, word_or_x, chosen_at, select_value, selected_value, arithmetic_chain, shift_chain, comparison_chain, compared, compared_all, logic_chain, joined};
 
 use crate::operators::{
-    arithmetic, choice, comparison, is_reduction, logic, with_sign, of_digit, reduction, repeated,
-    shift, sign_changed, time_in,
+    arithmetic, choice, comparison, is_reduction, logic, of_digit, reduction, repeated, shift,
+    sign_changed, time_in, with_sign,
 };
 use crate::selects::{address_of, selected, sliced};
 use vh_base::{ExprId, ObjId, Object};

@@ -28,33 +28,33 @@ use Rattle.vh_host.proofs.OpeningsLemmas.{has-opening}
 use Rattle.vh_host.proofs.ReadingLemmas.{files_back, some_contents, told_verdict}
 
 -- Nothing is written of a run before its first label.
-none_from : (order : Chooser) (budget : ℕ) (design : Shape) (scripts : List ScriptData) (s : Status) → WroteOf budget [] s []
-    → (opening : State) → Opens design scripts opening → WroteFromOpening order budget design scripts s []
-none_from order budget design scripts s is opening opens =
+none_from : (chooser : Chooser) (budget : ℕ) (design : Shape) (scripts : List ScriptData) (s : Status) → WroteOf budget [] s []
+    → (opening : State) → Opens design scripts opening → WroteFromOpening chooser budget design scripts s []
+none_from chooser budget design scripts s is opening opens =
     let fresh = opens-fresh design scripts opening opens in record {
       opening = opening;
       opens = opens;
-      wrote = record { moves = []; run = tt; laws = runs-keep-laws opening fresh order [] tt; in_budget = omega arith; text = is };
+      wrote = record { moves = []; run = tt; laws = runs-keep-laws opening fresh chooser [] tt; in_budget = omega arith; text = is };
     }
 
-wrote_none : (order : Chooser) (budget : ℕ) (design : Shape) (scripts : List ScriptData) (s : Status) → WroteOf budget [] s []
-    → WroteFromOpening order budget design scripts s []
-wrote_none order budget design scripts s is =
-    let o = has-opening design scripts in none_from order budget design scripts s is o.0 o.1
+wrote_none : (chooser : Chooser) (budget : ℕ) (design : Shape) (scripts : List ScriptData) (s : Status) → WroteOf budget [] s []
+    → WroteFromOpening chooser budget design scripts s []
+wrote_none chooser budget design scripts s is =
+    let o = has-opening design scripts in none_from chooser budget design scripts s is o.0 o.1
 
 -- Want of memory before the run begins, on any verdict.
-pub no_memory : (order : Chooser) (budget : ℕ) (v : Verdict) (w : Option (List ℕ)) → AnswersWith order budget v status.NoMemory w w
-no_memory order budget (refuses r) w = record { written = []; appends = sym (appended_nothing w); answers = (inr tt, refl) }
-no_memory order budget (accepts design scripts) w = record {
+pub no_memory : (chooser : Chooser) (budget : ℕ) (v : Verdict) (w : Option (List ℕ)) → AnswersWith chooser budget v status.NoMemory w w
+no_memory chooser budget (refuses r) w = record { written = []; appends = sym (appended_nothing w); answers = (inr tt, refl) }
+no_memory chooser budget (accepts design scripts) w = record {
   written = [];
   appends = sym (appended_nothing w);
-  answers = wrote_none order budget design scripts status.NoMemory (record { part = 0; front = refl; but_last_line = omega arith });
+  answers = wrote_none chooser budget design scripts status.NoMemory (record { part = 0; front = refl; but_last_line = omega arith });
 }
 
 -- A read that failed, where a refusal is found later.
-failed_refusal : (order : Chooser) (budget : ℕ) (r : Status) (n : ℕ) (w : Option (List ℕ)) → FailsBefore n r
-    → AnswersWith order budget (refuses r) (status.ReadFault n) w w
-failed_refusal order budget r n w before = record { written = []; appends = sym (appended_nothing w); answers = (inr before, refl) }
+failed_refusal : (chooser : Chooser) (budget : ℕ) (r : Status) (n : ℕ) (w : Option (List ℕ)) → FailsBefore n r
+    → AnswersWith chooser budget (refuses r) (status.ReadFault n) w w
+failed_refusal chooser budget r n w before = record { written = []; appends = sym (appended_nothing w); answers = (inr before, refl) }
 
 -- The scripts are refused once all files were read.
 either_later : (m : ℕ) (b : Bool) (r s : Result (List ScriptData) Status) → IfErr r (FailsBefore m) → IfErr s (FailsBefore m)
@@ -75,46 +75,46 @@ scripts_later m n found (file ∷ files) =
     (λ scripts. scripts_later m (n + 1) scripts files))
     (scripts_later m (n + 1) found files)
 
-failed_elaboration : (order : Chooser) (budget : ℕ) (e : Elaborated) (scripts : List ScriptData) (n : ℕ) (w : Option (List ℕ))
-    → AnswersWith order budget (by_elaboration e scripts) (status.ReadFault n) w w
-failed_elaboration order budget (made design) scripts n w = record {
+failed_elaboration : (chooser : Chooser) (budget : ℕ) (e : Elaborated) (scripts : List ScriptData) (n : ℕ) (w : Option (List ℕ))
+    → AnswersWith chooser budget (by_elaboration e scripts) (status.ReadFault n) w w
+failed_elaboration chooser budget (made design) scripts n w = record {
   written = [];
   appends = sym (appended_nothing w);
-  answers = wrote_none order budget design scripts (status.ReadFault n) (refl, refl);
+  answers = wrote_none chooser budget design scripts (status.ReadFault n) (refl, refl);
 }
-failed_elaboration order budget (elab.refused f) scripts n w = failed_refusal order budget _ n w tt
-failed_elaboration order budget elab.later scripts n w = failed_refusal order budget _ n w tt
+failed_elaboration chooser budget (elab.refused f) scripts n w = failed_refusal chooser budget _ n w tt
+failed_elaboration chooser budget elab.later scripts n w = failed_refusal chooser budget _ n w tt
 
-failed_scripts : (order : Chooser) (budget : ℕ) (begin : Place) (source : SourceTree) (scripts : Result (List ScriptData) Status) (n : ℕ) (w : Option (List ℕ))
-    → IfErr scripts (FailsBefore n) → AnswersWith order budget (by_scripts begin source scripts) (status.ReadFault n) w w
-failed_scripts order budget begin source (Ok scripts) n w later = failed_elaboration order budget (elaborated begin source) scripts n w
-failed_scripts order budget begin source (Err refusal) n w later = failed_refusal order budget refusal n w later
+failed_scripts : (chooser : Chooser) (budget : ℕ) (begin : Place) (source : SourceTree) (scripts : Result (List ScriptData) Status) (n : ℕ) (w : Option (List ℕ))
+    → IfErr scripts (FailsBefore n) → AnswersWith chooser budget (by_scripts begin source scripts) (status.ReadFault n) w w
+failed_scripts chooser budget begin source (Ok scripts) n w later = failed_elaboration chooser budget (elaborated begin source) scripts n w
+failed_scripts chooser budget begin source (Err refusal) n w later = failed_refusal chooser budget refusal n w later
 
 -- So are the texts.
-failed_source : (order : Chooser) (budget : ℕ) (source : Result SourceTree DesignRefusal) (files : List File) (n : ℕ) (w : Option (List ℕ))
-    → AnswersWith order budget (by_source source files) (status.ReadFault n) w w
-failed_source order budget (Err refusal) files n w = failed_refusal order budget _ n w tt
-failed_source order budget (Ok source) files n w =
-    failed_scripts order budget (begin_from 1 files) source (scripts_of 1 [] files) n w (scripts_later n 1 [] files)
+failed_source : (chooser : Chooser) (budget : ℕ) (source : Result SourceTree DesignRefusal) (files : List File) (n : ℕ) (w : Option (List ℕ))
+    → AnswersWith chooser budget (by_source source files) (status.ReadFault n) w w
+failed_source chooser budget (Err refusal) files n w = failed_refusal chooser budget _ n w tt
+failed_source chooser budget (Ok source) files n w =
+    failed_scripts chooser budget (begin_from 1 files) source (scripts_of 1 [] files) n w (scripts_later n 1 [] files)
 
 -- A read that failed, where no file before is too long.
-pub read_failed : (order : Chooser) (budget : ℕ) (o : Option ℕ) (files : List File) (n : ℕ) (w : Option (List ℕ))
-    → ((k : ℕ) → o ≡ Some k → n ≤ k) → AnswersWith order budget (by_length o files) (status.ReadFault n) w w
-read_failed order budget None files n w before = failed_source order budget (source_of files) files n w
-read_failed order budget (Some k) files n w before = failed_refusal order budget (status.TooLong k) n w (before k refl)
+pub read_failed : (chooser : Chooser) (budget : ℕ) (o : Option ℕ) (files : List File) (n : ℕ) (w : Option (List ℕ))
+    → ((k : ℕ) → o ≡ Some k → n ≤ k) → AnswersWith chooser budget (by_length o files) (status.ReadFault n) w w
+read_failed chooser budget None files n w before = failed_source chooser budget (source_of files) files n w
+read_failed chooser budget (Some k) files n w before = failed_refusal chooser budget (status.TooLong k) n w (before k refl)
 
 -- A refusal.
-pub refuses_so : (order : Chooser) (budget : ℕ) (v : Verdict) (r : Status) (w : Option (List ℕ)) → v ≡ refuses r → AnswersWith order budget v r w w
-refuses_so order budget v r w is =
-    let P : Verdict → Type 0 = λ u. AnswersWith order budget u r w w in
+pub refuses_so : (chooser : Chooser) (budget : ℕ) (v : Verdict) (r : Status) (w : Option (List ℕ)) → v ≡ refuses r → AnswersWith chooser budget v r w w
+refuses_so chooser budget v r w is =
+    let P : Verdict → Type 0 = λ u. AnswersWith chooser budget u r w w in
     subst P (sym is) (record { written = []; appends = sym (appended_nothing w); answers = (inl refl, refl) })
 
 -- A refusal of the texts.
-pub refused_texts : (order : Chooser) (budget : ℕ) (r : Refusal) (v : Verdict) (w : Option (List ℕ)) → RefusesTexts r v
-    → AnswersWith order budget v (status_of r) w w
-refused_texts order budget (refusal.Design fault at) v w is = refuses_so order budget v (status.DesignRefused fault at) w is
-refused_texts order budget (refusal.Script n fault at) v w is = refuses_so order budget v (status.AppRefused n fault at) w is
-refused_texts order budget refusal.NoMemory v w is = no_memory order budget v w
+pub refused_texts : (chooser : Chooser) (budget : ℕ) (r : Refusal) (v : Verdict) (w : Option (List ℕ)) → RefusesTexts r v
+    → AnswersWith chooser budget v (status_of r) w w
+refused_texts chooser budget (refusal.Design fault at) v w is = refuses_so chooser budget v (status.DesignRefused fault at) w is
+refused_texts chooser budget (refusal.Script n fault at) v w is = refuses_so chooser budget v (status.AppRefused n fault at) w is
+refused_texts chooser budget refusal.NoMemory v w is = no_memory chooser budget v w
 
 -- The account of a call, by the reading of its words.
 account_of : (words : List (List ℕ)) (holds : Holds) (s : Status) (old new : Option (List ℕ)) (r : Option Reading) (contents : List (List ℕ))
@@ -128,12 +128,12 @@ account_of words holds s old new r contents is answered answers =
 -- Files that were read whole.
 pub accounts_files : (words : List (List ℕ)) (holds : Holds) (s : Status) (old new : Option (List ℕ)) (r : Reading) (files : List File)
     → Some r ≡ reading words → AreRead holds r.files files → first_too_long 1 files ≡ None
-    → AnswersWith r.order r.budget (by_texts files) s old new → Accounts words holds s old new
+    → AnswersWith r.chooser r.budget (by_texts files) s old new → Accounts words holds s old new
 accounts_files words holds s old new r files is read short answers =
     let back : files_with r.files (contents_of files) ≡ files = ap (λ (ws : List (List ℕ)). files_with ws (contents_of files)) (sym read.0) ∙ files_back files in
     let same : by_files (files_with r.files (contents_of files)) ≡ by_texts files =
     ap (λ (fs : List File). by_files fs) back ∙ ap (λ (o : Option ℕ). by_length o files) short in
-    let P : Verdict → Type 0 = λ v. AnswersWith r.order r.budget v s old new in
+    let P : Verdict → Type 0 = λ v. AnswersWith r.chooser r.budget v s old new in
     account_of words holds s old new (Some r) (contents_of files) is read.1 (subst P (sym same) answers)
 
 -- A file that is too long.
@@ -141,7 +141,7 @@ pub accounts_long : (words : List (List ℕ)) (holds : Holds) (w : Option (List 
     → Some r ≡ reading words → MeetsLong holds r.files n → Accounts words holds (status.TooLong n) w w
 accounts_long words holds w r n is long =
     account_of words holds (status.TooLong n) w w (Some r) long.contents is long.answered
-    (refuses_so r.order r.budget (by_files (files_with r.files long.contents)) (status.TooLong n) w
+    (refuses_so r.chooser r.budget (by_files (files_with r.files long.contents)) (status.TooLong n) w
     (ap (λ (o : Option ℕ). by_length o (files_with r.files long.contents)) long.first))
 
 -- A file whose read failed.
@@ -149,7 +149,7 @@ pub accounts_failed : (words : List (List ℕ)) (holds : Holds) (w : Option (Lis
     → Some r ≡ reading words → MeetsNoneLong holds r.files n → Accounts words holds (status.ReadFault n) w w
 accounts_failed words holds w r n is failed =
     account_of words holds (status.ReadFault n) w w (Some r) failed.contents is failed.answered
-    (read_failed r.order r.budget (first_too_long 1 (files_with r.files failed.contents)) (files_with r.files failed.contents) n w failed.none)
+    (read_failed r.chooser r.budget (first_too_long 1 (files_with r.files failed.contents)) (files_with r.files failed.contents) n w failed.none)
 
 -- Want of memory before the files were read.
 pub accounts_none : (words : List (List ℕ)) (holds : Holds) (w : Option (List ℕ)) → Accounts words holds status.NoMemory w w

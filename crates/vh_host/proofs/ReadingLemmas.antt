@@ -247,19 +247,19 @@ any-seen : (files : List TextFile) → list_any is_too_long (files_seen files) �
 any-seen [] = refl
 any-seen (file ∷ files) = ap (λ (b : Bool). is_too_long (file_seen file) || b) (any-seen files)
 
-text-long : (order : Chooser) (o : Option ℕ) (files : List File) (budget : ℕ) → is_some o ≡ true → IsTextBy order budget (by_length o files) []
-text-long order (Some n) files budget is = refl
-text-long order None files budget is = absurd (cc)
+text-long : (chooser : Chooser) (o : Option ℕ) (files : List File) (budget : ℕ) → is_some o ≡ true → IsTextBy chooser budget (by_length o files) []
+text-long chooser (Some n) files budget is = refl
+text-long chooser None files budget is = absurd (cc)
 
 none-long : (o : Option ℕ) (files : List File) → is_some o ≡ false → by_texts files ≡ by_length o files
 none-long (Some n) files is = absurd (cc)
 none-long None files is = refl
 
 -- So the text is none where one is, and else the verdict is that of the texts.
-pub none_long : (order : Chooser) (files : List TextFile) (budget : ℕ) → list_any (λ file. is_too_long (file_seen file)) files ≡ true
-    → IsTextBy order budget (by_files (files_seen files)) []
-none_long order files budget is =
-    text-long order (first_too_long 1 (files_seen files)) (files_seen files) budget (long-any 1 (files_seen files) ∙ any-seen files ∙ is)
+pub none_long : (chooser : Chooser) (files : List TextFile) (budget : ℕ) → list_any (λ file. is_too_long (file_seen file)) files ≡ true
+    → IsTextBy chooser budget (by_files (files_seen files)) []
+none_long chooser files budget is =
+    text-long chooser (first_too_long 1 (files_seen files)) (files_seen files) budget (long-any 1 (files_seen files) ∙ any-seen files ∙ is)
 
 pub same_short : (files : List TextFile) → list_any (λ file. is_too_long (file_seen file)) files ≡ false
     → by_texts (files_seen files) ≡ by_files (files_seen files)

@@ -48,8 +48,8 @@ ComesBefore refusal status.WriteFault = ⊥
 -- What a call answers and writes, by the verdict: a refused input gets its refusal and nothing is
 -- written, unless the source failed or memory was refused before that was found; an accepted one gets a run.
 abbrev pub Answers : Chooser → ℕ → Verdict → Status → List ℕ → Type 0
-Answers order budget (refuses refusal) s written = ((s ≡ refusal) ⊎ ComesBefore refusal s) × (written ≡ [])
-Answers order budget (accepts design scripts) s written = WroteFromOpening order budget design scripts s written
+Answers chooser budget (refuses refusal) s written = ((s ≡ refusal) ⊎ ComesBefore refusal s) × (written ≡ [])
+Answers chooser budget (accepts design scripts) s written = WroteFromOpening chooser budget design scripts s written
 
 -- The contents are those that the source may have answered for the files, in word order.
 abbrev pub WereAnswered : Holds → List (List ℕ) → List (List ℕ) → Type 0
@@ -60,10 +60,10 @@ abbrev pub Tells : Holds → List (List ℕ) → List (List ℕ) → Type 0
 Tells holds files contents = map holds files ≡ map Some contents
 
 -- What is written once the files' contents are there: nothing, or a run's text.
-pub record AnswersWith (order : Chooser) (budget : ℕ) (v : Verdict) (s : Status) (old new : Option (List ℕ)) : Type 0 where
+pub record AnswersWith (chooser : Chooser) (budget : ℕ) (v : Verdict) (s : Status) (old new : Option (List ℕ)) : Type 0 where
   pub written : List ℕ
   pub appends : new ≡ appended old written
-  pub answers : Answers order budget v s written
+  pub answers : Answers chooser budget v s written
 
 -- The whole account of a call: on the contents that the source answered, whatever it tells, the status
 -- and the written bytes are those of the verdict, under the order of choice and with the budget that the words ask for.
@@ -97,5 +97,5 @@ Exactly s given P = (s ≡ given → P) × (P → (s ≡ given) ⊎ (s ≡ statu
 
 -- The text is that of the run that a verdict allows, of so many labels at most; none for a refused input.
 abbrev pub IsTextBy : Chooser → ℕ → Verdict → List ℕ → Type 0
-IsTextBy order budget (refuses r) text = text ≡ []
-IsTextBy order budget (accepts design scripts) text = IsTextFromOpening order budget design scripts text
+IsTextBy chooser budget (refuses r) text = text ≡ []
+IsTextBy chooser budget (accepts design scripts) text = IsTextFromOpening chooser budget design scripts text

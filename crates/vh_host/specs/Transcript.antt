@@ -62,24 +62,24 @@ WroteOf budget moves (status.AppRefused n f p) written = ⊥
 
 -- Labels of one run from a state under an order, no more than the budget, which keep the laws; and
 -- what was written is of their text.
-pub record Wrote (order : Chooser) (budget : ℕ) (s : State) (st : Status) (written : List ℕ) : Type 0 where
+pub record Wrote (chooser : Chooser) (budget : ℕ) (s : State) (st : Status) (written : List ℕ) : Type 0 where
   pub moves : List Move
-  pub run : IsRun order s moves
+  pub run : IsRun chooser s moves
   pub laws : KeepsLaws s moves
   pub in_budget : length moves ≤ budget
   pub text : WroteOf budget moves st written
 
 -- The same of a run of a design with its scripts, which begins at the opening: at time 0, with every digit of every
 -- variable x, the processes to be evaluated and the startups of the scripts before them. (11.4)
-pub record WroteFromOpening (order : Chooser) (budget : ℕ) (d : Shape) (scripts : List ScriptData)
+pub record WroteFromOpening (chooser : Chooser) (budget : ℕ) (d : Shape) (scripts : List ScriptData)
     (st : Status) (written : List ℕ) : Type 0 where
   pub opening : State
   pub opens : Opens d scripts opening
-  pub wrote : Wrote order budget opening st written
+  pub wrote : Wrote chooser budget opening st written
 
 -- The text is that of the labels of such a run, of so many at most.
-pub record IsTextFromOpening (order : Chooser) (budget : ℕ) (d : Shape) (scripts : List ScriptData)
+pub record IsTextFromOpening (chooser : Chooser) (budget : ℕ) (d : Shape) (scripts : List ScriptData)
     (text : List ℕ) : Type 0 where
   pub opening : State
   pub opens : Opens d scripts opening
-  pub is : text ≡ text_of (moves_of order budget opening)
+  pub is : text ≡ text_of (moves_of chooser budget opening)

@@ -78,7 +78,7 @@ fn run_words<F: Files, K: Sink>(
         Err(_) => return Status::NoMemory,
     };
     match read_files(alloc, asked.files.as_slice(), files) {
-        Ok(found) => run_files(alloc, found.as_slice(), asked.order, asked.budget, out),
+        Ok(found) => run_files(alloc, found.as_slice(), asked.chooser, asked.budget, out),
         Err(Unread::Failed(n)) => Status::ReadFault(n),
         Err(Unread::TooLong(n)) => Status::TooLong(n),
         Err(Unread::NoMemory) => Status::NoMemory,
@@ -89,13 +89,13 @@ fn run_words<F: Files, K: Sink>(
 fn run_files<K: Sink>(
     alloc: Global,
     files: &[TextFile<'_>],
-    order: Chooser,
+    chooser: Chooser,
     budget: u64,
     out: &mut K,
 ) -> Status
     requires few { length files.now ≤ 8 }
     requires short { first_too_long 1 (files_seen files.now) ≡ None }
-    ensures answers { AnswersWith order budget (by_texts (files_seen files.now)) result
+    ensures answers { AnswersWith chooser budget (by_texts (files_seen files.now)) result
         (K.written out.old) (K.written out.new) }
     ensures failed { result ≡ Status.WriteFault → Rose (K.faults out.old) (K.faults out.new) }
     ensures calm { result ≢ Status.WriteFault → K.faults out.new ≡ K.faults out.old }
@@ -103,7 +103,7 @@ fn run_files<K: Sink>(
     ensures worded { result ≢ Status.Usage }
 {
     match judge(alloc, files) {
-        Ok((design, scripts)) => run_design(alloc, design, scripts, order, budget, out),
+        Ok((design, scripts)) => run_design(alloc, design, scripts, chooser, budget, out),
         Err(refusal) => status_of(refusal),
     }
 }
@@ -113,12 +113,12 @@ fn run_design<K: Sink>(
     alloc: Global,
     design: Design,
     scripts: Vec<Script>,
-    order: Chooser,
+    chooser: Chooser,
     budget: u64,
     out: &mut K,
 ) -> Status
     requires { length scripts.items ≤ 8 }
-    ensures answers { AnswersWith order budget (accepts design scripts.items) result
+    ensures answers { AnswersWith chooser budget (accepts design scripts.items) result
         (K.written out.old) (K.written out.new) }
     ensures failed { result ≡ Status.WriteFault → Rose (K.faults out.old) (K.faults out.new) }
     ensures calm { result ≢ Status.WriteFault → K.faults out.new ≡ K.faults out.old }
@@ -126,7 +126,7 @@ fn run_design<K: Sink>(
     ensures worded { result ≢ Status.Usage }
 {
     match Kernel::new(alloc, design, scripts) {
-        Ok(mut kernel) => transcribe(alloc, &mut kernel, order, budget, out),
+        Ok(mut kernel) => transcribe(alloc, &mut kernel, chooser, budget, out),
         Err(_) => Status::NoMemory,
     }
 }

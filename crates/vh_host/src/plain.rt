@@ -38,7 +38,7 @@ pub fn plain_text(
         return Ok(Vec::new(alloc));
     };
     let files = files_with(alloc, asked.files.as_slice(), contents)?;
-    text_of_files(alloc, files.as_slice(), asked.order, budget)
+    text_of_files(alloc, files.as_slice(), asked.chooser, budget)
 }
 
 // The files of these words with these contents.
@@ -77,17 +77,17 @@ fn is_too_long(file: &TextFile<'_>) -> bool
 fn text_of_files(
     alloc: Global,
     files: &[TextFile<'_>],
-    order: Chooser,
+    chooser: Chooser,
     budget: u64,
 ) -> Result<Vec<u8>, NoMemory>
     requires { length files.now ≤ 8 }
     ensures { IfOk result
-        (λ text. IsTextBy order budget (by_files (files_seen files.now)) text.items) }
+        (λ text. IsTextBy chooser budget (by_files (files_seen files.now)) text.items) }
 {
     if any_too_long(files) {
         return Ok(Vec::new(alloc));
     }
-    text_of_texts(alloc, files, order, budget)
+    text_of_texts(alloc, files, chooser, budget)
 }
 
 // Is one of the files too long?
@@ -101,16 +101,16 @@ fn any_too_long(files: &[TextFile<'_>]) -> bool
 fn text_of_texts(
     alloc: Global,
     files: &[TextFile<'_>],
-    order: Chooser,
+    chooser: Chooser,
     budget: u64,
 ) -> Result<Vec<u8>, NoMemory>
     requires few { length files.now ≤ 8 }
     requires short { first_too_long 1 (files_seen files.now) ≡ None }
     ensures { IfOk result
-        (λ text. IsTextBy order budget (by_texts (files_seen files.now)) text.items) }
+        (λ text. IsTextBy chooser budget (by_texts (files_seen files.now)) text.items) }
 {
     match judge(alloc, files) {
-        Ok((design, scripts)) => text_of_run(alloc, design, scripts, order, budget),
+        Ok((design, scripts)) => text_of_run(alloc, design, scripts, chooser, budget),
         Err(Refusal::NoMemory) => Err(NoMemory),
         Err(Refusal::Design(_, _) | Refusal::Script(_, _, _)) => Ok(Vec::new(alloc)),
     }
@@ -121,15 +121,15 @@ fn text_of_run(
     alloc: Global,
     design: Design,
     scripts: Vec<Script>,
-    order: Chooser,
+    chooser: Chooser,
     budget: u64,
 ) -> Result<Vec<u8>, NoMemory>
     requires { length scripts.items ≤ 8 }
     ensures { IfOk result
-        (λ text. IsTextFromOpening order budget design scripts.items text.items) }
+        (λ text. IsTextFromOpening chooser budget design scripts.items text.items) }
 {
     let mut kernel = Kernel::new(alloc, design, scripts)?;
-    let text = text_from(alloc, &mut kernel, order, budget)?;
+    let text = text_from(alloc, &mut kernel, chooser, budget)?;
     Ok(text)
 }
 
@@ -137,15 +137,15 @@ fn text_of_run(
 fn text_from(
     alloc: Global,
     kernel: &mut Kernel,
-    order: Chooser,
+    chooser: Chooser,
     budget: u64,
 ) -> Result<Vec<u8>, NoMemory>
     requires { 0 < choices_of (state_of kernel.old) }
     ensures { IfOk result (λ text. text.items
-        ≡ text_of (moves_of order budget (state_of kernel.old))) }
+        ≡ text_of (moves_of chooser budget (state_of kernel.old))) }
 {
     let mut text = Vec::new(alloc);
-    let mut next = order;
+    let mut next = chooser;
     for made in 0..budget {
         let k = choose(kernel, &mut next);
         let label = kernel.step(alloc, k)?;

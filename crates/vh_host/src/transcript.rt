@@ -22,20 +22,20 @@ use vh_kernel_choice::Chooser;
 pub fn transcribe<K: Sink>(
     alloc: Global,
     kernel: &mut Kernel,
-    order: Chooser,
+    chooser: Chooser,
     budget: u64,
     out: &mut K,
 ) -> Status
     requires goes { 0 < choices_of (state_of kernel.old) }
-    requires lawful { Lawful order (state_of kernel.old) }
+    requires lawful { Lawful chooser (state_of kernel.old) }
     ensures wrote { (written : List ℕ) × (K.written out.new ≡ appended (K.written out.old) written)
-        × Wrote order budget (state_of kernel.old) result written }
+        × Wrote chooser budget (state_of kernel.old) result written }
     ensures failed { result ≡ Status.WriteFault → Rose (K.faults out.old) (K.faults out.new) }
     ensures calm { result ≢ Status.WriteFault → K.faults out.new ≡ K.faults out.old }
     ensures read { (n : ℕ) → result ≢ Status.ReadFault n }
     ensures worded { result ≢ Status.Usage }
 {
-    let mut next = order;
+    let mut next = chooser;
     let mut line = String::new(alloc);
     for made in 0..budget {
         let k = choose(kernel, &mut next);
@@ -47,18 +47,18 @@ pub fn transcribe<K: Sink>(
 }
 
 // The number of the choice that the order takes, which then is the order for the labels after it.
-pub(crate) fn choose(kernel: &Kernel, order: &mut Chooser) -> u32
+pub(crate) fn choose(kernel: &Kernel, chooser: &mut Chooser) -> u32
     requires { 0 < choices_of (state_of kernel.now) }
-    ensures choice { result ≡ chosen order.old (choices_of (state_of kernel.now)) }
+    ensures choice { result ≡ chosen chooser.old (choices_of (state_of kernel.now)) }
     ensures below { result < choices_of (state_of kernel.now) }
-    ensures next { order.new ≡ chooser_after order.old (choices_of (state_of kernel.now)) }
+    ensures next { chooser.new ≡ chooser_after chooser.old (choices_of (state_of kernel.now)) }
 {
-    if let Chooser::Fifo = *order {
+    if let Chooser::Fifo = *chooser {
         return 0;
     }
     let count = kernel.choices();
-    let choice = order.chosen(count);
-    *order = order.after(count);
+    let choice = chooser.chosen(count);
+    *chooser = chooser.after(count);
     choice
 }
 

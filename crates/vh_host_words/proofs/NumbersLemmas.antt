@@ -2,7 +2,6 @@
 use Rattle.std.proofs.Common.{◌≡◌, ℕ, ◌<◌, ◌^◌, List, length, Bool, true, false, if◌then◌else◌, Some, None, Err, nat_lt, refl, sym, ap, ◌∙◌, arith}
 use Rattle.std.specs.List.{list_all}
 use Rattle.std.specs.Str.Parse.{ParsesUnsigned, digits_value}
-use Rattle.std.proofs.lemmas.Bool.{lt-ltb}
 use Rattle.std.proofs.lemmas.Bool.Decides.{nat_tests}
 use Rattle.std.proofs.lemmas.Str.Parse.{IsDigitsTest, IsNumeralModel, numerals_by_value, parse_digits}
 use Rattle.vh_host_words.specs.Words.{is_digit, is_numeral, below, number_named}
@@ -19,9 +18,6 @@ tells = record {
 
 own : IsNumeralModel Digits (digits_value 10)
 own = numerals_by_value Digits tells
-
-below-some : (limit n : ℕ) → n < limit → Some n ≡ below limit n
-below-some limit n small = sym (ap (λ (b : Bool). if b then Some n else None) (lt-ltb n limit small))
 
 below-none : (limit n : ℕ) → (n < limit → ⊥) → None ≡ below limit n
 below-none limit n great = let b : nat_lt n limit ≡ false = grind (arith, nat_tests, great) in sym (ap (λ (b : Bool). if b then Some n else None) b)

@@ -7,10 +7,10 @@ abbrev pub saying : Said → Saying
 saying s = record {
   mode = s.mode;
   files = texts s.files.items;
-  order = s.order;
+  chooser = s.chooser;
   budget = s.budget;
   expects = s.expects;
 }
 
 abbrev pub asked : Asked → Reading
-asked a = record { files = texts a.files.items; order = a.order; budget = a.budget }
+asked a = record { files = texts a.files.items; chooser = a.chooser; budget = a.budget }

@@ -14,7 +14,7 @@ use Rattle.vh_host_words.specs.declared.said.Mode.TheVariants as mode
 -- What the words ask for: to run these files under this order of choice, for so many labels at most.
 pub record Reading : Type 0 where
   pub files : List (List ℕ)
-  pub order : Chooser
+  pub chooser : Chooser
   pub budget : ℕ
 
 -- A word that names a Verilog file, and one that names an application's script.
@@ -66,7 +66,7 @@ budget_named word = option_and_then budget_in (number_named word)
 pub record Saying : Type 0 where
   pub mode : Option Mode
   pub files : List (List ℕ)
-  pub order : Option Chooser
+  pub chooser : Option Chooser
   pub budget : Option ℕ
   pub expects : Expects
 
@@ -87,8 +87,8 @@ with_position word s = if is_some s.mode then with_file word s else with_mode s 
 -- An option is said once at most.
 abbrev pub with_chooser : Option Chooser → Saying → Option Saying
 with_chooser None s = None
-with_chooser (Some order) s =
-    if is_some s.order then None else Some (record s { order = Some order; expects = expects.Anything })
+with_chooser (Some by) s =
+    if is_some s.chooser then None else Some (record s { chooser = Some by; expects = expects.Anything })
 
 abbrev pub with_budget : Option ℕ → Saying → Option Saying
 with_budget None s = None
@@ -129,7 +129,7 @@ with_word word s = with_expected s.expects word s
 
 -- And all words.
 abbrev pub nothing_said : Saying
-nothing_said = record { mode = None; files = []; order = None; budget = None; expects = expects.Anything }
+nothing_said = record { mode = None; files = []; chooser = None; budget = None; expects = expects.Anything }
 
 abbrev pub said : List (List ℕ) → Saying → Option Saying
 said [] s = Some s
@@ -142,7 +142,7 @@ default_budget = 100000000
 abbrev pub run_reading : Saying → Option Reading
 run_reading s =
     if can_be_run s.files then
-    Some (record { files = s.files; order = unwrap_or s.order chooser.Fifo; budget = unwrap_or s.budget default_budget })
+    Some (record { files = s.files; chooser = unwrap_or s.chooser chooser.Fifo; budget = unwrap_or s.budget default_budget })
     else None
 
 abbrev pub mode_reading : Option Mode → Saying → Option Reading
@@ -171,7 +171,7 @@ file_words words = files_of (reading words)
 
 abbrev pub chooser_of : Option Reading → Chooser
 chooser_of None = chooser.Fifo
-chooser_of (Some r) = r.order
+chooser_of (Some r) = r.chooser
 
 abbrev pub chooser_word : List (List ℕ) → Chooser
 chooser_word words = chooser_of (reading words)

@@ -14,7 +14,7 @@ use vh_kernel_choice::Chooser;
 #[derive(Drop)]
 pub struct Asked {
     pub files: Vec<String>,
-    pub order: Chooser,
+    pub chooser: Chooser,
     pub budget: u64,
 }
 
@@ -40,7 +40,7 @@ fn run_asked(said: Said) -> Option<Asked>
     }
     Some(Asked {
         files: said.files,
-        order: said.order.unwrap_or(Chooser::Fifo),
+        chooser: said.chooser.unwrap_or(Chooser::Fifo),
         budget: said.budget.unwrap_or(DEFAULT_BUDGET),
     })
 }

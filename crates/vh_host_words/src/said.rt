@@ -29,7 +29,7 @@ pub enum Expects {
 pub struct Said {
     pub mode: Option<Mode>,
     pub files: Vec<String>,
-    pub order: Option<Chooser>,
+    pub chooser: Option<Chooser>,
     pub budget: Option<u64>,
     pub expects: Expects,
 }
@@ -50,7 +50,7 @@ impl Said {
         Said {
             mode: None,
             files: Vec::new(alloc),
-            order: None,
+            chooser: None,
             budget: None,
             expects: Expects::Anything,
         }
@@ -64,15 +64,15 @@ impl Said {
         said
     }
 
-    fn with_chooser(self, order: Option<Chooser>) -> Option<Said>
-        ensures { option_map saying result ≡ Words.with_chooser order (saying self) }
+    fn with_chooser(self, chooser: Option<Chooser>) -> Option<Said>
+        ensures { option_map saying result ≡ Words.with_chooser chooser (saying self) }
     {
-        let order = order?;
-        if self.order.is_some() {
+        let chooser = chooser?;
+        if self.chooser.is_some() {
             return None;
         }
         let mut said = self;
-        said.order = Some(order);
+        said.chooser = Some(chooser);
         said.expects = Expects::Anything;
         Some(said)
     }

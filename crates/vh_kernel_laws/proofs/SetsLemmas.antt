@@ -52,10 +52,6 @@ filter-both : (p q : ℕ → Bool) (xs : List ℕ) → filter p (filter q xs) �
 filter-both p q [] = refl
 filter-both p q (x ∷ xs) = both-by (q x) (p x) p q x xs refl refl (filter-both p q xs)
 
-or-more : (a b c : Bool) → (b ≡ true → c ≡ true) → (a || b) ≡ true → (a || c) ≡ true
-or-more true b c more is = refl
-or-more false b c more is = more is
-
 -- And what is among all and passes is among those.
 passes-by : (b : Bool) (same : Bool) (c x : ℕ) (p : ℕ → Bool) (xs rest : List ℕ) → p x ≡ b → nat_eq c x ≡ same → p c ≡ true
     → (is_among c xs ≡ true → is_among c rest ≡ true) → (same || is_among c xs) ≡ true → is_among c (cond b (x ∷ rest) rest) ≡ true

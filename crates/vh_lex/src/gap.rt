@@ -1,8 +1,8 @@
 ghost use Rattle.std.specs.Prelude.{◌≡◌, ◌≤◌, length};
 ghost use Rattle.vh_lex.specs.Directives;
 
-use crate::bytes::after;
 use crate::beginning::comment_len;
+use crate::bytes::after;
 use vh_base::is_space;
 
 // How many bytes of white space and comments stand at the front. It takes time in their number.

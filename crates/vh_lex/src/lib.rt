@@ -12,13 +12,13 @@
 //! names that many share, and on `indexmap`, in which macros are looked up.
 #![tactic(auto)]
 
+mod beginning;
 mod bytes;
 mod conditional;
 mod directed;
 mod directive;
 mod expand;
 mod fault;
-mod beginning;
 mod gap;
 mod keyword;
 mod laws;
@@ -26,7 +26,6 @@ mod lexer;
 mod macro_text;
 mod macros;
 mod made;
-mod symbol;
 mod name;
 mod names;
 mod number;
@@ -35,6 +34,7 @@ mod place;
 mod reader;
 mod scale;
 mod setting;
+mod symbol;
 mod table;
 mod text;
 mod token;
@@ -43,6 +43,6 @@ pub use fault::LexFault;
 pub use keyword::Keyword;
 pub use laws::{lex_laws, text_laws};
 pub use lexer::Lexer;
-pub use symbol::Symbol;
 pub use setting::{DefaultNet, Setting};
+pub use symbol::Symbol;
 pub use token::{Kind, Number, Token};

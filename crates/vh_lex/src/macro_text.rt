@@ -3,8 +3,8 @@ ghost use Rattle.std.specs.Option.{option_map};
 ghost use Rattle.vh_lex.specs.MacroTexts;
 ghost use Rattle.vh_lex.specs.Views.{turn_seen};
 
-use crate::bytes::{Class, after, begins, begins_with, run_len, upto};
 use crate::beginning::beginning;
+use crate::bytes::{Class, after, begins, begins_with, run_len, upto};
 use crate::made::Output;
 use crate::piece::{Part, Piece};
 use std::alloc::Global;

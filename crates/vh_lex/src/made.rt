@@ -4,8 +4,8 @@ ghost use Rattle.vh_lex.specs.Spelling.{with_token, with_use};
 ghost use Rattle.vh_lex.specs.Outcomes.{Makes};
 
 use crate::fault::Halt;
-use crate::symbol::Symbol;
 use crate::names::Names;
+use crate::symbol::Symbol;
 use crate::token::{Kind, Token};
 use std::alloc::Global;
 use std::marker::Model;

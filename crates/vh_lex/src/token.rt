@@ -1,6 +1,6 @@
 use crate::keyword::Keyword;
-use crate::symbol::Symbol;
 use crate::setting::Setting;
+use crate::symbol::Symbol;
 use vh_base::{Boxed, Place};
 use vh_base_shared::SharedBytes;
 use vh_logic::Vec4;

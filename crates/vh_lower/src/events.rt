@@ -71,5 +71,8 @@ pub(crate) fn event_timing(maker: &mut Maker, place: Place, event: &Event) -> Lo
     let terms = waited_terms(maker, event)?;
     let wait = with_wait(maker.added, terms)?;
     let instructions = one_pause(maker.alloc, Pause::Await(wait))?;
-    Ok(Timing { number, instructions })
+    Ok(Timing {
+        number,
+        instructions,
+    })
 }

@@ -70,7 +70,11 @@ pub(crate) fn add_first(
 }
 
 // The instructions of a statement.
-pub(crate) fn instructions(alloc: Global, number: u32, operations: Operations) -> Result<Flow, NoMemory>
+pub(crate) fn instructions(
+    alloc: Global,
+    number: u32,
+    operations: Operations,
+) -> Result<Flow, NoMemory>
     ensures { IfOk result (λ f. flow_tree f ≡ instructions number operations) }
 {
     let mut row = Items::new(alloc);
@@ -79,7 +83,13 @@ pub(crate) fn instructions(alloc: Global, number: u32, operations: Operations) -
 }
 
 // An instruction that goes on in one of two ways.
-fn choice(alloc: Global, gate: Gate, origin: Origin, holds: Flow, fails: Flow) -> Result<Flow, NoMemory>
+fn choice(
+    alloc: Global,
+    gate: Gate,
+    origin: Origin,
+    holds: Flow,
+    fails: Flow,
+) -> Result<Flow, NoMemory>
     ensures { IfOk result
         (λ f. flow_tree f ≡ choice_of gate origin (flow_tree holds) (flow_tree fails)) }
 {

@@ -18,7 +18,6 @@ mod blocks;
 mod cases;
 mod events;
 mod fault;
-mod timing;
 mod heads;
 mod instructions;
 mod loops;
@@ -29,6 +28,7 @@ mod simple;
 mod stmt;
 mod systems;
 mod tasks;
+mod timing;
 
 pub use added::{Added, Maker};
 pub use fault::{LowerFault, Lowered};

@@ -4,7 +4,8 @@ ghost use Rattle.vh_lower.specs.Statements.{if_flow, while_flow, repeat_flow, lo
 
 use crate::heads::{ForHead, Head};
 use crate::instructions::{
-    Operations, add_further, again, alone, copies, gated, gated_further, in_row, instructions, nothing,
+    Operations, add_further, again, alone, copies, gated, gated_further, in_row, instructions,
+    nothing,
 };
 use sqlite_items::Items;
 use std::alloc::Global;

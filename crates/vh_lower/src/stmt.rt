@@ -16,15 +16,15 @@ use crate::blocks::{block_number, block_of_row, block_scope};
 use crate::cases::{Cases, case_flow, no_cases, values_of, with_default, with_item};
 use crate::events::event_timing;
 use crate::fault::Lowered;
-use crate::timing::{delay_timing, for_head, headed, wait_timing};
-use crate::heads::{Timing, Head};
+use crate::heads::{Head, Timing};
 use crate::instructions::{behind_operations, nothing};
 use crate::loops::{for_flow, forever_flow, if_flow, loop_flow};
 use crate::making::{numbered, reading_from};
 use crate::simple::{one_pause, simple_flow};
+use crate::timing::{delay_timing, for_head, headed, wait_timing};
 use sqlite_items::Items;
 use std::alloc::Global;
-use vh_ast::{BlockWord, Citem, Event, Id, Matched, LoopWord, Stmt, StmtForm};
+use vh_ast::{BlockWord, Citem, Event, Id, LoopWord, Matched, Stmt, StmtForm};
 use vh_base::{NoMemory, ObjId, Place};
 use vh_bind::Scope;
 use vh_bind_scope::Top;
@@ -36,7 +36,10 @@ use vh_lower_flow::{CodeKind, Flow, code_of};
 fn behind_timing(alloc: Global, timing: Timing, body: Flow) -> Result<Flow, NoMemory>
     ensures { IfOk result (λ f. flow_tree f ≡ behind_timing timing (flow_tree body)) }
 {
-    let Timing { number, instructions } = timing;
+    let Timing {
+        number,
+        instructions,
+    } = timing;
     behind_operations(alloc, number, instructions, body)
 }
 

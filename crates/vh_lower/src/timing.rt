@@ -6,7 +6,7 @@ ghost use Rattle.vh_lower.specs.Views.{Stands, Adds};
 use crate::added::Maker;
 use crate::assignments::{set_of, with_operation};
 use crate::fault::Lowered;
-use crate::heads::{ForHead, Timing, Head};
+use crate::heads::{ForHead, Head, Timing};
 use crate::making::{delay_of, numbered, reading_from, value_of};
 use vh_ast::{Delay, Expr, Set};
 use vh_base::{Place, Sequence};
@@ -38,7 +38,10 @@ pub(crate) fn delay_timing(maker: &mut Maker, place: Place, delay: &Delay) -> Lo
     let mut operations = Vec::new(maker.alloc);
     let delay = delay_of(maker, &mut operations, delay)?;
     let instructions = with_operation(operations, Operation::Pause(Pause::Wait(delay)))?;
-    Ok(Timing { number, instructions })
+    Ok(Timing {
+        number,
+        instructions,
+    })
 }
 
 // A `wait` before a statement.
@@ -59,7 +62,10 @@ pub(crate) fn wait_timing(maker: &mut Maker, place: Place, test: &Expr) -> Lower
         wait,
     };
     let instructions = with_operation(calls.into_vec(), Operation::Pause(pause))?;
-    Ok(Timing { number, instructions })
+    Ok(Timing {
+        number,
+        instructions,
+    })
 }
 
 // What a `for` has before its body.

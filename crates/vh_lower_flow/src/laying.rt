@@ -9,7 +9,8 @@ use crate::code_kind::CodeKind;
 use crate::copies::copied;
 use crate::flow::{CaseHead, CaseItem, Flow, FlowForm, Gate, Origin};
 use crate::positions::{
-    Laid, NO_ORIGIN, add_block, add_end, add_instruction, empty, gate_of, next_block, position_in, start_at,
+    Laid, NO_ORIGIN, add_block, add_end, add_instruction, empty, gate_of, next_block, position_in,
+    start_at,
 };
 use crate::sizes::{items_size, plus, size_of};
 use std::alloc::Global;

@@ -18,8 +18,8 @@ use crate::values::behind;
 use sqlite_items::{Boxed, Items};
 use std::alloc::Global;
 use vh_ast::{Delay, DelayValue, Ev, Event, only};
-use vh_parse_expr::{At, Read, Enclosure, expression, id, path, lexeme, then_lexeme};
-use vh_parse_syntax::{Class, Group, Rows, Lexeme};
+use vh_parse_expr::{At, Enclosure, Read, expression, id, lexeme, path, then_lexeme};
+use vh_parse_syntax::{Class, Group, Lexeme, Rows};
 
 // What follows the sign of a delay, up to the bracket that ends it.
 #[tactic(auto, unfolding(vh_parse_syntax::specs::Statements::delay_value))]

@@ -20,12 +20,12 @@ ghost use Rattle.vh_parse_expr.specs.Views.{Reads, tokens_seen, read_from, exprs
 use crate::made;
 use crate::made::then_lexeme;
 use crate::name::{Last, Path, Stem};
-use crate::word::{At, Read, id, number, operator, lexeme, system_name, text, unary_lexeme};
+use crate::word::{At, Read, id, lexeme, number, operator, system_name, text, unary_lexeme};
 use sqlite_items::{Boxed, Items};
 use std::alloc::Global;
 use vh_ast::{Binary, Expr, Id, Part};
 use vh_base::Place;
-use vh_parse_syntax::{Class, Rows, Lexeme};
+use vh_parse_syntax::{Class, Lexeme, Rows};
 
 /// How an expression stands in a construct.
 #[derive(Clone, Copy, Debug, PartialEq, Eq)]
@@ -234,7 +234,8 @@ fn path_goes(sel: bool, last: &Last, at: At<'_>) -> bool
             at.next_is(Class::Is(Lexeme::Dot)) || at.next_is(Class::Is(Lexeme::LeftBracket))
         }
         Last::Indexed(..) => {
-            at.next_is(Class::Is(Lexeme::Dot)) || (sel && at.next_is(Class::Is(Lexeme::LeftBracket)))
+            at.next_is(Class::Is(Lexeme::Dot))
+                || (sel && at.next_is(Class::Is(Lexeme::LeftBracket)))
         }
         Last::Closed(_) => false,
     }

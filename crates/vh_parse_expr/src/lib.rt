@@ -25,4 +25,4 @@ pub use made::then_lexeme;
 pub use name::{Last, Path, Stem};
 pub use parse::{MOST_LEVELS, parse_expr};
 pub use targets::{braced, single, target};
-pub use word::{At, Read, id, kept, placed_row, row_if_next, lexeme, system_name};
+pub use word::{At, Read, id, kept, lexeme, placed_row, row_if_next, system_name};

@@ -17,10 +17,11 @@ use crate::name::{Last, Path, Stem};
 use crate::word::{At, Read};
 use sqlite_items::{Boxed, Items};
 use std::alloc::Global;
-use vh_ast::{Binary, Esel, Expr, ExprForm, Id, Link, Name, Part, Primary, Sel, Unary, only};
+use vh_ast::{
+    Binary, Esel, Expr, ExprForm, Id, Link, Name, Number, Part, Primary, Sel, Unary, only,
+};
 use vh_base::Place;
 use vh_base_shared::SharedBytes;
-use vh_lex::Number;
 use vh_parse_grammar::Stop;
 use vh_parse_syntax::{Class, Lexeme};
 

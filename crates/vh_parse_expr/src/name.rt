@@ -125,7 +125,10 @@ impl Stem {
         }
         earlier.push(last)?;
         let first = earlier.remove(0);
-        Ok(Name { first, more: earlier })
+        Ok(Name {
+            first,
+            more: earlier,
+        })
     }
 }
 

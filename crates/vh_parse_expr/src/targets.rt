@@ -107,7 +107,8 @@ fn row_goes(wants: bool, braces: usize, at: At<'_>) -> bool
     if wants {
         return at.next_is(Class::Is(Lexeme::LeftBrace)) || at.next_is(Class::Name);
     }
-    braces > 0 && (at.next_is(Class::Is(Lexeme::Comma)) || at.next_is(Class::Is(Lexeme::RightBrace)))
+    braces > 0
+        && (at.next_is(Class::Is(Lexeme::Comma)) || at.next_is(Class::Is(Lexeme::RightBrace)))
 }
 
 // The rest of a row of targets.

@@ -27,7 +27,7 @@ use vh_parse_parts::{
     assign_item, assigned, decl_item, event_item, gate_item, genvar_item, instance_item, net_item,
     parameter_item, port_item,
 };
-use vh_parse_syntax::{Class, Group, Rows, Lexeme};
+use vh_parse_syntax::{Class, Group, Lexeme, Rows};
 
 // What stands in the brackets of a loop of items.
 #[derive(Drop)]

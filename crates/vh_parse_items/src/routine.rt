@@ -14,7 +14,7 @@ use std::alloc::Global;
 use vh_ast::{Id, Item, Local, ProcessWord, ResultType, Stmt, Targ};
 use vh_base::Place;
 use vh_parse_decl::data_type;
-use vh_parse_expr::{At, Read, id, placed_row, lexeme, then_lexeme};
+use vh_parse_expr::{At, Read, id, lexeme, placed_row, then_lexeme};
 use vh_parse_parts::{locals, maybe_targs};
 use vh_parse_stmt::inner_statement;
 use vh_parse_syntax::tables::PROCESS;

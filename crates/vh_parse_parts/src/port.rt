@@ -18,7 +18,7 @@ use std::alloc::Global;
 use vh_ast::{Id, Ids, Pdecl, Port, PortType, Ports, Variable};
 use vh_parse_decl::bare_id;
 use vh_parse_expr::{At, Read};
-use vh_parse_syntax::{Class, Rows, Lexeme};
+use vh_parse_syntax::{Class, Lexeme, Rows};
 
 // Declared ports so far, and the type of the last of them.
 #[derive(Drop)]

@@ -20,7 +20,7 @@ use vh_ast::{Id, Ids, Local, Targ, Variable, only};
 use vh_parse_decl::{bare_id, declaration};
 use vh_parse_expr::{At, Read, then_lexeme};
 use vh_parse_grammar::Stop;
-use vh_parse_syntax::{Class, Group, Rows, Lexeme};
+use vh_parse_syntax::{Class, Group, Lexeme, Rows};
 
 // An argument that may go on.
 #[derive(Drop)]
@@ -117,7 +117,13 @@ fn next_head<'t>(alloc: Global, depth: usize, all: Arguments, at: At<'t>) -> Rea
     let (next, rest) = targ_one(alloc, depth, at)?;
     let Arguments { mut earlier, last } = all;
     earlier.push(targ_of(last.head, last.ids))?;
-    Ok((Arguments { earlier, last: next }, rest))
+    Ok((
+        Arguments {
+            earlier,
+            last: next,
+        },
+        rest,
+    ))
 }
 
 // An `ID` behind a comma, which goes on with the `targ` before it.

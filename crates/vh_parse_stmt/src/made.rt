@@ -14,7 +14,7 @@ use crate::head::{ForHead, Naming, Values};
 use sqlite_items::{Boxed, Items};
 use std::alloc::Global;
 use vh_ast::{
-    AssignWord, BlockWord, CaseWord, Citem, Delay, Event, Expr, ForceWord, Matched, LoopWord, Lv,
+    AssignWord, BlockWord, CaseWord, Citem, Delay, Event, Expr, ForceWord, LoopWord, Lv, Matched,
     Set, Simple, Stmt, StmtForm,
 };
 use vh_base::Place;

@@ -19,8 +19,8 @@ use sqlite_items::{Boxed, Items};
 use std::alloc::Global;
 use vh_ast::{AssignWord, Delay, Expr, Lv, Simple, Stmt};
 use vh_parse_decl::{ended, list_in_parens, set, written_delay};
-use vh_parse_expr::{At, Path, Read, Enclosure, braced, path, lexeme, single, target, then_lexeme};
-use vh_parse_syntax::{Class, Group, Rows, Lexeme};
+use vh_parse_expr::{At, Enclosure, Path, Read, braced, lexeme, path, single, target, then_lexeme};
+use vh_parse_syntax::{Class, Group, Lexeme, Rows};
 
 // `( "=" | "<=" )`: a nonblocking one is left out in a function.
 fn assignment_lexeme<'t>(inside: bool, at: At<'t>) -> Read<'t, AssignWord>
@@ -36,7 +36,8 @@ fn no_delay<'t>(inside: bool, at: At<'t>) -> At<'t>
     ensures omission { let seen = tokens_seen at.entry.tokens.now in
         result.omission ≡ omission_at seen (next_is (parts.shows_delay inside) seen) at.entry.omission }
 {
-    let shown = at.next_is(Class::Is(Lexeme::At)) || (inside && at.next_is(Class::Is(Lexeme::Hash)));
+    let shown = at.next_is(Class::Is(Lexeme::At))
+        || (inside && at.next_is(Class::Is(Lexeme::Hash)));
     at.noting(at.tokens, shown)
 }
 

@@ -22,7 +22,7 @@ use std::alloc::Global;
 use vh_ast::{BlockWord, Citem, Stmt};
 use vh_parse_decl::{boxed_delay, in_parens};
 use vh_parse_expr::{At, Read, lexeme, then_lexeme};
-use vh_parse_syntax::{Class, Group, Rows, Lexeme, Start};
+use vh_parse_syntax::{Class, Group, Lexeme, Rows, Start};
 
 // The cursor, where a statement may be next that is left out in a function.
 fn no_timing<'t>(inside: bool, at: At<'t>) -> At<'t>

@@ -106,7 +106,10 @@ static BINARY: [(Lexeme, (usize, Binary)); 25] = [
     (Lexeme::Minus, (2, Binary::Minus)),
     (Lexeme::ShiftLeft, (3, Binary::ShiftLeft)),
     (Lexeme::ShiftRight, (3, Binary::ShiftRight)),
-    (Lexeme::ArithmeticShiftLeft, (3, Binary::ArithmeticShiftLeft)),
+    (
+        Lexeme::ArithmeticShiftLeft,
+        (3, Binary::ArithmeticShiftLeft),
+    ),
     (
         Lexeme::ArithmeticShiftRight,
         (3, Binary::ArithmeticShiftRight),

@@ -31,10 +31,6 @@ get-other (z ∷ zs) zero (suc n) y h = refl
 get-other (z ∷ zs) (suc k) zero y h = refl
 get-other (z ∷ zs) (suc k) (suc n) y h = get-other zs k n y (λ e. h (ap suc e))
 
-get-last : {X : Type 0} (xs : List X) (y : X) → slice_get (xs ++ y ∷ []) (length xs) ≡ Some y
-get-last [] y = refl
-get-last (x ∷ xs) y = get-last xs y
-
 -- An element at a position, by what `get_or` gives, and none behind the end.
 pub at-position : {X : Type 0} (xs : List X) (k : ℕ) (x : X) → k < length xs → slice_get xs k ≡ Some (get_or xs k x)
 at-position [] k x low = absurd (omega (arith, low))
@@ -45,10 +41,6 @@ pub none-at : {X : Type 0} (xs : List X) (k : ℕ) → (k < length xs → ⊥) �
 none-at [] k out = refl
 none-at (y ∷ ys) zero out = absurd (out (omega arith))
 none-at (y ∷ ys) (suc k) out = none-at ys k (λ low. out (omega (arith, low)))
-
-none-last : {X : Type 0} (xs : List X) → slice_get xs (length xs) ≡ None
-none-last [] = refl
-none-last (x ∷ xs) = none-last xs
 
 apart : (n k : ℕ) → nat_eq n k ≡ false → n ≡ k → ⊥
 apart n k differ e = let agree : nat_eq n k ≡ true = eq-eqb n k e in absurd (cc)

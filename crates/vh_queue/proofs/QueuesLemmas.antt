@@ -154,9 +154,6 @@ module _ (next now due ready : ℕ) (m : Marks) (pairs : List (ℕ × Entry)) (x
   abbrev stand : List Entry
   stand = values_of pairs
 
-  same-length : (p : Entry → Bool) (f g : List Entry) → f ≡ g → length (filter p f) ≡ length (filter p g)
-  same-length p f g is = ap (λ (es : List Entry). length (filter p es)) is
-
   starts-at : (t : ℕ) (k : Marks) → AreTimely t stand → count_start t next k x.plain x.updates x.untimed ≡ length (filter (is_due region.Start t) (all_seen t k stand))
   starts-at t k timely =
       start-length next t k stand x.plain x.updates x.untimed

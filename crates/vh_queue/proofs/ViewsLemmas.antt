@@ -136,10 +136,6 @@ later-rank region.Inactive later = refl
 later-rank region.Nonblocking later = refl
 later-rank region.Monitor later = refl
 
-none-by : (a c : Bool) → (a && false) ≡ ((false && c) && c)
-none-by true c = refl
-none-by false c = refl
-
 some-by : (a z c : Bool) (q : Region) (k : ℕ) → (rank (cond z region.Active q) == k) ≡ ((rank q == k) && c)
     → (a && (rank (cond (a && z) region.Active q) == k)) ≡ ((a && (rank q == k)) && c)
 some-by true z c q k same = same

@@ -13,8 +13,7 @@ use Rattle.std.specs.List.{find, list_any}
 use Rattle.std.specs.List.Sorted.{IsStrictlySortedBy}
 use Rattle.std.specs.Map.{keys_of, lookup, remove_entry}
 use Rattle.std.specs.Option.{is_some, option_and_then}
-use Rattle.std.specs.Ordering.{nat_cmp, eq_by_cmp, is_lt}
-use Rattle.std.specs.Set.{is_member}
+use Rattle.std.specs.Ordering.{nat_cmp, is_lt}
 use Rattle.std.specs.declared.cmp.Ordering.TheVariants.{Less, Equal, Greater}
 use Rattle.std.specs.declared.ops.Bound.{Bound}
 use Rattle.std.specs.declared.ops.Bound.TheVariants.{Unbounded}
@@ -78,10 +77,6 @@ above_is (Some a) q = only_one (is_lt (nat_cmp a q)) ∙ less_is a q
     only_one : (b : Bool) → (b && true) ≡ b
     only_one true = refl
     only_one false = refl
-
--- A filter of numbers has those that pass.
-member : List ℕ → ℕ → Bool
-member xs q = is_member (eq_by_cmp nat_cmp) xs q
 
 pub passes : (test : ℕ → Bool) (q : ℕ) (xs : List ℕ) → list_any (is_at (nat_cmp q)) (filter test xs) ≡ (list_any (is_at (nat_cmp q)) xs && test q)
 passes test q xs =

@@ -2,7 +2,7 @@ ghost use Rattle.std.specs.Prelude.{◌≡◌};
 ghost use Rattle.vh_logic.specs.Vector.{width_of, zip_digits};
 ghost use Rattle.vh_store.specs.Resolution.{joined, wire_digit, wired_and_digit, wired_or_digit};
 
-use vh_design_nodes::NetType;
+use vh_design::NetType;
 use vh_logic::{Plane, Vec4};
 
 // Two drivers' values of one net joined by the table of its type (IEEE 1364-2005, 4.6).

@@ -9,7 +9,7 @@ use crate::same::is_same_value;
 use std::alloc::Global;
 use std::marker::Model;
 use vh_base::NoMemory;
-use vh_design_nodes::NetType;
+use vh_design::NetType;
 use vh_logic::{Vec4, replace, select};
 
 // A driver of a net: its value, of whose digits so many lie below the net's lowest, and the position

@@ -152,10 +152,6 @@ digits_of-negative w n word h none =
 abbrev pub hex_after : ℕ → List ℕ → Option ℕ
 hex_after n cs = cond (list_all is_lower_hex cs) (Some (digits_value_after 16 n cs)) None
 
-choice : (t : Bool) (d n : ℕ) → Some n ≡ cond t (Some d) None → (t ≡ true) × (n ≡ d)
-choice true d n h = (refl, cc)
-choice false d n h = cc
-
 -- Fewer hexadecimal digits than a plane has leave room for one more
 pub room : (n i : ℕ) → n < 16 ^ i → i < group_count 4 MAX_WIDTH → 16 * n + 16 ≤ 2 ^ MAX_WIDTH
 room n i h k =

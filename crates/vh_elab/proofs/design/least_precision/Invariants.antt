@@ -1,6 +1,6 @@
 use Rattle.std.proofs.Common.{◌≡◌, map, drop}
 use Rattle.vh_elab_walk.specs.Views.{placed_seen}
-use Rattle.vh_elab_walk.specs.Order.{least_precision}
+use Rattle.vh_elab_walk.specs.Walks.{least_precision}
 use Rattle.vh_elab.proofs.design.least_precision.Given as goal
 
 -- The least so far, with those that are left, is the least of all.

@@ -1,7 +1,7 @@
 use Rattle.std.proofs.Common.{◌≡◌, [], drop}
 use Rattle.vh_elab_sites.specs.Views.{all_seen}
 use Rattle.vh_elab_declare.specs.Views.{home_seen, known_seen}
-use Rattle.vh_elab_walk.specs.Order.{children_from, children_of}
+use Rattle.vh_elab_walk.specs.Walks.{children_from, children_of}
 use Rattle.vh_elab_walk.specs.Views.{children_seen, source_seen}
 use Rattle.vh_elab_walk.proofs.walk.children_of.Given as goal
 

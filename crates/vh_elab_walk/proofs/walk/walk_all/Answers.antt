@@ -1,6 +1,6 @@
 use Rattle.std.proofs.Common.{rules, ◌≡◌, ◌∙◌, ◌+◌, ◌-◌, ◌∷◌, zero, suc, [], sym, ap, arith}
 use Rattle.std.proofs.lemmas.List.{nil_from_length}
-use Rattle.vh_elab_walk.specs.Order.{most_instances, one_walked, on, ended, refused, later}
+use Rattle.vh_elab_walk.specs.Walks.{most_instances, one_walked, on, ended, refused, later}
 use Rattle.vh_elab_walk.specs.Views.{going_seen, source_seen, stack_seen, waiting_seen, walk_seen}
 use Rattle.vh_elab_walk.proofs.WalkLemmas.{stack_popped, walk_over, walk_on, walk_ends, walk_spent}
 use Rattle.vh_elab_walk.proofs.walk.walk_all.Goals as goal

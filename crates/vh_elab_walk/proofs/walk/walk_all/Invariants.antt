@@ -1,5 +1,5 @@
 use Rattle.std.proofs.Common.{◌≡◌, ◌-◌}
-use Rattle.vh_elab_walk.specs.Order.{most_instances, walk}
+use Rattle.vh_elab_walk.specs.Walks.{most_instances, walk}
 use Rattle.vh_elab_walk.specs.Views.{source_seen, stack_seen, walk_seen}
 use Rattle.vh_elab_walk.proofs.walk.walk_all.Given as goal
 

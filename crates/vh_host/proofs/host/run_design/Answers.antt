@@ -5,7 +5,7 @@ use Rattle.vh_host.proofs.host.run_design.Goals as goal
 
 pub transcribe-requires-clause-lawful : goal.transcribe-requires-clause-lawful
 transcribe-requires-clause-lawful g c =
-    runs-keep-laws _ (opens-fresh c.args.design c.args.scripts.items _ c.in-Ok.ensures.opens) c.args.order
+    runs-keep-laws _ (opens-fresh c.args.design c.args.scripts.items _ c.in-Ok.ensures.opens) c.args.chooser
 
 pub returns-in-Ok-clause-answers : goal.returns-in-Ok-clause-answers
 returns-in-Ok-clause-answers g c =
@@ -13,4 +13,4 @@ returns-in-Ok-clause-answers g c =
     record { written = w.0; appends = w.1; answers = record { opening = _; opens = c.in-Ok.ensures.opens; wrote = w.2 } }
 
 pub returns-in-Err-clause-answers : goal.returns-in-Err-clause-answers
-returns-in-Err-clause-answers g c = no_memory c.args.order c.args.budget (accepts c.args.design c.args.scripts.items) (g.K.Sink.written c.args.out.now)
+returns-in-Err-clause-answers g c = no_memory c.args.chooser c.args.budget (accepts c.args.design c.args.scripts.items) (g.K.Sink.written c.args.out.now)

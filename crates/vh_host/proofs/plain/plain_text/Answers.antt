@@ -12,7 +12,7 @@ pub returns : goal.returns
 returns c =
     let r : Reading = asked c.in-Some.asked in
     let is : Some r ≡ reading (texts c.args.words.now) = rw c.in-Some.is at c.in_ok-asked.ensures.reading in
-    let P : Verdict → Type 0 = λ v. IfOk c.text_of_files.result (λ text. IsTextBy r.order c.args.budget v text.items) in
+    let P : Verdict → Type 0 = λ v. IfOk c.text_of_files.result (λ text. IsTextBy r.chooser c.args.budget v text.items) in
     let Q : Option Reading → Type 0 = λ o. IfOk c.text_of_files.result
     (λ text. IsTextBy (chooser_of o) c.args.budget (verdict (texts c.args.words.now) c.args.contents.now) text.items) in
     subst Q is
