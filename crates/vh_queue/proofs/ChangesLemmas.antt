@@ -10,14 +10,14 @@ use Rattle.std.specs.Ordering.{nat_cmp}
 use Rattle.vh_base.specs.declared.limits.TheConstants.{MOST_ENTRIES}
 use Rattle.vh_queue.specs.declared.entry.Entry.{Entry}
 use Rattle.vh_queue.specs.declared.index.Index.{Index}
-use Rattle.vh_queue.specs.declared.marks.Marks.{Marks}
+use Rattle.vh_queue.specs.declared.horizons.Horizons.{Horizons}
 use Rattle.vh_queue.specs.declared.region.Region.{Region}
 use Rattle.vh_queue.specs.declared.region.Region.TheVariants as region
 use Rattle.vh_queue.specs.Entries.{rank, is_at, is_due, IsFrom, IsPresent, time_given, activated_entry}
 use Rattle.vh_queue.specs.Events.{arrived, Rises}
-use Rattle.vh_queue.specs.Places.{has_none, Indexes}
+use Rattle.vh_queue.specs.Ranked.{has_none, Indexes}
 use Rattle.vh_queue.specs.Serials.{is_active_of}
-use Rattle.vh_queue.specs.Views.{Later, inactive, mark_of, with_mark, marks_at, seen_region, seen, all_seen, by_serial, IsTimely, AreTimely, AreMarks, Holds}
+use Rattle.vh_queue.specs.Views.{Later, inactive, horizon_of, with_horizon, horizons_at, seen_region, seen, all_seen, by_serial, IsTimely, AreTimely, AreHorizons, Holds}
 use Rattle.vh_queue.proofs.EventsLemmas.{rises-empty}
 use Rattle.vh_queue.proofs.ViewsLemmas.{due-is, region-if, made-region}
 use Rattle.vh_queue.proofs.TimesLemmas.{AreFrom}
@@ -27,61 +27,61 @@ no-reach : (a : Bool) (r : Region) → cond (a && false) region.Active r ≡ r
 no-reach true r = refl
 no-reach false r = refl
 
-pub mark-below : (next : ℕ) (m : Marks) (r : Region) → AreMarks next m → mark_of m r ≤ next
-mark-below next m region.Start marks = omega arith
-mark-below next m region.Active marks = omega arith
-mark-below next m region.Inactive marks = marks.inactive
-mark-below next m region.Nonblocking marks = marks.nonblocking
-mark-below next m region.Monitor marks = marks.monitor
+pub horizon-below : (next : ℕ) (m : Horizons) (r : Region) → AreHorizons next m → horizon_of m r ≤ next
+horizon-below next m region.Start horizons = omega arith
+horizon-below next m region.Active horizons = omega arith
+horizon-below next m region.Inactive horizons = horizons.inactive
+horizon-below next m region.Nonblocking horizons = horizons.nonblocking
+horizon-below next m region.Monitor horizons = horizons.monitor
 
 time-kept : (d : Bool) (now : ℕ) (time : Option ℕ) → d ≡ false → time_given d now time ≡ time
 time-kept d now None is = rw is refl
 time-kept d now (Some t) is = refl
 
-pub new-seen : (now next : ℕ) (m : Marks) (e : Entry) → next ≤ e.serial → AreMarks next m → seen now m e ≡ e
-new-seen now next m e above marks =
-    let reach = mark-below next m e.region marks in
-    let dated = marks.dated in
+pub new-seen : (now next : ℕ) (m : Horizons) (e : Entry) → next ≤ e.serial → AreHorizons next m → seen now m e ≡ e
+new-seen now next m e above horizons =
+    let reach = horizon-below next m e.region horizons in
+    let dated = horizons.dated in
     ap (λ (t : Option ℕ). (let f : Entry = record e { time = t; region = seen_region now m e } in f))
     (time-kept (nat_lt e.serial m.dated) now e.time (le-ltb e.serial m.dated (omega (arith, above, dated))))
     ∙ ap (λ (b : Bool). (let f : Entry = record e { region = cond (is_at e.time now && b) region.Active e.region } in f))
-    (le-ltb e.serial (mark_of m e.region) (omega (arith, above, reach)))
+    (le-ltb e.serial (horizon_of m e.region) (omega (arith, above, reach)))
     ∙ ap (λ (r : Region). (let f : Entry = record e { region = r } in f)) (no-reach (is_at e.time now) e.region)
 
 -- A region that is made active.
-with-dated : (r : Region) (next : ℕ) (m : Marks) → (with_mark r next m).dated ≡ m.dated
+with-dated : (r : Region) (next : ℕ) (m : Horizons) → (with_horizon r next m).dated ≡ m.dated
 with-dated region.Start next m = refl
 with-dated region.Active next m = refl
 with-dated region.Inactive next m = refl
 with-dated region.Nonblocking next m = refl
 with-dated region.Monitor next m = refl
 
-pub made-seen : (now next : ℕ) (m : Marks) (r : Region) (e : Entry) → e.serial < next → IsTimely now e → Later r
-    → seen now (with_mark r next m) e ≡ activated_entry r now (seen now m e)
+pub made-seen : (now next : ℕ) (m : Horizons) (r : Region) (e : Entry) → e.serial < next → IsTimely now e → Later r
+    → seen now (with_horizon r next m) e ≡ activated_entry r now (seen now m e)
 made-seen now next m r e below timely later =
-    ap (λ (d : ℕ). (let f : Entry = record e { time = time_given (nat_lt e.serial d) now e.time; region = seen_region now (with_mark r next m) e } in f)) (with-dated r next m)
+    ap (λ (d : ℕ). (let f : Entry = record e { time = time_given (nat_lt e.serial d) now e.time; region = seen_region now (with_horizon r next m) e } in f)) (with-dated r next m)
     ∙ ap (λ (q : Region). (let f : Entry = record e { time = time_given (nat_lt e.serial m.dated) now e.time; region = q } in f))
     (made-region now next m (is_at e.time now) e.region r e.serial below later
     ∙ ap (λ (b : Bool). cond b region.Active (seen_region now m e)) (sym (due-is now next m r e below timely later)))
     ∙ sym (region-if (is_due r now (seen now m e)) (seen now m e))
 
-pub with-marks : (r : Region) (next : ℕ) (m : Marks) → AreMarks next m → AreMarks next (with_mark r next m)
-with-marks region.Start next m marks = marks
-with-marks region.Active next m marks = marks
-with-marks region.Inactive next m marks =
-    record { inactive = omega arith; nonblocking = marks.nonblocking; monitor = marks.monitor; dated = marks.dated }
-with-marks region.Nonblocking next m marks =
-    record { inactive = marks.inactive; nonblocking = omega arith; monitor = marks.monitor; dated = marks.dated }
-with-marks region.Monitor next m marks =
-    record { inactive = marks.inactive; nonblocking = marks.nonblocking; monitor = omega arith; dated = marks.dated }
+pub with-horizons : (r : Region) (next : ℕ) (m : Horizons) → AreHorizons next m → AreHorizons next (with_horizon r next m)
+with-horizons region.Start next m horizons = horizons
+with-horizons region.Active next m horizons = horizons
+with-horizons region.Inactive next m horizons =
+    record { inactive = omega arith; nonblocking = horizons.nonblocking; monitor = horizons.monitor; dated = horizons.dated }
+with-horizons region.Nonblocking next m horizons =
+    record { inactive = horizons.inactive; nonblocking = omega arith; monitor = horizons.monitor; dated = horizons.dated }
+with-horizons region.Monitor next m horizons =
+    record { inactive = horizons.inactive; nonblocking = horizons.nonblocking; monitor = omega arith; dated = horizons.dated }
 
 -- Time that goes on to the same time,
-same-marks : (gives : Bool) (next : ℕ) (m : Marks) (r : Region) → mark_of (marks_at true gives next m) r ≡ mark_of (with_mark region.Inactive next m) r
-same-marks gives next m region.Start = refl
-same-marks gives next m region.Active = refl
-same-marks gives next m region.Inactive = refl
-same-marks gives next m region.Nonblocking = refl
-same-marks gives next m region.Monitor = refl
+same-horizons : (gives : Bool) (next : ℕ) (m : Horizons) (r : Region) → horizon_of (horizons_at true gives next m) r ≡ horizon_of (with_horizon region.Inactive next m) r
+same-horizons gives next m region.Start = refl
+same-horizons gives next m region.Active = refl
+same-horizons gives next m region.Inactive = refl
+same-horizons gives next m region.Nonblocking = refl
+same-horizons gives next m region.Monitor = refl
 
 time-again : (gives : Bool) (now s next dated : ℕ) (time : Option ℕ) → s < next
     → time_given (nat_lt s (cond gives next dated)) now time ≡ time_given gives now (time_given (nat_lt s dated) now time)
@@ -97,20 +97,20 @@ time-again false now s next dated None below = once (nat_lt s dated)
     once false = refl
 time-again gives now s next dated (Some t) below = refl
 
-pub stays-seen : (now next : ℕ) (m : Marks) (gives : Bool) (e : Entry) → e.serial < next → IsTimely now e
-    → seen now (marks_at true gives next m) e ≡ arrived gives now (seen now m e)
+pub stays-seen : (now next : ℕ) (m : Horizons) (gives : Bool) (e : Entry) → e.serial < next → IsTimely now e
+    → seen now (horizons_at true gives next m) e ≡ arrived gives now (seen now m e)
 stays-seen now next m gives e below timely =
     ap (λ (k : ℕ). (let f : Entry = record e {
       time = time_given (nat_lt e.serial (cond gives next m.dated)) now e.time;
       region = cond (is_at e.time now && nat_lt e.serial k) region.Active e.region;
-    } in f)) (same-marks gives next m e.region)
-    ∙ ap (λ (t : Option ℕ). (let f : Entry = record e { time = t; region = seen_region now (with_mark region.Inactive next m) e } in f))
+    } in f)) (same-horizons gives next m e.region)
+    ∙ ap (λ (t : Option ℕ). (let f : Entry = record e { time = t; region = seen_region now (with_horizon region.Inactive next m) e } in f))
     (time-again gives now e.serial next m.dated e.time below)
     ∙ ap (λ (x : Entry). (let f : Entry = record x { time = time_given gives now x.time } in f)) (made-seen now next m region.Inactive e below timely (inactive refl))
 
 -- And to a later one, where no entry of the present time stands.
-later-region : (a : Bool) (s next : ℕ) (m : Marks) (gives : Bool) (r : Region) → s < next
-    → cond (a && nat_lt s (mark_of (marks_at false gives next m) r)) region.Active r ≡ cond (a && rank r == 2) region.Active r
+later-region : (a : Bool) (s next : ℕ) (m : Horizons) (gives : Bool) (r : Region) → s < next
+    → cond (a && nat_lt s (horizon_of (horizons_at false gives next m) r)) region.Active r ≡ cond (a && rank r == 2) region.Active r
 later-region a s next m gives region.Start below = rw (le-ltb s 0 (omega arith)) refl
 later-region a s next m gives region.Active below = rw (le-ltb s 0 (omega arith)) refl
 later-region a s next m gives region.Inactive below = rw (lt-ltb s next below) refl
@@ -123,9 +123,9 @@ later-time true t s next dated None below undated = rw (lt-ltb s next below) ref
 later-time false t s next dated None below undated = rw (undated refl) refl
 later-time gives t s next dated (Some u) below undated = refl
 
-pub goes-seen : (now next t : ℕ) (m : Marks) (gives : Bool) (e : Entry) → e.serial < next → seen now m e ≡ e
+pub goes-seen : (now next t : ℕ) (m : Horizons) (gives : Bool) (e : Entry) → e.serial < next → seen now m e ≡ e
     → (has_none e.time ≡ true → nat_lt e.serial m.dated ≡ false)
-    → seen t (marks_at false gives next m) e ≡ arrived gives t (seen now m e)
+    → seen t (horizons_at false gives next m) e ≡ arrived gives t (seen now m e)
 goes-seen now next t m gives e below same undated =
     ap (λ (r : Region). (let f : Entry = record e { time = time_given (nat_lt e.serial (cond gives next m.dated)) t e.time; region = r } in f))
     (later-region (is_at e.time t) e.serial next m gives e.region below)
@@ -153,14 +153,14 @@ still now t true None later from = absurd (omega (arith, later, from))
 still now t false None later from = refl
 still now t d (Some u) later from = refl
 
-pub later-seen : (now t : ℕ) (m : Marks) (e : Entry) → now < t → IsFrom t (seen now m e).time → seen now m e ≡ e
+pub later-seen : (now t : ℕ) (m : Horizons) (e : Entry) → now < t → IsFrom t (seen now m e).time → seen now m e ≡ e
 later-seen now t m e later from =
     ap (λ (o : Option ℕ). (let f : Entry = record e { time = o; region = seen_region now m e } in f)) (still now t (nat_lt e.serial m.dated) e.time later from)
     ∙ ap (λ (r : Region). (let f : Entry = record e { region = r } in f))
-    (unmade now t e.serial (mark_of m e.region) e.time e.region later (from-stored now t (nat_lt e.serial m.dated) e.time from))
+    (unmade now t e.serial (horizon_of m e.region) e.time e.region later (from-stored now t (nat_lt e.serial m.dated) e.time from))
 
-pub all-go : (now low next t : ℕ) (m : Marks) (gives : Bool) (es : List Entry) → Rises low next es → now < t → AreFrom t (all_seen now m es)
-    → all_seen t (marks_at false gives next m) es ≡ map (arrived gives t) (all_seen now m es)
+pub all-go : (now low next t : ℕ) (m : Horizons) (gives : Bool) (es : List Entry) → Rises low next es → now < t → AreFrom t (all_seen now m es)
+    → all_seen t (horizons_at false gives next m) es ≡ map (arrived gives t) (all_seen now m es)
 all-go now low next t m gives [] rises later from = refl
 all-go now low next t m gives (e ∷ es) rises later from =
     let bound = rises-empty (e.serial + 1) next es rises.1 in
@@ -169,15 +169,15 @@ all-go now low next t m gives (e ∷ es) rises later from =
       all-go now (e.serial + 1) next t m gives es rises.1 later from.1,
     ) refl
 
-pub all-stay : (now low next : ℕ) (m : Marks) (gives : Bool) (es : List Entry) → Rises low next es → AreTimely now es
-    → all_seen now (marks_at true gives next m) es ≡ map (arrived gives now) (all_seen now m es)
+pub all-stay : (now low next : ℕ) (m : Horizons) (gives : Bool) (es : List Entry) → Rises low next es → AreTimely now es
+    → all_seen now (horizons_at true gives next m) es ≡ map (arrived gives now) (all_seen now m es)
 all-stay now low next m gives [] rises timely = refl
 all-stay now low next m gives (e ∷ es) rises timely =
     let bound = rises-empty (e.serial + 1) next es rises.1 in
     rw (stays-seen now next m gives e (omega (arith, bound)) timely.0, all-stay now (e.serial + 1) next m gives es rises.1 timely.1) refl
 
-pub all-made : (now low next : ℕ) (m : Marks) (r : Region) (es : List Entry) → Rises low next es → AreTimely now es → Later r
-    → all_seen now (with_mark r next m) es ≡ map (activated_entry r now) (all_seen now m es)
+pub all-made : (now low next : ℕ) (m : Horizons) (r : Region) (es : List Entry) → Rises low next es → AreTimely now es → Later r
+    → all_seen now (with_horizon r next m) es ≡ map (activated_entry r now) (all_seen now m es)
 all-made now low next m r [] rises timely later = refl
 all-made now low next m r (e ∷ es) rises timely later =
     let bound = rises-empty (e.serial + 1) next es rises.1 in
@@ -192,7 +192,7 @@ present-later now t region.Inactive time below from present = tt
 present-later now t region.Nonblocking time below from present = tt
 present-later now t region.Monitor time below from present = tt
 
-pub timely-later : (now t : ℕ) (m : Marks) (es : List Entry) → now ≤ t → AreFrom t (all_seen now m es) → AreTimely now es → AreTimely t es
+pub timely-later : (now t : ℕ) (m : Horizons) (es : List Entry) → now ≤ t → AreFrom t (all_seen now m es) → AreTimely now es → AreTimely t es
 timely-later now t m [] below from timely = tt
 timely-later now t m (e ∷ es) below from timely =
     let stored : IsFrom t e.time = from-stored now t (nat_lt e.serial m.dated) e.time from.0 in (
@@ -201,7 +201,7 @@ timely-later now t m (e ∷ es) below from timely =
     )
 
 -- The least time isn't before the present one.
-pub seen-from : (now : ℕ) (m : Marks) (es : List Entry) → AreTimely now es → AreFrom now (all_seen now m es)
+pub seen-from : (now : ℕ) (m : Horizons) (es : List Entry) → AreTimely now es → AreFrom now (all_seen now m es)
 seen-from now m [] timely = tt
 seen-from now m (e ∷ es) timely = (by_time (nat_lt e.serial m.dated) e.time timely.0.from, seen-from now m es timely.1)
   where
@@ -210,12 +210,12 @@ seen-from now m (e ∷ es) timely = (by_time (nat_lt e.serial m.dated) e.time ti
     by_time false None from = tt
     by_time d (Some t) from = from
 
-pub at-marks : (same gives : Bool) (next : ℕ) (m : Marks) → AreMarks next m → AreMarks next (marks_at same gives next m)
-at-marks same gives next m marks = record {
+pub at-horizons : (same gives : Bool) (next : ℕ) (m : Horizons) → AreHorizons next m → AreHorizons next (horizons_at same gives next m)
+at-horizons same gives next m horizons = record {
   inactive = omega arith;
-  nonblocking = either same m.nonblocking 0 marks.nonblocking (omega arith);
-  monitor = either same m.monitor 0 marks.monitor (omega arith);
-  dated = either gives next m.dated (omega arith) marks.dated;
+  nonblocking = either same m.nonblocking 0 horizons.nonblocking (omega arith);
+  monitor = either same m.monitor 0 horizons.monitor (omega arith);
+  dated = either gives next m.dated (omega arith) horizons.dated;
 }
   where
     either : (b : Bool) (x y : ℕ) → x ≤ next → y ≤ next → cond b x y ≤ next
@@ -271,7 +271,7 @@ found-serial s (f ∷ es) e is = by_test (f.serial == s) refl is (found-serial s
     by_test true at found rest = let same : f ≡ e = cc in ap (λ (x : Entry). x.serial) (sym same) ∙ eqb-true f.serial s at
     by_test false at found rest = rest found
 
-pub seen-find : (now s : ℕ) (m : Marks) (es : List Entry)
+pub seen-find : (now s : ℕ) (m : Horizons) (es : List Entry)
     → find (λ e. e.serial == s) (all_seen now m es) ≡ option_map (seen now m) (find (λ e. e.serial == s) es)
 seen-find now s m [] = refl
 seen-find now s m (e ∷ es) = by_test (e.serial == s) (seen-find now s m es)
@@ -282,7 +282,7 @@ seen-find now s m (e ∷ es) = by_test (e.serial == s) (seen-find now s m es)
     by_test true rest = refl
     by_test false rest = rest
 
-pub seen-without : (now s : ℕ) (m : Marks) (es : List Entry)
+pub seen-without : (now s : ℕ) (m : Horizons) (es : List Entry)
     → filter (λ e. not (e.serial == s)) (all_seen now m es) ≡ all_seen now m (filter (λ e. not (e.serial == s)) es)
 seen-without now s m [] = refl
 seen-without now s m (e ∷ es) = by_test (not (e.serial == s)) (seen-without now s m es)
@@ -294,7 +294,7 @@ seen-without now s m (e ∷ es) = by_test (not (e.serial == s)) (seen-without no
     by_test false rest = rest
 
 -- How many pass a test without the entry of a serial.
-pub count-without : (p : Entry → Bool) (now s low high : ℕ) (m : Marks) (es : List Entry) (e : Entry) → Rises low high es
+pub count-without : (p : Entry → Bool) (now s low high : ℕ) (m : Horizons) (es : List Entry) (e : Entry) → Rises low high es
     → find (λ f. f.serial == s) es ≡ Some e
     → length (filter p (all_seen now m (filter (λ f. not (f.serial == s)) es))) + cond (p (seen now m e)) 1 0
     ≡ length (filter p (all_seen now m es))
@@ -329,7 +329,7 @@ count-without p now s low high m (f ∷ es) e rises is =
         let other = more (p (seen now m f)) es in omega (arith, h, one, other)
 
 -- How many pass with one more.
-pub count-more : (p : Entry → Bool) (now next : ℕ) (m : Marks) (es : List Entry) (e : Entry) → seen now m e ≡ e
+pub count-more : (p : Entry → Bool) (now next : ℕ) (m : Horizons) (es : List Entry) (e : Entry) → seen now m e ≡ e
     → length (filter p (all_seen now m (es ++ e ∷ []))) ≡ length (filter p (all_seen now m es)) + cond (p e) 1 0
 count-more p now next m [] e same = rw same (by_test (p e))
   where
@@ -344,7 +344,7 @@ count-more p now next m (f ∷ es) e same = by_test (p (seen now m f)) (count-mo
     by_test true rest = omega (arith, rest)
     by_test false rest = rest
 
-pub seen-more : (now : ℕ) (m : Marks) (es : List Entry) (e : Entry) → seen now m e ≡ e → all_seen now m (es ++ e ∷ []) ≡ all_seen now m es ++ e ∷ []
+pub seen-more : (now : ℕ) (m : Horizons) (es : List Entry) (e : Entry) → seen now m e ≡ e → all_seen now m (es ++ e ∷ []) ≡ all_seen now m es ++ e ∷ []
 seen-more now m [] e same = rw same refl
 seen-more now m (f ∷ es) e same = ap (λ (t : List Entry). seen now m f ∷ t) (seen-more now m es e same)
 
@@ -353,18 +353,18 @@ timely-more now [] e timely here = (here, tt)
 timely-more now (f ∷ es) e timely here = (timely.0, timely-more now es e timely.1 here)
 
 -- What holds of entries holds of them by their serials.
-pub holds-of : (next now due plain : ℕ) (m : Marks) (es : List Entry) (pairs : List (ℕ × Entry)) (x : Index) → pairs ≡ by_serial es
-    → Rises 1 next es → AreTimely now es → Indexes es x → AreMarks next m
+pub holds-of : (next now due plain : ℕ) (m : Horizons) (es : List Entry) (pairs : List (ℕ × Entry)) (x : Index) → pairs ≡ by_serial es
+    → Rises 1 next es → AreTimely now es → Indexes es x → AreHorizons next m
     → due ≡ length (filter (is_due region.Start now) (all_seen now m es))
     → plain ≡ length (filter (is_active_of false) (all_seen now m es)) → length es ≤ MOST_ENTRIES
     → Holds next now m due plain pairs x
-holds-of next now due plain m es pairs x is rises timely indexed marks starts ready size =
+holds-of next now due plain m es pairs x is rises timely indexed horizons starts ready size =
     let same : values_of pairs ≡ es = ap values_of is ∙ values-are es in record {
       keyed = is ∙ ap by_serial (sym same);
       rises = subst (λ (xs : List Entry). Rises 1 next xs) (sym same) rises;
       timely = subst (λ (xs : List Entry). AreTimely now xs) (sym same) timely;
       indexed = subst (λ (xs : List Entry). Indexes xs x) (sym same) indexed;
-      marks = marks;
+      horizons = horizons;
       starts = starts ∙ ap (λ (xs : List Entry). length (filter (is_due region.Start now) (all_seen now m xs))) (sym same);
       ready = ready ∙ ap (λ (xs : List Entry). length (filter (is_active_of false) (all_seen now m xs))) (sym same);
       size = (let e : length pairs ≡ length es = ap length is ∙ pairs-length es in omega (arith, e, size));

@@ -7,19 +7,19 @@ use Rattle.std.specs.List.Sorted.{IsStrictlySortedBy}
 use Rattle.std.specs.Option.{is_some}
 use Rattle.std.specs.Ordering.{nat_cmp}
 use Rattle.vh_queue.specs.declared.entry.Entry.{Entry}
-use Rattle.vh_queue.specs.declared.marks.Marks.{Marks}
-use Rattle.vh_queue.specs.declared.place.Place.{Place}
+use Rattle.vh_queue.specs.declared.horizons.Horizons.{Horizons}
+use Rattle.vh_queue.specs.declared.key.Key.{Key}
 use Rattle.vh_queue.specs.declared.region.Region.{Region}
 use Rattle.vh_queue.specs.declared.region.Region.TheVariants as region
-use Rattle.vh_queue.specs.contracts.place.PlaceOrd.TheImpl.{cmp-value}
+use Rattle.vh_queue.specs.contracts.key.KeyOrd.TheImpl.{cmp-value}
 use Rattle.vh_queue.specs.Entries.{rank, is_at, is_due, is_active}
 use Rattle.vh_queue.specs.Events.{earlier_of, is_beyond_start, Rises}
-use Rattle.vh_queue.specs.Places.{is_of, is_untimed, has_none, waits, serials_of, dated_in, ArePlaces, AreUntimed}
+use Rattle.vh_queue.specs.Ranked.{is_of, is_untimed, has_none, waits, serials_of, dated_in, AreRanked, AreUntimed}
 use Rattle.vh_queue.specs.Lanes.{first_four, last_four, count_four, first_start, last_start, count_start}
 use Rattle.vh_queue.specs.Serials.{least_serial, greatest_serial, later_of, last_of, is_active_of}
-use Rattle.vh_queue.specs.Views.{Later, mark_of, seen, all_seen, IsTimely, AreTimely}
+use Rattle.vh_queue.specs.Views.{Later, horizon_of, seen, all_seen, IsTimely, AreTimely}
 use Rattle.vh_queue.proofs.EventsLemmas.{rises-empty, rises-filter}
-use Rattle.vh_queue.proofs.PlacesLemmas.{lane-is, dated-is}
+use Rattle.vh_queue.proofs.RankedLemmas.{lane-is, dated-is}
 use Rattle.vh_queue.proofs.SerialsLemmas.{serials, first-least, last-greatest, least-union, greatest-union, length-union, any-least}
 use Rattle.vh_queue.proofs.ViewsLemmas.{lanes, active-is, due-is, start-is, beyond, beyond-is}
 
@@ -48,15 +48,15 @@ timely-filter p now (e ∷ es) timely = by_test (p e) (timely-filter p now es ti
     by_test true rest = (timely.0, rest)
     by_test false rest = rest
 
-pub seen-least : (now : ℕ) (m : Marks) (es : List Entry) → least_serial (all_seen now m es) ≡ least_serial es
+pub seen-least : (now : ℕ) (m : Horizons) (es : List Entry) → least_serial (all_seen now m es) ≡ least_serial es
 seen-least now m [] = refl
 seen-least now m (e ∷ es) = ap (λ (o : Option ℕ). earlier_of (Some e.serial) o) (seen-least now m es)
 
-pub seen-greatest : (now : ℕ) (m : Marks) (es : List Entry) → greatest_serial (all_seen now m es) ≡ greatest_serial es
+pub seen-greatest : (now : ℕ) (m : Horizons) (es : List Entry) → greatest_serial (all_seen now m es) ≡ greatest_serial es
 seen-greatest now m [] = refl
 seen-greatest now m (e ∷ es) = ap (λ (o : Option ℕ). later_of (Some e.serial) o) (seen-greatest now m es)
 
-pub seen-length : (now : ℕ) (m : Marks) (es : List Entry) → length (all_seen now m es) ≡ length es
+pub seen-length : (now : ℕ) (m : Horizons) (es : List Entry) → length (all_seen now m es) ≡ length es
 seen-length now m [] = refl
 seen-length now m (e ∷ es) = ap suc (seen-length now m es)
 
@@ -65,27 +65,27 @@ abbrev pub lane : Bool → ℕ → ℕ → ℕ → ℕ → Entry → Bool
 lane update time r from below e = is_of update e && waits time r from below e
 
 -- What an index is to be for them.
-pub record Keeps (update : Bool) (next now : ℕ) (es : List Entry) (places : BTreeSet Place) : Type 0 where
+pub record Keeps (update : Bool) (next now : ℕ) (es : List Entry) (ranked : BTreeSet Key) : Type 0 where
   pub rises : Rises 1 next es
   pub timely : AreTimely now es
-  pub sorted : IsStrictlySortedBy (cmp-value).it places.keys
-  pub are : ArePlaces update es places
+  pub sorted : IsStrictlySortedBy (cmp-value).it ranked.keys
+  pub are : AreRanked update es ranked
 
-module _ (update : Bool) (next now : ℕ) (es : List Entry) (places : BTreeSet Place) (keeps : Keeps update next now es places) where
-  pub lane-serials : (time r from below : ℕ) → serials_of time r from below places ≡ serials (filter (lane update time r from below) es)
-  lane-serials time r from below = lane-is update time r from below 1 next es places keeps.rises keeps.sorted keeps.are
+module _ (update : Bool) (next now : ℕ) (es : List Entry) (ranked : BTreeSet Key) (keeps : Keeps update next now es ranked) where
+  pub lane-serials : (time r from below : ℕ) → serials_of time r from below ranked ≡ serials (filter (lane update time r from below) es)
+  lane-serials time r from below = lane-is update time r from below 1 next es ranked keeps.rises keeps.sorted keeps.are
 
-  pub lane-least : (time r from below : ℕ) → slice_get (serials_of time r from below places) 0 ≡ least_serial (filter (lane update time r from below) es)
+  pub lane-least : (time r from below : ℕ) → slice_get (serials_of time r from below ranked) 0 ≡ least_serial (filter (lane update time r from below) es)
   lane-least time r from below =
       ap (λ (xs : List ℕ). slice_get xs 0) (lane-serials time r from below)
       ∙ first-least 1 next (filter (lane update time r from below) es) (rises-filter (lane update time r from below) 1 next es keeps.rises)
 
-  pub lane-greatest : (time r from below : ℕ) → last_of (serials_of time r from below places) ≡ greatest_serial (filter (lane update time r from below) es)
+  pub lane-greatest : (time r from below : ℕ) → last_of (serials_of time r from below ranked) ≡ greatest_serial (filter (lane update time r from below) es)
   lane-greatest time r from below =
       ap last_of (lane-serials time r from below)
       ∙ last-greatest 1 next (filter (lane update time r from below) es) (rises-filter (lane update time r from below) 1 next es keeps.rises)
 
-  pub lane-length : (time r from below : ℕ) → length (serials_of time r from below places) ≡ length (filter (lane update time r from below) es)
+  pub lane-length : (time r from below : ℕ) → length (serials_of time r from below ranked) ≡ length (filter (lane update time r from below) es)
   lane-length time r from below =
       ap length (lane-serials time r from below) ∙ map-length (filter (lane update time r from below) es)
     where
@@ -107,11 +107,11 @@ swap-and true false = refl
 swap-and false true = refl
 swap-and false false = refl
 
-of-seen : (update : Bool) (now : ℕ) (m : Marks) (e : Entry) → is_of update (seen now m e) ≡ is_of update e
+of-seen : (update : Bool) (now : ℕ) (m : Horizons) (e : Entry) → is_of update (seen now m e) ≡ is_of update e
 of-seen true now m e = refl
 of-seen false now m e = refl
 
-pub active-four : (update : Bool) (now next : ℕ) (m : Marks) (e : Entry) → e.serial < next → IsTimely now e
+pub active-four : (update : Bool) (now next : ℕ) (m : Horizons) (e : Entry) → e.serial < next → IsTimely now e
     → is_active_of update (seen now m e) ≡ four update now next m.inactive m.nonblocking m.monitor e
 active-four update now next m e below timely =
     ap (λ (b : Bool). is_active (seen now m e) && b) (of-seen update now m e)
@@ -175,30 +175,30 @@ four-greatest update time a b c d es =
     ∙ rw (greatest-union (lane update time 1 0 a) (lane update time 2 0 b) es, greatest-union (lane update time 3 0 c) (lane update time 4 0 d) es) refl
 
 -- What a queue finds: the first and the last active entry, and how many there are.
-pub active-least : (update : Bool) (next now : ℕ) (m : Marks) (es : List Entry) (places : BTreeSet Place) → Keeps update next now es places
-    → first_four now next m places ≡ least_serial (filter (is_active_of update) (all_seen now m es))
-active-least update next now m es places keeps =
-    let least = lane-least update next now es places keeps in
+pub active-least : (update : Bool) (next now : ℕ) (m : Horizons) (es : List Entry) (ranked : BTreeSet Key) → Keeps update next now es ranked
+    → first_four now next m ranked ≡ least_serial (filter (is_active_of update) (all_seen now m es))
+active-least update next now m es ranked keeps =
+    let least = lane-least update next now es ranked keeps in
     rw (least now 1 0 next, least now 2 0 m.inactive, least now 3 0 m.nonblocking, least now 4 0 m.monitor)
     (sym (four-least update now next m.inactive m.nonblocking m.monitor es))
     ∙ sym (seen-least now m (filter (four update now next m.inactive m.nonblocking m.monitor) es))
     ∙ ap least_serial (sym (filter-each (is_active_of update) (four update now next m.inactive m.nonblocking m.monitor) (seen now m) now 1 next es
     keeps.rises keeps.timely (active-four update now next m)))
 
-pub active-greatest : (update : Bool) (next now : ℕ) (m : Marks) (es : List Entry) (places : BTreeSet Place) → Keeps update next now es places
-    → last_four now next m places ≡ greatest_serial (filter (is_active_of update) (all_seen now m es))
-active-greatest update next now m es places keeps =
-    let greatest = lane-greatest update next now es places keeps in
+pub active-greatest : (update : Bool) (next now : ℕ) (m : Horizons) (es : List Entry) (ranked : BTreeSet Key) → Keeps update next now es ranked
+    → last_four now next m ranked ≡ greatest_serial (filter (is_active_of update) (all_seen now m es))
+active-greatest update next now m es ranked keeps =
+    let greatest = lane-greatest update next now es ranked keeps in
     rw (greatest now 1 0 next, greatest now 2 0 m.inactive, greatest now 3 0 m.nonblocking, greatest now 4 0 m.monitor)
     (sym (four-greatest update now next m.inactive m.nonblocking m.monitor es))
     ∙ sym (seen-greatest now m (filter (four update now next m.inactive m.nonblocking m.monitor) es))
     ∙ ap greatest_serial (sym (filter-each (is_active_of update) (four update now next m.inactive m.nonblocking m.monitor) (seen now m) now 1 next es
     keeps.rises keeps.timely (active-four update now next m)))
 
-pub active-length : (update : Bool) (next now : ℕ) (m : Marks) (es : List Entry) (places : BTreeSet Place) → Keeps update next now es places
-    → count_four now next m places ≡ length (filter (is_active_of update) (all_seen now m es))
-active-length update next now m es places keeps =
-    let size = lane-length update next now es places keeps in
+pub active-length : (update : Bool) (next now : ℕ) (m : Horizons) (es : List Entry) (ranked : BTreeSet Key) → Keeps update next now es ranked
+    → count_four now next m ranked ≡ length (filter (is_active_of update) (all_seen now m es))
+active-length update next now m es ranked keeps =
+    let size = lane-length update next now es ranked keeps in
     rw (size now 1 0 next, size now 2 0 m.inactive, size now 3 0 m.nonblocking, size now 4 0 m.monitor)
     (sym (four-length update now next m.inactive m.nonblocking m.monitor es))
     ∙ sym (seen-length now m (filter (four update now next m.inactive m.nonblocking m.monitor) es))
@@ -226,21 +226,21 @@ some-either None b = refl
 some-either (Some a) None = refl
 some-either (Some a) (Some b) = refl
 
-pub due-any : (next now : ℕ) (m : Marks) (r : Region) (es : List Entry) (plain updates : BTreeSet Place)
+pub due-any : (next now : ℕ) (m : Horizons) (r : Region) (es : List Entry) (plain updates : BTreeSet Key)
     → Keeps false next now es plain → Keeps true next now es updates → Later r
-    → (is_some (slice_get (serials_of now (rank r) (mark_of m r) next plain) 0) || is_some (slice_get (serials_of now (rank r) (mark_of m r) next updates) 0))
+    → (is_some (slice_get (serials_of now (rank r) (horizon_of m r) next plain) 0) || is_some (slice_get (serials_of now (rank r) (horizon_of m r) next updates) 0))
     ≡ list_any (is_due r now) (all_seen now m es)
 due-any next now m r es plain updates keeps also later =
-    let one = lane false now (rank r) (mark_of m r) next in
-    let other = lane true now (rank r) (mark_of m r) next in
-    rw (lane-least false next now es plain keeps now (rank r) (mark_of m r) next, lane-least true next now es updates also now (rank r) (mark_of m r) next)
+    let one = lane false now (rank r) (horizon_of m r) next in
+    let other = lane true now (rank r) (horizon_of m r) next in
+    rw (lane-least false next now es plain keeps now (rank r) (horizon_of m r) next, lane-least true next now es updates also now (rank r) (horizon_of m r) next)
     (sym (some-either (least_serial (filter one es)) (least_serial (filter other es))))
     ∙ ap is_some (sym (least-union one other es))
     ∙ sym (any-least (λ e. one e || other e) es)
     ∙ sym (any-each (is_due r now) (λ e. one e || other e) (seen now m) now 1 next es keeps.rises keeps.timely
-    (λ e below timely. due-is now next m r e below timely later ∙ either-of (waits now (rank r) (mark_of m r) next e) e))
+    (λ e below timely. due-is now next m r e below timely later ∙ either-of (waits now (rank r) (horizon_of m r) next e) e))
 
-pub beyond-any : (next now t : ℕ) (m all : Marks) (es : List Entry) (plain updates : BTreeSet Place)
+pub beyond-any : (next now t : ℕ) (m all : Horizons) (es : List Entry) (plain updates : BTreeSet Key)
     → Keeps false next now es plain → Keeps true next now es updates
     → all.inactive ≡ next → all.nonblocking ≡ next → all.monitor ≡ next
     → (is_some (first_four t next all plain) || is_some (first_four t next all updates))
@@ -280,10 +280,10 @@ beyond-any next now t m all es plain updates keeps also i n o =
     both e = spread (is_of true e) (waits t 1 0 next e) (waits t 2 0 next e) (waits t 3 0 next e) (waits t 4 0 next e)
 
 -- The start entries that are due: those of the time of both kinds, and those that have got it.
-abbrev start_lanes : ℕ → ℕ → Marks → Entry → Bool
+abbrev start_lanes : ℕ → ℕ → Horizons → Entry → Bool
 start_lanes now next m e = (lane false now 0 0 next e || lane true now 0 0 next e) || (is_untimed e && nat_lt e.serial m.dated)
 
-start-lanes : (now next : ℕ) (m : Marks) (e : Entry) → e.serial < next → IsTimely now e
+start-lanes : (now next : ℕ) (m : Horizons) (e : Entry) → e.serial < next → IsTimely now e
     → is_due region.Start now (seen now m e) ≡ start_lanes now next m e
 start-lanes now next m e below timely =
     start-is now next m e below timely
@@ -306,7 +306,7 @@ time-apart u v b c now (Some t) x y = last ((u && (((t == now) && b) && x)) || (
     last true = refl
     last false = refl
 
-module _ (next now : ℕ) (m : Marks) (es : List Entry) (plain updates : BTreeSet Place) (untimed : BTreeSet ℕ)
+module _ (next now : ℕ) (m : Horizons) (es : List Entry) (plain updates : BTreeSet Key) (untimed : BTreeSet ℕ)
     (keeps : Keeps false next now es plain) (also : Keeps true next now es updates)
     (sorted : IsStrictlySortedBy nat_cmp untimed.keys) (are : AreUntimed es untimed) where
   abbrev dated : Entry → Bool

@@ -1,8 +1,8 @@
 -- Serials rise, and each names one entry.
 pub mod EventsLemmas
 -- What an index tells of its entries.
-pub mod PlacesLemmas
--- What the least place tells of a range.
+pub mod RankedLemmas
+-- What the least key tells of a range.
 pub mod EndsLemmas
 -- What is least and greatest, and what may be picked.
 pub mod SerialsLemmas

@@ -13,24 +13,24 @@ use Rattle.std.specs.Ordering.{nat_cmp}
 use Rattle.vh_base.specs.declared.limits.TheConstants.{MOST_ENTRIES, MOST_NUMBERS}
 use Rattle.vh_queue.specs.declared.entry.Entry.{Entry}
 use Rattle.vh_queue.specs.declared.index.Index.{Index}
-use Rattle.vh_queue.specs.declared.marks.Marks.{Marks}
-use Rattle.vh_queue.specs.declared.place.Place.{Place}
+use Rattle.vh_queue.specs.declared.horizons.Horizons.{Horizons}
+use Rattle.vh_queue.specs.declared.key.Key.{Key}
 use Rattle.vh_queue.specs.declared.region.Region.TheVariants as region
 use Rattle.vh_queue.specs.Entries.{is_update, is_due, is_active, IsFrom}
 use Rattle.vh_queue.specs.Events.{Events, is_ready, eligible, any_due, work_of, is_full, earlier_of, least_time, arrived, Rises}
 use Rattle.vh_queue.specs.Lanes.{count_four, count_start}
-use Rattle.vh_queue.specs.Places.{is_of, Indexes, Entered, Left, StaysSorted, IsSame, dated_in, ArePlaces, AreUntimed, IsLeastTime}
+use Rattle.vh_queue.specs.Ranked.{is_of, Indexes, Entered, Left, StaysSorted, IsSame, dated_in, AreRanked, AreUntimed, IsLeastTime}
 use Rattle.vh_queue.specs.Serials.{least_serial, greatest_serial, later_of, last_of, is_above, is_active_of, picked_by}
-use Rattle.vh_queue.specs.Views.{marks_at, seen, all_seen, by_serial, IsTimely, AreTimely, AreMarks, Holds}
+use Rattle.vh_queue.specs.Views.{horizons_at, seen, all_seen, by_serial, IsTimely, AreTimely, AreHorizons, Holds}
 use Rattle.vh_queue.proofs.EventsLemmas.{rises-filter, rises-map, rises-empty, rises-added}
-use Rattle.vh_queue.proofs.PlacesLemmas.{index-entered, index-same, index-left, dated-is}
+use Rattle.vh_queue.proofs.RankedLemmas.{index-entered, index-same, index-left, dated-is}
 use Rattle.vh_queue.proofs.SerialsLemmas.{serials, first-least, last-greatest, ready-length, ready-least, ready-greatest, any-least, behind-is}
 use Rattle.vh_queue.proofs.HoldsLemmas.{Keeps, timely-filter, active-length, start-length}
 use Rattle.vh_queue.proofs.TimesLemmas.{AreFrom, least-all, times-none, times-least, times-seen, dated_by}
 use Rattle.vh_queue.proofs.ChangesLemmas.{new-seen, all-go, all-stay, timely-later, seen-from, values-are, insert-last, remove-is, lookup-is, found-serial, seen-find, seen-without, count-without, count-more, seen-more, timely-more, holds-of}
 
 -- What an index holds of each kind.
-module _ (next now due ready : ℕ) (m : Marks) (pairs : List (ℕ × Entry)) (x : Index) (h : Holds next now m due ready pairs x) where
+module _ (next now due ready : ℕ) (m : Horizons) (pairs : List (ℕ × Entry)) (x : Index) (h : Holds next now m due ready pairs x) where
   pub keeps-plain : Keeps false next now (values_of pairs) x.plain
   keeps-plain = record { rises = h.rises; timely = h.timely; sorted = h.indexed.plain_sorted; are = h.indexed.plain }
 
@@ -41,14 +41,14 @@ module _ (next now due ready : ℕ) (m : Marks) (pairs : List (ℕ × Entry)) (x
   rises-seen = rises-map (seen now m) (λ e. refl) 1 next (values_of pairs) h.rises
 
 -- One entry more.
-pub holds-added : (next now due ready : ℕ) (m : Marks) (pairs more : List (ℕ × Entry)) (x y : Index) (e : Entry)
+pub holds-added : (next now due ready : ℕ) (m : Horizons) (pairs more : List (ℕ × Entry)) (x y : Index) (e : Entry)
     → Holds next now m due ready pairs x → e.serial ≡ next → IsTimely now e → length pairs < MOST_ENTRIES
     → more ≡ insert_entry nat_cmp pairs next e → Entered e x y → StaysSorted x y
     → Holds (next + 1) now m (due + cond (is_due region.Start now e) 1 0) (ready + cond (is_active_of false e) 1 0) more y
 holds-added next now due ready m pairs more x y e h at timely room is entered stays =
     let es : List Entry = values_of pairs in
-    let same : seen now m e ≡ e = new-seen now next m e (omega (arith, at)) h.marks in
-    let bound = h.marks in
+    let same : seen now m e ≡ e = new-seen now next m e (omega (arith, at)) h.horizons in
+    let bound = h.horizons in
     let a = bound.inactive in let b = bound.nonblocking in let c = bound.monitor in let d = bound.dated in
     let size : length pairs ≡ length es = length-values pairs in
     holds-of (next + 1) now (due + cond (is_due region.Start now e) 1 0) (ready + cond (is_active_of false e) 1 0) m (es ++ e ∷ []) more y
@@ -117,7 +117,7 @@ none-removed s (p ∷ ps) is = by_test (is_key (nat_cmp s) p.0) is (none-removed
     by_test false found rest = ap (λ (t : List (ℕ × Entry)). p ∷ t) (rest found)
 
 -- One entry less.
-pub holds-taken : (next now due ready s fewer less : ℕ) (m : Marks) (pairs rest : List (ℕ × Entry)) (x y : Index) (e : Entry)
+pub holds-taken : (next now due ready s fewer less : ℕ) (m : Horizons) (pairs rest : List (ℕ × Entry)) (x y : Index) (e : Entry)
     → Holds next now m due ready pairs x → lookup (is_key (nat_cmp s)) pairs ≡ Some e → rest ≡ remove_entry (is_key (nat_cmp s)) pairs
     → Left e x y → StaysSorted x y
     → fewer + cond (is_due region.Start now (seen now m e)) 1 0 ≡ due → less + cond (is_active_of false (seen now m e)) 1 0 ≡ ready
@@ -132,7 +132,7 @@ holds-taken next now due ready s fewer less m pairs rest x y e h there is left s
     holds-of next now fewer less m kept rest y
     (is ∙ ap (remove_entry (is_key (nat_cmp s))) h.keyed ∙ remove-is s 1 next es h.rises)
     (rises-filter (λ (f : Entry). not (f.serial == s)) 1 next es h.rises) (timely-filter (λ (f : Entry). not (f.serial == s)) now es h.timely)
-    (index-left s 1 next es e x y h.rises found (found-serial s es e found) left stays h.indexed) h.marks
+    (index-left s 1 next es e x y h.rises found (found-serial s es e found) left stays h.indexed) h.horizons
     (omega (arith, one, due_is, starts)) (omega (arith, other, ready_is, plain))
     (let shorter = filter-shorter es in let size = h.size in let n = length-values pairs in omega (arith, shorter, size, n))
   where
@@ -150,18 +150,18 @@ holds-taken next now due ready s fewer less m pairs rest x y e h there is left s
         by_test false rest = omega (arith, rest)
 
 -- A region that is made active, and time that goes on.
-module _ (next now due ready : ℕ) (m : Marks) (pairs : List (ℕ × Entry)) (x : Index) (h : Holds next now m due ready pairs x) where
+module _ (next now due ready : ℕ) (m : Horizons) (pairs : List (ℕ × Entry)) (x : Index) (h : Holds next now m due ready pairs x) where
   abbrev stand : List Entry
   stand = values_of pairs
 
-  starts-at : (t : ℕ) (k : Marks) → AreTimely t stand → count_start t next k x.plain x.updates x.untimed ≡ length (filter (is_due region.Start t) (all_seen t k stand))
+  starts-at : (t : ℕ) (k : Horizons) → AreTimely t stand → count_start t next k x.plain x.updates x.untimed ≡ length (filter (is_due region.Start t) (all_seen t k stand))
   starts-at t k timely =
       start-length next t k stand x.plain x.updates x.untimed
       (record { rises = h.rises; timely = timely; sorted = h.indexed.plain_sorted; are = h.indexed.plain })
       (record { rises = h.rises; timely = timely; sorted = h.indexed.updates_sorted; are = h.indexed.updates })
       h.indexed.untimed_sorted h.indexed.untimed
 
-  ready-at : (t : ℕ) (k : Marks) → AreTimely t stand → count_four t next k x.plain ≡ length (filter (is_active_of false) (all_seen t k stand))
+  ready-at : (t : ℕ) (k : Horizons) → AreTimely t stand → count_four t next k x.plain ≡ length (filter (is_active_of false) (all_seen t k stand))
   ready-at t k timely =
       active-length false next t k stand x.plain (record { rises = h.rises; timely = timely; sorted = h.indexed.plain_sorted; are = h.indexed.plain })
 
@@ -172,7 +172,7 @@ module _ (next now due ready : ℕ) (m : Marks) (pairs : List (ℕ × Entry)) (x
       length-values [] = refl
       length-values (p ∷ ps) = ap suc (length-values ps)
 
-  pub few : (p : Entry → Bool) (t : ℕ) (k : Marks) → length (filter p (all_seen t k stand)) ≤ MOST_ENTRIES
+  pub few : (p : Entry → Bool) (t : ℕ) (k : Horizons) → length (filter p (all_seen t k stand)) ≤ MOST_ENTRIES
   few p t k = let s = shorter stand in let n = size-of in omega (arith, s, n)
     where
       shorter : (es : List Entry) → length (filter p (all_seen t k es)) ≤ length es
@@ -184,22 +184,22 @@ module _ (next now due ready : ℕ) (m : Marks) (pairs : List (ℕ × Entry)) (x
           by_test true rest = omega (arith, rest)
           by_test false rest = omega (arith, rest)
 
-  pub few-ready : (t : ℕ) (k : Marks) → AreTimely t stand → count_four t next k x.plain < 2 ^ 32
+  pub few-ready : (t : ℕ) (k : Horizons) → AreTimely t stand → count_four t next k x.plain < 2 ^ 32
   few-ready t k timely = let a = ready-at t k timely in let b = few (is_active_of false) t k in omega (arith, a, b)
 
-  pub few-starts : (t : ℕ) (k : Marks) → AreTimely t stand → count_start t next k x.plain x.updates x.untimed < 2 ^ 32
+  pub few-starts : (t : ℕ) (k : Horizons) → AreTimely t stand → count_start t next k x.plain x.updates x.untimed < 2 ^ 32
   few-starts t k timely = let a = starts-at t k timely in let b = few (is_due region.Start t) t k in omega (arith, a, b)
 
-  -- what holds at another time and with other marks
-  pub holds-at : (t : ℕ) (k : Marks) → AreTimely t stand → AreMarks next k
+  -- what holds at another time and with other horizons
+  pub holds-at : (t : ℕ) (k : Horizons) → AreTimely t stand → AreHorizons next k
       → Holds next t k (count_start t next k x.plain x.updates x.untimed) (count_four t next k x.plain) pairs x
-  holds-at t k timely marks =
+  holds-at t k timely horizons =
       holds-of next t (count_start t next k x.plain x.updates x.untimed) (count_four t next k x.plain) k stand pairs x
-      h.keyed h.rises timely h.indexed marks (starts-at t k timely) (ready-at t k timely) size-of
+      h.keyed h.rises timely h.indexed horizons (starts-at t k timely) (ready-at t k timely) size-of
 
   -- what is seen once time has gone on to the least time
   pub goes-on : (t : ℕ) (same gives : Bool) → least_time (all_seen now m stand) ≡ Some t → (same ≡ true → t ≡ now) → (same ≡ false → t ≡ now → ⊥)
-      → (all_seen t (marks_at same gives next m) stand ≡ map (arrived gives t) (all_seen now m stand)) × AreTimely t stand
+      → (all_seen t (horizons_at same gives next m) stand ≡ map (arrived gives t) (all_seen now m stand)) × AreTimely t stand
   goes-on t same gives least one other = by_same same one other
     where
       from : AreFrom t (all_seen now m stand)
@@ -224,7 +224,7 @@ module _ (next now due ready : ℕ) (m : Marks) (pairs : List (ℕ × Entry)) (x
       timely = timely-later now t m stand below from h.timely
 
       by_same : (b : Bool) → (b ≡ true → t ≡ now) → (b ≡ false → t ≡ now → ⊥)
-          → (all_seen t (marks_at b gives next m) stand ≡ map (arrived gives t) (all_seen now m stand)) × AreTimely t stand
+          → (all_seen t (horizons_at b gives next m) stand ≡ map (arrived gives t) (all_seen now m stand)) × AreTimely t stand
       by_same true at differs = let e : t ≡ now = at refl in (rw e (all-stay now 1 next m gives stand h.rises h.timely), timely)
       by_same false at differs = (all-go now 1 next t m gives stand h.rises (after (differs refl)) from, timely)
         where
@@ -252,7 +252,7 @@ pub ready-eligible : (q : Events) → length (filter (is_due region.Start q.time
 ready-eligible q none =
     pick-by q false (some-of (is_due region.Start q.time) q.entries ∙ ap (λ (n : ℕ). nat_lt 0 n) none)
 
--- The last by its place.
+-- The last by its key.
 pub nth-last : (xs : List ℕ) (k : ℕ) → suc k ≡ length xs → slice_get xs k ≡ last_of xs
 nth-last [] k is = absurd (omega (arith, is))
 nth-last (x ∷ []) zero is = refl
@@ -292,7 +292,7 @@ pub record Counts (q : Events) (due ready : ℕ) : Type 0 where
   pub starts : due ≡ length (filter (is_due region.Start q.time) q.entries)
   pub plain : ready ≡ length (filter (is_active_of false) q.entries)
 
-pub counts-of : (next now due ready : ℕ) (m : Marks) (pairs : List (ℕ × Entry)) (x : Index) (q : Events) → Holds next now m due ready pairs x
+pub counts-of : (next now due ready : ℕ) (m : Horizons) (pairs : List (ℕ × Entry)) (x : Index) (q : Events) → Holds next now m due ready pairs x
     → (let p : Events = record { entries = all_seen now m (values_of pairs); next = next; time = now } in p) ≡ q → Counts q due ready
 counts-of next now due ready m pairs x q h is =
     subst (λ (p : Events). Counts p due ready) is
@@ -340,13 +340,13 @@ last-ready q due ready a b o counts none one other is =
     ∙ sym (last-greatest 1 q.next (filter (is_ready q.entries) q.entries) (rises-filter (is_ready q.entries) 1 q.next q.entries counts.rises))
     ∙ sym (ap (λ (es : List Entry). last_of (serials es)) (none-due q due ready counts none))
 
--- The least time of those with a place.
-pub time-is : (update : Bool) (es : List Entry) (places : BTreeSet Place) (o : Option ℕ) → ArePlaces update es places
-    → IfSome o (λ t. IsLeastTime t places) → IfNone o (places.keys ≡ []) → o ≡ least_time (filter (is_of update) es)
-time-is update es places None are some none = sym (times-none update es places are none)
-time-is update es places (Some t) are some none = sym (times-least update t es places are some)
+-- The least time of those with a key.
+pub time-is : (update : Bool) (es : List Entry) (ranked : BTreeSet Key) (o : Option ℕ) → AreRanked update es ranked
+    → IfSome o (λ t. IsLeastTime t ranked) → IfNone o (ranked.keys ≡ []) → o ≡ least_time (filter (is_of update) es)
+time-is update es ranked None are some none = sym (times-none update es ranked are none)
+time-is update es ranked (Some t) are some none = sym (times-least update t es ranked are some)
 
-pub choices-fit : (next now due ready : ℕ) (m : Marks) (pairs : List (ℕ × Entry)) (x : Index) (b : Bool) → Holds next now m due ready pairs x
+pub choices-fit : (next now due ready : ℕ) (m : Horizons) (pairs : List (ℕ × Entry)) (x : Index) (b : Bool) → Holds next now m due ready pairs x
     → ready + cond b 1 0 < 2 ^ 32
 choices-fit next now due ready m pairs x b h =
     let a = h.ready in let n = few next now due ready m pairs x h (is_active_of false) now m in by_bool b (omega (arith, a, n))
@@ -367,7 +367,7 @@ or-else false true s b l is so other both = absurd (cc)
 or-else false false s b l is so other both = other ∙ both
 
 -- Have some without a time got it?
-pub dated-any : (next : ℕ) (m : Marks) (es : List Entry) (us : BTreeSet ℕ) → Rises 1 next es → IsStrictlySortedBy nat_cmp us.keys → AreUntimed es us
+pub dated-any : (next : ℕ) (m : Horizons) (es : List Entry) (us : BTreeSet ℕ) → Rises 1 next es → IsStrictlySortedBy nat_cmp us.keys → AreUntimed es us
     → is_some (slice_get (dated_in m.dated us) 0) ≡ list_any (dated_by m) es
 dated-any next m es us rises sorted are =
     ap (λ (ks : List ℕ). is_some (slice_get ks 0)) (dated-is m.dated 1 next es us rises sorted are)
@@ -375,7 +375,7 @@ dated-any next m es us rises sorted are =
     ∙ sym (any-least (dated_by m) es)
 
 -- The least time by the index.
-pub least-is : (next now due ready : ℕ) (m : Marks) (pairs : List (ℕ × Entry)) (x : Index) (plain updates : Option ℕ) (given : Bool)
+pub least-is : (next now due ready : ℕ) (m : Horizons) (pairs : List (ℕ × Entry)) (x : Index) (plain updates : Option ℕ) (given : Bool)
     → Holds next now m due ready pairs x
     → IfSome plain (λ t. IsLeastTime t x.plain) → IfNone plain (x.plain.keys ≡ [])
     → IfSome updates (λ t. IsLeastTime t x.updates) → IfNone updates (x.updates.keys ≡ [])
@@ -390,16 +390,16 @@ least-is next now due ready m pairs x plain updates given h some none also neith
     ) (sym (times-seen now m (values_of pairs)))
 
 -- The queue that is empty.
-pub holds-none : (next now : ℕ) (m : Marks) (pairs : List (ℕ × Entry)) (x : Index) → pairs ≡ [] → Indexes [] x → AreMarks next m → 1 ≤ next
+pub holds-none : (next now : ℕ) (m : Horizons) (pairs : List (ℕ × Entry)) (x : Index) → pairs ≡ [] → Indexes [] x → AreHorizons next m → 1 ≤ next
     → Holds next now m 0 0 pairs x
-holds-none next now m pairs x none index marks some =
-    holds-of next now 0 0 m [] pairs x none some tt index marks refl refl (omega arith)
+holds-none next now m pairs x none index horizons some =
+    holds-of next now 0 0 m [] pairs x none some tt index horizons refl refl (omega arith)
 
-pub next-some : (next now due ready : ℕ) (m : Marks) (pairs : List (ℕ × Entry)) (x : Index) → Holds next now m due ready pairs x → 1 ≤ next
+pub next-some : (next now due ready : ℕ) (m : Horizons) (pairs : List (ℕ × Entry)) (x : Index) → Holds next now m due ready pairs x → 1 ≤ next
 next-some next now due ready m pairs x h = rises-empty 1 next (values_of pairs) h.rises
 
 -- The work of a serial.
-pub work-found : (next now due ready s : ℕ) (m : Marks) (pairs : List (ℕ × Entry)) (x : Index) (o : Option Entry) → Holds next now m due ready pairs x
+pub work-found : (next now due ready s : ℕ) (m : Horizons) (pairs : List (ℕ × Entry)) (x : Index) (o : Option Entry) → Holds next now m due ready pairs x
     → o ≡ lookup (is_key (nat_cmp s)) pairs
     → option_map (λ (e : Entry). e.work) o ≡ work_of s (record { entries = all_seen now m (values_of pairs); next = next; time = now })
 work-found next now due ready s m pairs x o h is =
@@ -413,14 +413,14 @@ work-found next now due ready s m pairs x o h is =
     kept (Some e) = refl
 
 -- The entry of a serial, and the others.
-pub entry-found : (next now due ready s : ℕ) (m : Marks) (pairs : List (ℕ × Entry)) (x : Index) (o : Option Entry) → Holds next now m due ready pairs x
+pub entry-found : (next now due ready s : ℕ) (m : Horizons) (pairs : List (ℕ × Entry)) (x : Index) (o : Option Entry) → Holds next now m due ready pairs x
     → o ≡ lookup (is_key (nat_cmp s)) pairs
     → option_map (seen now m) o ≡ find (λ e. e.serial == s) (all_seen now m (values_of pairs))
 entry-found next now due ready s m pairs x o h is =
     ap (λ (p : Option Entry). option_map (seen now m) p) (is ∙ ap (lookup (is_key (nat_cmp s))) h.keyed ∙ lookup-is s (values_of pairs))
     ∙ sym (seen-find now s m (values_of pairs))
 
-pub view-taken : (next now due ready s : ℕ) (m : Marks) (pairs rest : List (ℕ × Entry)) (x : Index) → Holds next now m due ready pairs x
+pub view-taken : (next now due ready s : ℕ) (m : Horizons) (pairs rest : List (ℕ × Entry)) (x : Index) → Holds next now m due ready pairs x
     → rest ≡ remove_entry (is_key (nat_cmp s)) pairs
     → all_seen now m (values_of rest) ≡ filter (λ e. not (e.serial == s)) (all_seen now m (values_of pairs))
 view-taken next now due ready s m pairs rest x h is =
@@ -429,7 +429,7 @@ view-taken next now due ready s m pairs rest x h is =
     ∙ sym (seen-without now s m (values_of pairs))
 
 -- What is counted of the entry that is taken.
-pub counted-once : (next now due ready s : ℕ) (m : Marks) (pairs : List (ℕ × Entry)) (x : Index) (e : Entry) → Holds next now m due ready pairs x
+pub counted-once : (next now due ready s : ℕ) (m : Horizons) (pairs : List (ℕ × Entry)) (x : Index) (e : Entry) → Holds next now m due ready pairs x
     → lookup (is_key (nat_cmp s)) pairs ≡ Some e
     → (cond (is_due region.Start now (seen now m e)) 1 0 ≤ due) × (cond (is_active_of false (seen now m e)) 1 0 ≤ ready)
 counted-once next now due ready s m pairs x e h there =
@@ -440,7 +440,7 @@ counted-once next now due ready s m pairs x e h there =
     let a = h.starts in let b = h.ready in (omega (arith, one, a), omega (arith, other, b))
 
 -- What is seen once an entry is added.
-pub view-added : (next now due ready : ℕ) (m : Marks) (pairs more : List (ℕ × Entry)) (x : Index) (e : Entry) → Holds next now m due ready pairs x
+pub view-added : (next now due ready : ℕ) (m : Horizons) (pairs more : List (ℕ × Entry)) (x : Index) (e : Entry) → Holds next now m due ready pairs x
     → e.serial ≡ next → more ≡ insert_entry nat_cmp pairs next e
     → all_seen now m (values_of more) ≡ all_seen now m (values_of pairs) ++ e ∷ []
 view-added next now due ready m pairs more x e h at is =
@@ -448,7 +448,7 @@ view-added next now due ready m pairs more x e h at is =
     ap (λ (ps : List (ℕ × Entry)). all_seen now m (values_of ps))
     (is ∙ ap (λ (ps : List (ℕ × Entry)). insert_entry nat_cmp ps next e) h.keyed ∙ insert-last 1 next e es h.rises at)
     ∙ ap (all_seen now m) (values-are (es ++ e ∷ []))
-    ∙ seen-more now m es e (new-seen now next m e (omega (arith, at)) h.marks)
+    ∙ seen-more now m es e (new-seen now next m e (omega (arith, at)) h.horizons)
 
 -- What is picked by going over all.
 pub picked-are : (q : Events) (due ready : ℕ) (starts : Bool) (first : Option ℕ) → Counts q due ready → starts ≡ nat_lt 0 due
@@ -470,7 +470,7 @@ picked-are q due ready starts first counts so is = by_starts starts refl
         filter-same f g [] same = refl
         filter-same f g (e ∷ es) same = rw (same e, filter-same f g es same) refl
 
--- The last that may be picked, by its place.
+-- The last that may be picked, by its key.
 serials-length : (es : List Entry) → length (serials es) ≡ length es
 serials-length [] = refl
 serials-length (e ∷ es) = ap suc (serials-length es)
@@ -492,13 +492,13 @@ pub on-err : {A E : Type 0} (r : Result A E) (P : Type 0) → is_err r ≡ true 
 on-err (Ok x) P is h = absurd (cc)
 on-err (Err e) P is h = h
 
-pub holds-same : (next now due ready : ℕ) (m : Marks) (pairs same : List (ℕ × Entry)) (x y : Index) → Holds next now m due ready pairs x
+pub holds-same : (next now due ready : ℕ) (m : Horizons) (pairs same : List (ℕ × Entry)) (x y : Index) → Holds next now m due ready pairs x
     → same ≡ pairs → IsSame x y → StaysSorted x y → Holds next now m due ready same y
 holds-same next now due ready m pairs same x y h is index stays =
     holds-of next now due ready m (values_of pairs) same y (is ∙ h.keyed) h.rises h.timely (index-same (values_of pairs) x y index stays h.indexed)
-    h.marks h.starts h.ready (size-of next now due ready m pairs x h)
+    h.horizons h.starts h.ready (size-of next now due ready m pairs x h)
 
-pub seen-size : (now : ℕ) (m : Marks) (pairs : List (ℕ × Entry)) → length (all_seen now m (values_of pairs)) ≡ length pairs
+pub seen-size : (now : ℕ) (m : Horizons) (pairs : List (ℕ × Entry)) → length (all_seen now m (values_of pairs)) ≡ length pairs
 seen-size now m [] = refl
 seen-size now m (p ∷ ps) = ap suc (seen-size now m ps)
 
@@ -506,12 +506,12 @@ add-one : (n : ℕ) (b : Bool) → n ≤ MOST_ENTRIES → n + cond b 1 0 < 2 ^ 3
 add-one n true small = omega (arith, small)
 add-one n false small = omega (arith, small)
 
-pub few-due : (next now due ready : ℕ) (m : Marks) (pairs : List (ℕ × Entry)) (x : Index) (b : Bool) → Holds next now m due ready pairs x
+pub few-due : (next now due ready : ℕ) (m : Horizons) (pairs : List (ℕ × Entry)) (x : Index) (b : Bool) → Holds next now m due ready pairs x
     → due + cond b 1 0 < 2 ^ 32
 few-due next now due ready m pairs x b h =
     let a = h.starts in let n = few next now due ready m pairs x h (is_due region.Start now) now m in add-one due b (omega (arith, a, n))
 
-pub few-plain : (next now due ready : ℕ) (m : Marks) (pairs : List (ℕ × Entry)) (x : Index) (b : Bool) → Holds next now m due ready pairs x
+pub few-plain : (next now due ready : ℕ) (m : Horizons) (pairs : List (ℕ × Entry)) (x : Index) (b : Bool) → Holds next now m due ready pairs x
     → ready + cond b 1 0 < 2 ^ 32
 few-plain next now due ready m pairs x b h =
     let a = h.ready in let n = few next now due ready m pairs x h (is_active_of false) now m in add-one ready b (omega (arith, a, n))

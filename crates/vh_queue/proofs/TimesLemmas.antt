@@ -1,17 +1,17 @@
--- Lemmas on the least time of an entry, by `specs/Events.antt` and by the places of `specs/Places.antt`.
+-- Lemmas on the least time of an entry, by `specs/Events.antt` and by the ranked of `specs/Ranked.antt`.
 use Rattle.std.proofs.Common.{◌≡◌, ◌∙◌, ℕ, ◌<◌, ◌≤◌, List, [], ◌∷◌, filter, Bool, true, false, not, ◌&&◌, ◌||◌, ◌==◌, cond, nat_lt, min, Option, Some, None, refl, sym, ap, subst, arith, ⊎_elim}
 use Rattle.std.proofs.lemmas.Bool.{and_parts, and_from, or_right, or_left, or_cases, eq-eqb, eqb-true, cases_lt}
 use Rattle.std.specs.BTreeSet.{BTreeSet, contains}
 use Rattle.std.specs.List.{list_any}
 use Rattle.vh_queue.specs.declared.entry.Entry.{Entry}
-use Rattle.vh_queue.specs.declared.marks.Marks.{Marks}
-use Rattle.vh_queue.specs.declared.place.Place.{Place}
-use Rattle.vh_queue.specs.contracts.place.PlaceOrd.TheImpl.{cmp-value}
+use Rattle.vh_queue.specs.declared.horizons.Horizons.{Horizons}
+use Rattle.vh_queue.specs.declared.key.Key.{Key}
+use Rattle.vh_queue.specs.contracts.key.KeyOrd.TheImpl.{cmp-value}
 use Rattle.vh_queue.specs.Entries.{rank, is_at, IsFrom, time_given}
 use Rattle.vh_queue.specs.Events.{earlier_of, least_time}
-use Rattle.vh_queue.specs.Places.{is_of, is_placed, is_untimed, has_none, place, ArePlaces, IsLeastTime}
+use Rattle.vh_queue.specs.Ranked.{is_of, is_ranked, is_untimed, has_none, key, AreRanked, IsLeastTime}
 use Rattle.vh_queue.specs.Views.{all_seen}
-use Rattle.vh_queue.proofs.PlacesLemmas.{any-filter}
+use Rattle.vh_queue.proofs.RankedLemmas.{any-filter}
 
 -- The earlier of several.
 earlier-again : (a b c : Option ℕ) → earlier_of a (earlier_of b c) ≡ earlier_of (earlier_of a b) c
@@ -50,10 +50,10 @@ seen-by now None false true a e p q is = rw is (now-again now a (earlier_of (lea
 seen-by now None true false a e p q is = rw is refl
 seen-by now None false false a e p q is = rw is refl
 
-abbrev pub dated_by : Marks → Entry → Bool
+abbrev pub dated_by : Horizons → Entry → Bool
 dated_by m e = is_untimed e && nat_lt e.serial m.dated
 
-pub times-seen : (now : ℕ) (m : Marks) (es : List Entry)
+pub times-seen : (now : ℕ) (m : Horizons) (es : List Entry)
     → least_time (all_seen now m es)
     ≡ earlier_of (earlier_of (least_time (filter (is_of false) es)) (least_time (filter (is_of true) es))) (given now (list_any (dated_by m) es))
 times-seen now m [] = refl
@@ -107,7 +107,7 @@ least-low (e ∷ es) t found =
     (λ (there : list_any (λ (f : Entry). is_at f.time t) es ≡ true). low-right t e.time (least_time es) (least-low es t there))
     (or_cases (is_at e.time t) (list_any (λ (f : Entry). is_at f.time t) es) found)
 
--- A place of a time is found where an entry of it is.
+-- A key of a time is found where an entry of it is.
 any-weaker : (f g : Entry → Bool) (es : List Entry) → ((e : Entry) → f e ≡ true → g e ≡ true) → list_any f es ≡ true → list_any g es ≡ true
 any-weaker f g [] weaker found = absurd (cc)
 any-weaker f g (e ∷ es) weaker found =
@@ -115,50 +115,50 @@ any-weaker f g (e ∷ es) weaker found =
     (λ (there : list_any f es ≡ true). or_right (g e) (list_any g es) (any-weaker f g es weaker there))
     (or_cases (f e) (list_any f es) found)
 
-record HasPlace (update : Bool) (t : ℕ) (es : List Entry) : Type 0 where
+record HasKey (update : Bool) (t : ℕ) (es : List Entry) : Type 0 where
   rank : ℕ
   serial : ℕ
-  there : list_any (λ (e : Entry). is_of update e && is_placed (place t rank serial) e) es ≡ true
+  there : list_any (λ (e : Entry). is_of update e && is_ranked (key t rank serial) e) es ≡ true
 
-any-place : (update : Bool) (t : ℕ) (es : List Entry) → list_any (λ (e : Entry). is_of update e && is_at e.time t) es ≡ true → HasPlace update t es
-any-place update t [] found = absurd (cc)
-any-place update t (e ∷ es) found =
+any-key : (update : Bool) (t : ℕ) (es : List Entry) → list_any (λ (e : Entry). is_of update e && is_at e.time t) es ≡ true → HasKey update t es
+any-key update t [] found = absurd (cc)
+any-key update t (e ∷ es) found =
     ⊎_elim (λ (here : (is_of update e && is_at e.time t) ≡ true).
     let parts = and_parts (is_of update e) (is_at e.time t) here in
     record {
       rank = rank e.region;
       serial = e.serial;
-      there = or_left (is_of update e && is_placed (place t (rank e.region) e.serial) e) _ (and_from (is_of update e) _ parts.0
+      there = or_left (is_of update e && is_ranked (key t (rank e.region) e.serial) e) _ (and_from (is_of update e) _ parts.0
           (and_from (is_at e.time t && rank e.region == rank e.region) (e.serial == e.serial)
           (and_from (is_at e.time t) (rank e.region == rank e.region) parts.1 (at-itself (rank e.region))) (at-itself e.serial)));
     })
     (λ (there : list_any (λ (f : Entry). is_of update f && is_at f.time t) es ≡ true).
-    let p = any-place update t es there in
-    record { rank = p.rank; serial = p.serial; there = or_right (is_of update e && is_placed (place t p.rank p.serial) e) _ p.there })
+    let p = any-key update t es there in
+    record { rank = p.rank; serial = p.serial; there = or_right (is_of update e && is_ranked (key t p.rank p.serial) e) _ p.there })
     (or_cases (is_of update e && is_at e.time t) (list_any (λ (f : Entry). is_of update f && is_at f.time t) es) found)
 
-pub times-least : (update : Bool) (t : ℕ) (es : List Entry) (places : BTreeSet Place) → ArePlaces update es places → IsLeastTime t places
+pub times-least : (update : Bool) (t : ℕ) (es : List Entry) (ranked : BTreeSet Key) → AreRanked update es ranked → IsLeastTime t ranked
     → least_time (filter (is_of update) es) ≡ Some t
-times-least update t es places are least =
+times-least update t es ranked are least =
     let kept : List Entry = filter (is_of update) es in
     let found : list_any (λ (e : Entry). is_of update e && is_at e.time t) es ≡ true =
-    any-weaker (λ (e : Entry). is_of update e && is_placed (place t least.rank least.serial) e) (λ (e : Entry). is_of update e && is_at e.time t) es
+    any-weaker (λ (e : Entry). is_of update e && is_ranked (key t least.rank least.serial) e) (λ (e : Entry). is_of update e && is_at e.time t) es
     (λ e both. let parts = and_parts (is_of update e) _ both in
     let inner = and_parts (is_at e.time t && rank e.region == least.rank) _ parts.1 in
     and_from (is_of update e) (is_at e.time t) parts.0 (and_parts (is_at e.time t) _ inner.0).0)
-    (sym (are (place t least.rank least.serial)) ∙ least.there) in
+    (sym (are (key t least.rank least.serial)) ∙ least.there) in
     let low : IsLow t (least_time kept) = least-low kept t (any-filter (is_of update) (λ (e : Entry). is_at e.time t) es ∙ found) in
-    let p : HasPlace update low.low es = any-place update low.low es (sym (any-filter (is_of update) (λ (e : Entry). is_at e.time low.low) es) ∙ least-at kept low.low low.is) in
-    let above : t ≤ low.low = least.least (place low.low p.rank p.serial) (are (place low.low p.rank p.serial) ∙ p.there) in
+    let p : HasKey update low.low es = any-key update low.low es (sym (any-filter (is_of update) (λ (e : Entry). is_at e.time low.low) es) ∙ least-at kept low.low low.is) in
+    let above : t ≤ low.low = least.least (key low.low p.rank p.serial) (are (key low.low p.rank p.serial) ∙ p.there) in
     let below = low.below in
     low.is ∙ ap Some (omega (arith, above, below))
 
-none-there : (p : Place) (places : BTreeSet Place) → places.keys ≡ [] → contains (cmp-value).it places p ≡ true → ⊥
-none-there p places none found = absurd (let e : contains (cmp-value).it places p ≡ false = rw none refl in cc)
+none-there : (p : Key) (ranked : BTreeSet Key) → ranked.keys ≡ [] → contains (cmp-value).it ranked p ≡ true → ⊥
+none-there p ranked none found = absurd (let e : contains (cmp-value).it ranked p ≡ false = rw none refl in cc)
 
-pub times-none : (update : Bool) (es : List Entry) (places : BTreeSet Place) → ArePlaces update es places → places.keys ≡ []
+pub times-none : (update : Bool) (es : List Entry) (ranked : BTreeSet Key) → AreRanked update es ranked → ranked.keys ≡ []
     → least_time (filter (is_of update) es) ≡ None
-times-none update es places are none = by_least (least_time kept) refl
+times-none update es ranked are none = by_least (least_time kept) refl
   where
     kept : List Entry
     kept = filter (is_of update) es
@@ -166,8 +166,8 @@ times-none update es places are none = by_least (least_time kept) refl
     by_least : (o : Option ℕ) → least_time kept ≡ o → o ≡ None
     by_least None is = refl
     by_least (Some y) is =
-        let p : HasPlace update y es = any-place update y es (sym (any-filter (is_of update) (λ (e : Entry). is_at e.time y) es) ∙ least-at kept y is) in
-        absurd (none-there (place y p.rank p.serial) places none (are (place y p.rank p.serial) ∙ p.there))
+        let p : HasKey update y es = any-key update y es (sym (any-filter (is_of update) (λ (e : Entry). is_at e.time y) es) ∙ least-at kept y is) in
+        absurd (none-there (key y p.rank p.serial) ranked none (are (key y p.rank p.serial) ∙ p.there))
 
 -- No entry is before the least time.
 abbrev pub AreFrom : ℕ → List Entry → Type 0

@@ -2,8 +2,8 @@
 pub mod Entries
 -- The event queue: its entries, and which of them may be picked.
 pub mod Events
--- The places where entries wait, in their order.
-pub mod Places
+-- The ranked where entries wait, in their order.
+pub mod Ranked
 -- The least and the greatest serial.
 pub mod Serials
 -- The entries of four regions.

@@ -4,7 +4,7 @@ use Rattle.vh_queue.specs.declared.entry.Entry.{Entry}
 use Rattle.vh_queue.specs.declared.region.Region.TheVariants as region
 use Rattle.vh_queue.specs.Entries.{is_update, is_due, is_active}
 use Rattle.vh_queue.specs.Events.{earlier_of}
-use Rattle.vh_queue.specs.Places.{is_of}
+use Rattle.vh_queue.specs.Ranked.{is_of}
 
 abbrev pub least_serial : List Entry → Option ℕ
 least_serial [] = None

@@ -1,11 +1,11 @@
 ghost use Rattle.std.specs.Prelude.{◌≡◌, ◌==◌, false};
 ghost use Rattle.vh_queue.specs.Entries.{rank, is_at, is_due, is_active};
-ghost use Rattle.vh_queue.specs.Places.{place_of};
+ghost use Rattle.vh_queue.specs.Ranked.{key_of};
 ghost use Rattle.vh_queue.specs.Views.{seen};
 ghost use Rattle.vh_queue.specs.Serials.{is_active_of, picked_by};
 
-use crate::marks::Marks;
-use crate::place::Place;
+use crate::horizons::Horizons;
+use crate::key::Key;
 use crate::region::Region;
 use crate::work::Work;
 use vh_base::Serial;
@@ -26,11 +26,11 @@ pub struct Entry {
 
 impl Entry {
     // Where it waits, where it has a time.
-    pub(crate) fn place(&self) -> Option<Place>
-        ensures { result ≡ place_of self.now }
+    pub(crate) fn key(&self) -> Option<Key>
+        ensures { result ≡ key_of self.now }
     {
         let time = self.time?;
-        Some(Place {
+        Some(Key {
             time,
             rank: self.region as u8,
             serial: self.serial.number(),
@@ -38,14 +38,14 @@ impl Entry {
     }
 
     // The entry that was added as this one, as it is now.
-    pub(crate) fn seen(&self, now: u64, marks: &Marks) -> Entry
-        ensures { result ≡ seen now marks.now self.now }
+    pub(crate) fn seen(&self, now: u64, horizons: &Horizons) -> Entry
+        ensures { result ≡ seen now horizons.now self.now }
     {
         let mut entry = *self;
-        if self.time.is_none() && self.serial.number() < marks.dated {
+        if self.time.is_none() && self.serial.number() < horizons.dated {
             entry.time = Some(now);
         }
-        if self.is_at(now) && self.serial.number() < marks.of(self.region) {
+        if self.is_at(now) && self.serial.number() < horizons.of(self.region) {
             entry.region = Region::Active;
         }
         entry

@@ -1,22 +1,22 @@
 ghost use Rattle.std.specs.Prelude.{◌≡◌, ◌<◌, ◌^◌, [], length, slice_get, OnOk, OnErr};
 ghost use Rattle.vh_queue.specs.Lanes.{count_start};
-ghost use Rattle.vh_queue.specs.Places.{dated_in, Indexes, Entered, Left, StaysSorted, IsSame};
+ghost use Rattle.vh_queue.specs.Ranked.{dated_in, Indexes, Entered, Left, StaysSorted, IsSame};
 ghost use Rattle.vh_queue.specs.Serials.{last_of};
 
 use crate::entry::Entry;
-use crate::marks::Marks;
-use crate::place::{Places, count_of};
+use crate::horizons::Horizons;
+use crate::key::{Ranked, count_of};
 use crate::region::Region;
 use std::alloc::Global;
 use std::collections::BTreeSet;
 use std::ops::Bound;
 use vh_base::NoMemory;
 
-// Where entries wait: the nonblocking updates and the others with a time, each by place, and those without a time.
+// Where entries wait: the nonblocking updates and the others with a time, each by key, and those without a time.
 #[derive(Drop)]
 pub(crate) struct Index {
-    pub(crate) plain: Places,
-    pub(crate) updates: Places,
+    pub(crate) plain: Ranked,
+    pub(crate) updates: Ranked,
     pub(crate) untimed: BTreeSet<u64, Global>,
 }
 
@@ -26,8 +26,8 @@ impl Index {
         ensures { Indexes [] result }
     {
         Index {
-            plain: Places::new(alloc),
-            updates: Places::new(alloc),
+            plain: Ranked::new(alloc),
+            updates: Ranked::new(alloc),
             untimed: BTreeSet::new(alloc),
         }
     }
@@ -39,15 +39,15 @@ impl Index {
         ensures sorted { StaysSorted self.old self.new }
     {
         let serial = entry.serial.number();
-        match entry.place() {
+        match entry.key() {
             None => {
                 self.untimed.insert(serial)?;
             }
-            Some(place) => {
+            Some(key) => {
                 if entry.work.is_update() {
-                    self.updates.insert(place)?;
+                    self.updates.insert(key)?;
                 } else {
-                    self.plain.insert(place)?;
+                    self.plain.insert(key)?;
                 }
             }
         }
@@ -60,15 +60,15 @@ impl Index {
         ensures sorted { StaysSorted self.old self.new }
     {
         let serial = entry.serial.number();
-        match entry.place() {
+        match entry.key() {
             None => {
                 self.untimed.remove(&serial);
             }
-            Some(place) => {
+            Some(key) => {
                 if entry.work.is_update() {
-                    self.updates.remove(&place);
+                    self.updates.remove(&key);
                 } else {
-                    self.plain.remove(&place);
+                    self.plain.remove(&key);
                 }
             }
         }
@@ -120,13 +120,13 @@ impl Index {
 
 // How many start entries of a time stand up to a serial, with those without a time that have got it. It goes
 // over them.
-pub(crate) fn count_start(index: &Index, time: u64, own: u64, marks: &Marks) -> usize
-    requires { count_start time own marks.now (index.now).plain (index.now).updates
+pub(crate) fn count_start(index: &Index, time: u64, own: u64, horizons: &Horizons) -> usize
+    requires { count_start time own horizons.now (index.now).plain (index.now).updates
         (index.now).untimed < 2 ^ 32 }
-    ensures { result ≡ count_start time own marks.now (index.now).plain (index.now).updates
+    ensures { result ≡ count_start time own horizons.now (index.now).plain (index.now).updates
         (index.now).untimed }
 {
     let plain = count_of(&index.plain, time, Region::Start as u8, 0, own);
     let updates = count_of(&index.updates, time, Region::Start as u8, 0, own);
-    (plain + updates) + index.count_dated(marks.dated)
+    (plain + updates) + index.count_dated(horizons.dated)
 }

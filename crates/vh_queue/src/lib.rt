@@ -8,10 +8,10 @@
 
 mod entry;
 mod fault;
+mod horizons;
 mod index;
+mod key;
 mod laws;
-mod marks;
-mod place;
 mod queue;
 mod region;
 mod work;

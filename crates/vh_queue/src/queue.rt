@@ -8,9 +8,9 @@ ghost use Rattle.vh_queue.specs.Views.{Later, all_seen};
 
 use crate::entry::Entry;
 use crate::fault::AddFault;
+use crate::horizons::Horizons;
 use crate::index::{Index, count_start};
-use crate::marks::Marks;
-use crate::place::{
+use crate::key::{
     any_four, count_four, earlier, first_four, first_of, first_time, last_four, last_of, later,
 };
 use crate::region::Region;
@@ -22,13 +22,13 @@ use vh_queue_maps::Recent;
 
 /// The event queue, which contracts see as `Events`: its entries by rising serial, the
 /// next serial, and the present time. Inside, entries stay as they were added; they wait in sets that are
-/// ordered by time, region and serial, and marks say which of the present time are active. So no call goes
+/// ordered by time, region and serial, and horizons say which of the present time are active. So no call goes
 /// over all entries, but a pick that is neither the first nor the last.
 #[derive(Drop)]
 pub struct Queue {
     entries: Recent<Entry>,
     index: Index,
-    marks: Marks,
+    horizons: Horizons,
     next: u64,
     time: u64,
     starts: u32,
@@ -43,12 +43,12 @@ impl Model for Queue {
     ghost Value = { Events };
 
     ghost view = { λ q. record {
-      entries = all_seen q.time q.marks (values_of q.entries);
+      entries = all_seen q.time q.horizons (values_of q.entries);
       next = q.next;
       time = q.time;
     } };
 
-    ghost invariant = { λ q. Holds q.next q.time q.marks q.starts q.ready q.entries q.index };
+    ghost invariant = { λ q. Holds q.next q.time q.horizons q.starts q.ready q.entries q.index };
 }
 
 // One where it is so, else none.
@@ -69,18 +69,18 @@ fn time_if(so: bool, time: u64) -> Option<u64>
 fn nth_picked(
     entries: &Recent<Entry>,
     now: u64,
-    marks: &Marks,
+    horizons: &Horizons,
     starts: bool,
     first: Option<u64>,
     k: u32,
 ) -> Option<u64>
     ensures { result ≡ slice_get (map (λ e. e.serial)
-        (filter (picked_by starts now first) (all_seen now marks.now (values_of entries.now)))) k }
+        (filter (picked_by starts now first) (all_seen now horizons.now (values_of entries.now)))) k }
 {
     let (old, row) = entries.parts();
     let mut left = k;
     for stored in old.values() {
-        let entry = stored.seen(now, marks);
+        let entry = stored.seen(now, horizons);
         if entry.is_picked_by(starts, now, first) {
             if left == 0 {
                 return Some(entry.serial.number());
@@ -89,7 +89,7 @@ fn nth_picked(
         }
     }
     for stored in row {
-        let entry = stored.1.seen(now, marks);
+        let entry = stored.1.seen(now, horizons);
         if entry.is_picked_by(starts, now, first) {
             if left == 0 {
                 return Some(entry.serial.number());
@@ -108,7 +108,7 @@ impl Queue {
         Ok(Queue {
             entries: Recent::new(alloc),
             index: Index::new(alloc),
-            marks: Marks {
+            horizons: Horizons {
                 inactive: 0,
                 nonblocking: 0,
                 monitor: 0,
@@ -147,21 +147,21 @@ impl Queue {
     fn first_update(&self) -> Option<u64>
         ensures { result ≡ least_serial (filter (is_active_of true) self.now.entries) }
     {
-        first_four(&self.index.updates, self.time, self.next, &self.marks)
+        first_four(&self.index.updates, self.time, self.next, &self.horizons)
     }
 
     // The first active entry that is none.
     fn first_plain(&self) -> Option<u64>
         ensures { result ≡ least_serial (filter (is_active_of false) self.now.entries) }
     {
-        first_four(&self.index.plain, self.time, self.next, &self.marks)
+        first_four(&self.index.plain, self.time, self.next, &self.horizons)
     }
 
     // The last one.
     fn last_plain(&self) -> Option<u64>
         ensures { result ≡ greatest_serial (filter (is_active_of false) self.now.entries) }
     {
-        last_four(&self.index.plain, self.time, self.next, &self.marks)
+        last_four(&self.index.plain, self.time, self.next, &self.horizons)
     }
 
     // The first start entry that is due.
@@ -172,7 +172,7 @@ impl Queue {
         let rank = Region::Start as u8;
         let plain = first_of(&self.index.plain, self.time, rank, 0, self.next);
         let update = first_of(&self.index.updates, self.time, rank, 0, self.next);
-        let dated = self.index.first_dated(self.marks.dated);
+        let dated = self.index.first_dated(self.horizons.dated);
         earlier(earlier(plain, update), dated)
     }
 
@@ -184,7 +184,7 @@ impl Queue {
         let rank = Region::Start as u8;
         let plain = last_of(&self.index.plain, self.time, rank, 0, self.next);
         let update = last_of(&self.index.updates, self.time, rank, 0, self.next);
-        let dated = self.index.last_dated(self.marks.dated);
+        let dated = self.index.last_dated(self.horizons.dated);
         later(later(plain, update), dated)
     }
 
@@ -227,7 +227,7 @@ impl Queue {
     {
         let first = self.first_update();
         let starts = self.starts > 0;
-        nth_picked(&self.entries, self.time, &self.marks, starts, first, k)
+        nth_picked(&self.entries, self.time, &self.horizons, starts, first, k)
     }
 
     // The serial of the k-th entry that may be picked.
@@ -251,7 +251,7 @@ impl Queue {
     {
         let stored = self.entries.remove(serial)?;
         self.index.leave(&stored);
-        let entry = stored.seen(self.time, &self.marks);
+        let entry = stored.seen(self.time, &self.horizons);
         self.starts -= one_if(entry.is_due(Region::Start, self.time));
         self.ready -= one_if(entry.is_plain());
         Some(entry)
@@ -329,7 +329,7 @@ impl Queue {
         requires { Later region }
         ensures { result ≡ list_any (is_due region self.now.time) self.now.entries }
     {
-        let from = self.marks.of(region);
+        let from = self.horizons.of(region);
         let rank = region.rank();
         first_of(&self.index.plain, self.time, rank, from, self.next).is_some()
             || first_of(&self.index.updates, self.time, rank, from, self.next).is_some()
@@ -361,11 +361,11 @@ impl Queue {
         ensures active { self.new ≡ activated_next (next_region self.old) self.old }
     {
         let region = self.next_region()?;
-        let mut marks = self.marks;
-        marks.set(region, self.next);
-        self.starts = count_start(&self.index, self.time, self.next, &marks) as u32;
-        self.ready = count_four(&self.index.plain, self.time, self.next, &marks) as u32;
-        self.marks = marks;
+        let mut horizons = self.horizons;
+        horizons.set(region, self.next);
+        self.starts = count_start(&self.index, self.time, self.next, &horizons) as u32;
+        self.ready = count_four(&self.index.plain, self.time, self.next, &horizons) as u32;
+        self.horizons = horizons;
         Some(region)
     }
 
@@ -375,7 +375,7 @@ impl Queue {
     {
         let plain = first_time(&self.index.plain);
         let update = first_time(&self.index.updates);
-        let dated = self.index.first_dated(self.marks.dated).is_some();
+        let dated = self.index.first_dated(self.horizons.dated).is_some();
         earlier(earlier(plain, update), time_if(dated, self.time))
     }
 
@@ -383,7 +383,7 @@ impl Queue {
     fn any_beyond(&self, time: u64) -> bool
         ensures { result ≡ list_any (is_beyond_start time) self.now.entries }
     {
-        let all = Marks {
+        let all = Horizons {
             inactive: self.next,
             nonblocking: self.next,
             monitor: self.next,
@@ -402,10 +402,10 @@ impl Queue {
     {
         let time = self.least_time()?;
         let gives = self.any_beyond(time);
-        let marks = self.marks.at(time == self.time, gives, self.next);
-        self.starts = count_start(&self.index, time, self.next, &marks) as u32;
-        self.ready = count_four(&self.index.plain, time, self.next, &marks) as u32;
-        self.marks = marks;
+        let horizons = self.horizons.at(time == self.time, gives, self.next);
+        self.starts = count_start(&self.index, time, self.next, &horizons) as u32;
+        self.ready = count_four(&self.index.plain, time, self.next, &horizons) as u32;
+        self.horizons = horizons;
         self.time = time;
         Some(time)
     }

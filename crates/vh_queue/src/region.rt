@@ -17,7 +17,7 @@ pub enum Region {
 }
 
 impl Region {
-    // Its place in the order in which those of one time are performed.
+    // Its key in the order in which those of one time are performed.
     pub(crate) fn rank(self) -> u8
         ensures { result ≡ rank self }
     {

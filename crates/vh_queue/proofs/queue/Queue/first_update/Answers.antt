@@ -10,6 +10,6 @@ pub returns : goal.returns
 returns c =
     let i = c.self.inside in
     c.first_four.ensures
-    ∙ active-least true i.next i.time i.marks (values_of i.entries) i.index.updates
-    (keeps-updates i.next i.time i.starts i.ready i.marks i.entries i.index c.self.invariant)
+    ∙ active-least true i.next i.time i.horizons (values_of i.entries) i.index.updates
+    (keeps-updates i.next i.time i.starts i.ready i.horizons i.entries i.index c.self.invariant)
     ∙ ap (λ (q : Events). least_serial (filter (is_active_of true) q.entries)) c.self.view_is

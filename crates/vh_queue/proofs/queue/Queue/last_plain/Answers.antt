@@ -10,6 +10,6 @@ pub returns : goal.returns
 returns c =
     let i = c.self.inside in
     c.last_four.ensures
-    ∙ active-greatest false i.next i.time i.marks (values_of i.entries) i.index.plain
-    (keeps-plain i.next i.time i.starts i.ready i.marks i.entries i.index c.self.invariant)
+    ∙ active-greatest false i.next i.time i.horizons (values_of i.entries) i.index.plain
+    (keeps-plain i.next i.time i.starts i.ready i.horizons i.entries i.index c.self.invariant)
     ∙ ap (λ (q : Events). greatest_serial (filter (is_active_of false) q.entries)) c.self.view_is

@@ -8,7 +8,7 @@ use Rattle.vh_queue.proofs.queue.Queue.walk.Goals as goal
 pub returns-clause-serial : goal.returns-clause-serial
 returns-clause-serial c =
     let i = c.self.inside in let first = c.first_update-first.result in
-    let counts = counts-of i.next i.time i.starts i.ready i.marks i.entries i.index c.args.self.now c.self.invariant c.self.view_is in
+    let counts = counts-of i.next i.time i.starts i.ready i.horizons i.entries i.index c.args.self.now c.self.invariant c.self.view_is in
     c.nth_picked.ensures
     ∙ ap (λ (q : Events). slice_get (map (λ (e : Entry). e.serial) (filter (picked_by (nat_lt 0 i.starts) q.time first) q.entries)) c.args.k) c.self.view_is
     ∙ ap (λ (es : List Entry). slice_get (map (λ (e : Entry). e.serial) es) c.args.k)
@@ -17,4 +17,4 @@ returns-clause-serial c =
 pub returns-clause-rising : goal.returns-clause-rising
 returns-clause-rising c =
     let i = c.self.inside in
-    (counts-of i.next i.time i.starts i.ready i.marks i.entries i.index c.args.self.now c.self.invariant c.self.view_is).rises
+    (counts-of i.next i.time i.starts i.ready i.horizons i.entries i.index c.args.self.now c.self.invariant c.self.view_is).rises

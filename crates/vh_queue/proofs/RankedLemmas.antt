@@ -1,4 +1,4 @@
--- Lemmas on `specs/Places.antt`: what an index tells of the entries that it is of.
+-- Lemmas on `specs/Ranked.antt`: what an index tells of the entries that it is of.
 use Rattle.std.proofs.Common.{◌≡◌, ◌∙◌, ℕ, ◌+◌, ◌<◌, List, [], ◌∷◌, ◌++◌, map, filter, Bool, true, false, not, ◌&&◌, ◌||◌, ◌==◌, cond, nat_lt, nat_le, Some, refl, sym, ap, arith}
 use Rattle.std.proofs.lemmas.Bool.{and_parts, eqb-true, ne_eqb}
 use Rattle.std.proofs.lemmas.Bool.Decides.{nat_tests}
@@ -17,15 +17,15 @@ use Rattle.std.specs.declared.cmp.Ordering.TheVariants.{Less, Equal, Greater}
 use Rattle.std.specs.declared.ops.Bound.TheVariants.{Included, Excluded, Unbounded}
 use Rattle.vh_queue.specs.declared.entry.Entry.{Entry}
 use Rattle.vh_queue.specs.declared.index.Index.{Index}
-use Rattle.vh_queue.specs.declared.place.Place.{Place}
-use Rattle.vh_queue.specs.contracts.place.PlaceOrd.TheImpl.{cmp-value}
+use Rattle.vh_queue.specs.declared.key.Key.{Key}
+use Rattle.vh_queue.specs.contracts.key.KeyOrd.TheImpl.{cmp-value}
 use Rattle.vh_queue.specs.Entries.{rank, is_at}
 use Rattle.vh_queue.specs.Events.{Rises}
 use Rattle.vh_queue.proofs.EventsLemmas.{rises-filter}
-use Rattle.vh_queue.specs.Places.{is_of, is_placed, is_untimed, waits, place, serials_of, dated_in, ArePlaces, AreUntimed, Indexes, Entered, Left, StaysSorted, IsSame}
+use Rattle.vh_queue.specs.Ranked.{is_of, is_ranked, is_untimed, waits, key, serials_of, dated_in, AreRanked, AreUntimed, Indexes, Entered, Left, StaysSorted, IsSame}
 
-abbrev place_cmp : Place → Place → Ordering
-place_cmp = (cmp-value).it
+abbrev key_cmp : Key → Key → Ordering
+key_cmp = (cmp-value).it
 
 -- A comparison of numbers, as tests.
 equal-is : (a b : ℕ) → is_eq (nat_cmp a b) ≡ (a == b)
@@ -34,7 +34,7 @@ equal-is a b = grind (arith, nat_tests)
 from-is : (a b : ℕ) → is_le (nat_cmp a b) ≡ nat_le a b
 from-is a b = grind (arith, nat_tests)
 
--- Between two places that differ in the last part alone, those stand that share the others.
+-- Between two ranked that differ in the last part alone, those stand that share the others.
 between-then : (o p q : Ordering) → (is_le (ordering_then o p) && not (is_le (ordering_then o q))) ≡ (is_eq o && (is_le p && not (is_le q)))
 between-then Less p q = refl
 between-then Equal p q = refl
@@ -45,16 +45,16 @@ equal-then Less p = refl
 equal-then Equal p = refl
 equal-then Greater p = refl
 
-between-places : (time r from below : ℕ) (p : Place)
-    → range_contains place_cmp (Included (place time r from)) (Excluded (place time r below)) p
+between-ranked : (time r from below : ℕ) (p : Key)
+    → range_contains key_cmp (Included (key time r from)) (Excluded (key time r below)) p
     ≡ ((time == p.time) && ((r == p.rank) && (nat_le from p.serial && not (nat_le below p.serial))))
-between-places time r from below p =
+between-ranked time r from below p =
     between-then (nat_cmp time p.time) _ _
     ∙ ap (λ (b : Bool). is_eq (nat_cmp time p.time) && b) (between-then (nat_cmp r p.rank) (nat_cmp from p.serial) (nat_cmp below p.serial))
     ∙ rw (equal-is time p.time, equal-is r p.rank, from-is from p.serial, from-is below p.serial) refl
 
-same-place : (p q : Place) → is_key (place_cmp p) q ≡ ((p.time == q.time) && ((p.rank == q.rank) && (p.serial == q.serial)))
-same-place p q =
+same-key : (p q : Key) → is_key (key_cmp p) q ≡ ((p.time == q.time) && ((p.rank == q.rank) && (p.serial == q.serial)))
+same-key p q =
     equal-then (nat_cmp p.time q.time) _
     ∙ ap (λ (b : Bool). is_eq (nat_cmp p.time q.time) && b) (equal-then (nat_cmp p.rank q.rank) (nat_cmp p.serial q.serial))
     ∙ rw (equal-is p.time q.time, equal-is p.rank q.rank, equal-is p.serial q.serial) refl
@@ -89,27 +89,27 @@ any-fixed c test (x ∷ xs) = rw (any-fixed c test xs) (apart (test x) (list_any
     apart false b c = refl
 
 -- The serials of a time and region, in their order, are those of the entries that wait there.
-lane-sorted : (time r : ℕ) (ps : List Place) → IsStrictlySortedBy place_cmp ps
-    → AllByRecursion (λ (p : Place). ((p.time ≡ time) × (p.rank ≡ r))) ps
-    → IsStrictlySortedBy nat_cmp (map (λ (p : Place). p.serial) ps)
+lane-sorted : (time r : ℕ) (ps : List Key) → IsStrictlySortedBy key_cmp ps
+    → AllByRecursion (λ (p : Key). ((p.time ≡ time) × (p.rank ≡ r))) ps
+    → IsStrictlySortedBy nat_cmp (map (λ (p : Key). p.serial) ps)
 unfolding IsStrictlySortedBy
 lane-sorted time r [] sorted at = tt
 lane-sorted time r (p ∷ ps) sorted at = (above ps sorted.0 at.1, lane-sorted time r ps sorted.1 at.1)
   where
-    one : (q : Place) → q.time ≡ time → q.rank ≡ r → place_cmp p q ≡ Less → nat_cmp p.serial q.serial ≡ Less
+    one : (q : Key) → q.time ≡ time → q.rank ≡ r → key_cmp p q ≡ Less → nat_cmp p.serial q.serial ≡ Less
     one q there here less = grind (arith, nat_tests)
 
-    above : (qs : List Place) → AllByRecursion (λ y. place_cmp p y ≡ Less) qs
-        → AllByRecursion (λ (q : Place). ((q.time ≡ time) × (q.rank ≡ r))) qs
-        → AllByRecursion (λ y. nat_cmp p.serial y ≡ Less) (map (λ (q : Place). q.serial) qs)
+    above : (qs : List Key) → AllByRecursion (λ y. key_cmp p y ≡ Less) qs
+        → AllByRecursion (λ (q : Key). ((q.time ≡ time) × (q.rank ≡ r))) qs
+        → AllByRecursion (λ y. nat_cmp p.serial y ≡ Less) (map (λ (q : Key). q.serial) qs)
     above [] less at = tt
     above (q ∷ qs) less at = (one q at.0.0 at.0.1 less.0, above qs less.1 at.1)
 
-at-lane : (time r from below : ℕ) (p : Place)
-    → range_contains place_cmp (Included (place time r from)) (Excluded (place time r below)) p ≡ true
+at-lane : (time r from below : ℕ) (p : Key)
+    → range_contains key_cmp (Included (key time r from)) (Excluded (key time r below)) p ≡ true
     → (p.time ≡ time) × (p.rank ≡ r)
 at-lane time r from below p within =
-    let parts = and_parts (time == p.time) _ (sym (between-places time r from below p) ∙ within) in
+    let parts = and_parts (time == p.time) _ (sym (between-ranked time r from below p) ∙ within) in
     let rest = and_parts (r == p.rank) _ parts.1 in
     (sym (eqb-true time p.time parts.0), sym (eqb-true r p.rank rest.0))
 
@@ -161,24 +161,24 @@ of-entry false a x y e f is same = refl
 abbrev set_of : List ℕ → BTreeSet ℕ
 set_of ks = record { keys = ks }
 
-pub lane-is : (update : Bool) (time r from below low high : ℕ) (es : List Entry) (places : BTreeSet Place)
-    → Rises low high es → IsStrictlySortedBy place_cmp places.keys → ArePlaces update es places
-    → serials_of time r from below places ≡ map (λ (e : Entry). e.serial) (filter (λ (e : Entry). is_of update e && waits time r from below e) es)
-lane-is update time r from below low high es places rises sorted are =
+pub lane-is : (update : Bool) (time r from below low high : ℕ) (es : List Entry) (ranked : BTreeSet Key)
+    → Rises low high es → IsStrictlySortedBy key_cmp ranked.keys → AreRanked update es ranked
+    → serials_of time r from below ranked ≡ map (λ (e : Entry). e.serial) (filter (λ (e : Entry). is_of update e && waits time r from below e) es)
+lane-is update time r from below low high es ranked rises sorted are =
     btree_set_from_contains nat_cmp_total (set_of left) (set_of right)
-    (lane-sorted time r (filter between places.keys) (IsStrictlySortedBy-filter place_cmp between places.keys sorted)
-    (all-kept between _ places.keys (λ p within. at-lane time r from below p within)))
+    (lane-sorted time r (filter between ranked.keys) (IsStrictlySortedBy-filter key_cmp between ranked.keys sorted)
+    (all-kept between _ ranked.keys (λ p within. at-lane time r from below p within)))
     (rises-sorted low high (filter here es) (rises-filter here low high es rises))
     same exact_unsigned
   where
-    between : Place → Bool
-    between p = range_contains place_cmp (Included (place time r from)) (Excluded (place time r below)) p
+    between : Key → Bool
+    between p = range_contains key_cmp (Included (key time r from)) (Excluded (key time r below)) p
 
     here : Entry → Bool
     here e = is_of update e && waits time r from below e
 
     left : List ℕ
-    left = map (λ (p : Place). p.serial) (filter between places.keys)
+    left = map (λ (p : Key). p.serial) (filter between ranked.keys)
 
     right : List ℕ
     right = map (λ (e : Entry). e.serial) (filter here es)
@@ -186,16 +186,16 @@ lane-is update time r from below low high es places rises sorted are =
     bounds : ℕ → Bool
     bounds s = nat_le from s && nat_lt s below
 
-    by_place : (q : ℕ) (p : Place) → (between p && is_key (nat_cmp q) p.serial) ≡ (is_key (place_cmp (place time r q)) p && bounds q)
-    by_place q p =
-        ap (λ (b : Bool). b && is_eq (nat_cmp q p.serial)) (between-places time r from below p)
+    by_key : (q : ℕ) (p : Key) → (between p && is_key (nat_cmp q) p.serial) ≡ (is_key (key_cmp (key time r q)) p && bounds q)
+    by_key q p =
+        ap (λ (b : Bool). b && is_eq (nat_cmp q p.serial)) (between-ranked time r from below p)
         ∙ ap (λ (b : Bool). ((time == p.time) && ((r == p.rank) && (nat_le from p.serial && not (nat_le below p.serial)))) && b) (equal-is q p.serial)
         ∙ in-lane (time == p.time) (r == p.rank) (nat_le from p.serial && not (nat_le below p.serial)) (bounds q) (q == p.serial)
         (λ one. let e : q ≡ p.serial = eqb-true q p.serial one in grind (arith, nat_tests))
-        ∙ ap (λ (b : Bool). b && bounds q) (sym (same-place (place time r q) p))
+        ∙ ap (λ (b : Bool). b && bounds q) (sym (same-key (key time r q) p))
 
     by_entry : (q : ℕ) (e : Entry)
-        → ((is_of update e && is_placed (place time r q) e) && bounds q) ≡ (here e && is_key (nat_cmp q) e.serial)
+        → ((is_of update e && is_ranked (key time r q) e) && bounds q) ≡ (here e && is_key (nat_cmp q) e.serial)
     by_entry q e =
         of-entry (is_of update e) (is_at e.time time && rank e.region == r) (nat_le from e.serial && nat_lt e.serial below) (bounds q)
         (e.serial == q) (is_key (nat_cmp q) e.serial) (grind (arith, nat_tests))
@@ -203,12 +203,12 @@ lane-is update time r from below low high es places rises sorted are =
 
     same : (q : ℕ) → contains nat_cmp (set_of left) q ≡ contains nat_cmp (set_of right) q
     same q =
-        any-map (λ (p : Place). p.serial) (is_key (nat_cmp q)) (filter between places.keys)
-        ∙ any-filter between (λ (p : Place). is_key (nat_cmp q) p.serial) places.keys
-        ∙ any-same _ (λ (p : Place). is_key (place_cmp (place time r q)) p && bounds q) places.keys (by_place q)
-        ∙ any-fixed (bounds q) (is_key (place_cmp (place time r q))) places.keys
-        ∙ ap (λ (b : Bool). b && bounds q) (are (place time r q))
-        ∙ sym (any-fixed (bounds q) (λ (e : Entry). is_of update e && is_placed (place time r q) e) es)
+        any-map (λ (p : Key). p.serial) (is_key (nat_cmp q)) (filter between ranked.keys)
+        ∙ any-filter between (λ (p : Key). is_key (nat_cmp q) p.serial) ranked.keys
+        ∙ any-same _ (λ (p : Key). is_key (key_cmp (key time r q)) p && bounds q) ranked.keys (by_key q)
+        ∙ any-fixed (bounds q) (is_key (key_cmp (key time r q))) ranked.keys
+        ∙ ap (λ (b : Bool). b && bounds q) (are (key time r q))
+        ∙ sym (any-fixed (bounds q) (λ (e : Entry). is_of update e && is_ranked (key time r q) e) es)
         ∙ any-same _ (λ (e : Entry). here e && is_key (nat_cmp q) e.serial) es (by_entry q)
         ∙ sym (any-filter here (λ (e : Entry). is_key (nat_cmp q) e.serial) es)
         ∙ sym (any-map (λ (e : Entry). e.serial) (is_key (nat_cmp q)) (filter here es))
@@ -326,10 +326,10 @@ entered-any test e es = or-swap (test e) (list_any test es) ∙ sym (list_any-ap
 
 pub index-entered : (e : Entry) (es : List Entry) (x y : Index) → Entered e x y → StaysSorted x y → Indexes es x → Indexes (es ++ e ∷ []) y
 index-entered e es x y entered stays index = record {
-  plain = λ p. entered.plain p ∙ ap (λ (b : Bool). (is_of false e && is_placed p e) || b) (index.plain p)
-      ∙ entered-any (λ (f : Entry). is_of false f && is_placed p f) e es;
-  updates = λ p. entered.updates p ∙ ap (λ (b : Bool). (is_of true e && is_placed p e) || b) (index.updates p)
-      ∙ entered-any (λ (f : Entry). is_of true f && is_placed p f) e es;
+  plain = λ p. entered.plain p ∙ ap (λ (b : Bool). (is_of false e && is_ranked p e) || b) (index.plain p)
+      ∙ entered-any (λ (f : Entry). is_of false f && is_ranked p f) e es;
+  updates = λ p. entered.updates p ∙ ap (λ (b : Bool). (is_of true e && is_ranked p e) || b) (index.updates p)
+      ∙ entered-any (λ (f : Entry). is_of true f && is_ranked p f) e es;
   untimed = λ s. entered.untimed s ∙ ap (λ (b : Bool). (is_untimed e && e.serial == s) || b) (index.untimed s)
       ∙ entered-any (λ (f : Entry). is_untimed f && f.serial == s) e es;
   plain_sorted = stays.plain index.plain_sorted;
@@ -339,8 +339,8 @@ index-entered e es x y entered stays index = record {
 
 pub index-same : (es : List Entry) (x y : Index) → IsSame x y → StaysSorted x y → Indexes es x → Indexes es y
 index-same es x y same stays index = record {
-  plain = λ p. ap (λ (ks : List Place). list_any (is_key (place_cmp p)) ks) same.plain ∙ index.plain p;
-  updates = λ p. ap (λ (ks : List Place). list_any (is_key (place_cmp p)) ks) same.updates ∙ index.updates p;
+  plain = λ p. ap (λ (ks : List Key). list_any (is_key (key_cmp p)) ks) same.plain ∙ index.plain p;
+  updates = λ p. ap (λ (ks : List Key). list_any (is_key (key_cmp p)) ks) same.updates ∙ index.updates p;
   untimed = λ s. ap (λ (ks : List ℕ). list_any (is_key (nat_cmp s)) ks) same.untimed ∙ index.untimed s;
   plain_sorted = stays.plain index.plain_sorted;
   updates_sorted = stays.updates index.updates_sorted;
@@ -392,30 +392,30 @@ without-any test s q low high es x old rises found at is =
         kept a true = refl
         kept a false = refl
 
--- A place's test looks at the serial last.
-placed-as : (u a b : Bool) → (u && (a && b)) ≡ ((u && a) && b)
-placed-as true a b = refl
-placed-as false a b = refl
+-- A key's test looks at the serial last.
+ranked_as-as : (u a b : Bool) → (u && (a && b)) ≡ ((u && a) && b)
+ranked_as-as true a b = refl
+ranked_as-as false a b = refl
 
-place-any : (update : Bool) (p : Place) (s low high : ℕ) (es : List Entry) (x : Entry) (old : Bool) → Rises low high es
-    → find (λ e. e.serial == s) es ≡ Some x → x.serial ≡ s → old ≡ list_any (λ e. is_of update e && is_placed p e) es
-    → (old && not (is_of update x && is_placed p x)) ≡ list_any (λ e. is_of update e && is_placed p e) (filter (λ e. not (e.serial == s)) es)
-place-any update p s low high es x old rises found at is =
+key-any : (update : Bool) (p : Key) (s low high : ℕ) (es : List Entry) (x : Entry) (old : Bool) → Rises low high es
+    → find (λ e. e.serial == s) es ≡ Some x → x.serial ≡ s → old ≡ list_any (λ e. is_of update e && is_ranked p e) es
+    → (old && not (is_of update x && is_ranked p x)) ≡ list_any (λ e. is_of update e && is_ranked p e) (filter (λ e. not (e.serial == s)) es)
+key-any update p s low high es x old rises found at is =
     ap (λ (b : Bool). old && not b) (split x)
     ∙ without-any here s p.serial low high es x old rises found at (is ∙ any-same _ (λ (e : Entry). here e && e.serial == p.serial) es split)
-    ∙ any-same _ (λ (e : Entry). is_of update e && is_placed p e) (filter (λ (e : Entry). not (e.serial == s)) es) (λ e. sym (split e))
+    ∙ any-same _ (λ (e : Entry). is_of update e && is_ranked p e) (filter (λ (e : Entry). not (e.serial == s)) es) (λ e. sym (split e))
   where
     here : Entry → Bool
     here e = is_of update e && (is_at e.time p.time && rank e.region == p.rank)
 
-    split : (e : Entry) → (is_of update e && is_placed p e) ≡ (here e && e.serial == p.serial)
-    split e = placed-as (is_of update e) (is_at e.time p.time && rank e.region == p.rank) (e.serial == p.serial)
+    split : (e : Entry) → (is_of update e && is_ranked p e) ≡ (here e && e.serial == p.serial)
+    split e = ranked_as-as (is_of update e) (is_at e.time p.time && rank e.region == p.rank) (e.serial == p.serial)
 
 pub index-left : (s low high : ℕ) (es : List Entry) (e : Entry) (x y : Index) → Rises low high es → find (λ f. f.serial == s) es ≡ Some e → e.serial ≡ s
     → Left e x y → StaysSorted x y → Indexes es x → Indexes (filter (λ f. not (f.serial == s)) es) y
 index-left s low high es e x y rises found at left stays index = record {
-  plain = λ p. left.plain p ∙ place-any false p s low high es e (contains place_cmp x.plain p) rises found at (index.plain p);
-  updates = λ p. left.updates p ∙ place-any true p s low high es e (contains place_cmp x.updates p) rises found at (index.updates p);
+  plain = λ p. left.plain p ∙ key-any false p s low high es e (contains key_cmp x.plain p) rises found at (index.plain p);
+  updates = λ p. left.updates p ∙ key-any true p s low high es e (contains key_cmp x.updates p) rises found at (index.updates p);
   untimed = λ q. left.untimed q ∙ without-any is_untimed s q low high es e (contains nat_cmp x.untimed q) rises found at (index.untimed q);
   plain_sorted = stays.plain index.plain_sorted;
   updates_sorted = stays.updates index.updates_sorted;
@@ -433,8 +433,8 @@ filter-none : {X : Type 0} (p : X → Bool) (xs : List X) → ((x : X) → p x �
 filter-none p [] none = refl
 filter-none p (x ∷ xs) none = rw (none x) (filter-none p xs none)
 
-pub none-in : (time r from below : ℕ) (places : BTreeSet Place) → from ≡ below → serials_of time r from below places ≡ []
-none-in time r from below places same =
-    ap (λ (n : ℕ). serials_of time r from n places) (sym same)
-    ∙ ap (map (λ (p : Place). p.serial)) (filter-none (λ p. range_contains place_cmp (Included (place time r from)) (Excluded (place time r from)) p) places.keys
-    (λ p. between-places time r from from p ∙ none-between (time == p.time) (r == p.rank) (nat_le from p.serial)))
+pub none-in : (time r from below : ℕ) (ranked : BTreeSet Key) → from ≡ below → serials_of time r from below ranked ≡ []
+none-in time r from below ranked same =
+    ap (λ (n : ℕ). serials_of time r from n ranked) (sym same)
+    ∙ ap (map (λ (p : Key). p.serial)) (filter-none (λ p. range_contains key_cmp (Included (key time r from)) (Excluded (key time r from)) p) ranked.keys
+    (λ p. between-ranked time r from from p ∙ none-between (time == p.time) (r == p.rank) (nat_le from p.serial)))
