@@ -9,12 +9,12 @@ use Rattle.vh_bind_least.specs.Least.{least}
 use Rattle.vh_elab_sites.specs.Blocks.{GenvarAt}
 use Rattle.vh_elab_sites.specs.Sites.{Declared, SiteTree, gen_block}
 use Rattle.vh_elab_declare.specs.Needs.{needs_fault}
-use Rattle.vh_elab_declare.specs.Objects.{Made, Naming, each, made_site, named_site}
+use Rattle.vh_elab_declare.specs.Objects.{Gathered, Naming, each, made_site, named_site}
 use Rattle.vh_elab_declare.specs.Constants.{Genvars, Home, Known, Checked, settled_in, measured_site, with_genvar}
 use Rattle.vh_elab_declare.specs.Settling.{as_needed}
 
 -- The objects behind those so far, the first of which is the instance.
-abbrev pub made_of : ObjectInfo → List SiteTree → Known → Made
+abbrev pub made_of : ObjectInfo → List SiteTree → Known → Gathered
 made_of o so k = each made_site so (record { objects = k.objects ++ o ∷ []; bodies = k.bodies })
 
 abbrev pub naming_of : List SiteTree → Known → Naming

@@ -131,7 +131,7 @@ detail_of bodies (loop_name t) = detail.Plain
 detail_of bodies (child m ps i) = detail.Plain
 
 -- The objects so far, and the bodies of tasks and functions.
-pub record Made : Type 0 where
+pub record Gathered : Type 0 where
   pub objects : List ObjectInfo
   pub bodies : ℕ
 
@@ -150,15 +150,15 @@ object_of bodies s k = record {
 abbrev pub bodies_behind : ℕ → Declared → ℕ
 bodies_behind bodies d = if has_body d then bodies + 1 else bodies
 
-abbrev pub with_made : SiteTree → Option Kind → Made → Made
-with_made s None m = m
-with_made s (Some k) m = record {
+abbrev pub with_gathered : SiteTree → Option Kind → Gathered → Gathered
+with_gathered s None m = m
+with_gathered s (Some k) m = record {
   objects = m.objects ++ object_of m.bodies s k ∷ [];
   bodies = bodies_behind m.bodies s.declared;
 }
 
-abbrev pub made_site : SiteTree → Made → Made
-made_site s m = with_made s (kind_of s.declared) m
+abbrev pub made_site : SiteTree → Gathered → Gathered
+made_site s m = with_gathered s (kind_of s.declared) m
 
 -- An instance of a module under this name, in this scope: the top has none. (12.1.2)
 abbrev pub instance_object : ModuleTree → List ℕ → Place → Option ℕ → ObjectInfo

@@ -19,7 +19,7 @@ use Rattle.vh_elab_declare.specs.declared.checked.Checked as pass
 use Rattle.vh_elab_declare.specs.declared.known.Home as at
 use Rattle.vh_elab_declare.specs.declared.known.Known as what
 use Rattle.vh_elab_declare.specs.declared.ranges.Measure.{Measure}
-use Rattle.vh_elab_declare.specs.Objects.{Made, Naming}
+use Rattle.vh_elab_declare.specs.Objects.{Gathered, Naming}
 use Rattle.vh_elab_declare.specs.Constants.{Given, Home, Known, Checked, measured_by, valued_by}
 
 abbrev pub home_seen : at.Home → Home
@@ -35,8 +35,8 @@ abbrev pub known_seen : what.Known → Known
 known_seen k =
     record { names = k.names; objects = k.objects.items; bodies = k.bodies; exprs = k.exprs.items; genvars = k.genvars }
 
-abbrev pub made_seen : List ObjectInfo → ℕ → Made
-made_seen os bodies = record { objects = os; bodies = bodies }
+abbrev pub gathered_seen : List ObjectInfo → ℕ → Gathered
+gathered_seen os bodies = record { objects = os; bodies = bodies }
 
 abbrev pub naming_seen : Names → Option Fault → Naming
 naming_seen ns fault = record { names = ns; fault = fault }

@@ -258,8 +258,8 @@ fn make_site(
     objects: &mut Vec<ObjectInfo>,
     bodies: &mut u32,
 ) -> Result<(), NoMemory>
-    ensures { OnOk result (Views.made_seen objects.new.items bodies.new
-        ≡ Objects.made_site (site_seen site.now) (Views.made_seen objects.old.items bodies.old)) }
+    ensures { OnOk result (Views.gathered_seen objects.new.items bodies.new
+        ≡ Objects.made_site (site_seen site.now) (Views.gathered_seen objects.old.items bodies.old)) }
 {
     let Some(kind) = kind_of(site.declared) else {
         return Ok(());
@@ -276,9 +276,9 @@ pub(crate) fn make_sites(
     objects: &mut Vec<ObjectInfo>,
     bodies: &mut u32,
 ) -> Result<(), NoMemory>
-    ensures { OnOk result (Views.made_seen objects.new.items bodies.new
+    ensures { OnOk result (Views.gathered_seen objects.new.items bodies.new
         ≡ each Objects.made_site (all_seen sites.now)
-        (Views.made_seen objects.old.items bodies.old)) }
+        (Views.gathered_seen objects.old.items bodies.old)) }
 {
     for site in sites {
         make_site(alloc, site, objects, bodies)?;

@@ -22,7 +22,7 @@ use Rattle.vh_lex.specs.declared.piece.Piece.{Piece}
 use Rattle.vh_lex.specs.declared.piece.Piece.TheVariants.{Blank, Kept, Fault}
 use Rattle.vh_lex.specs.Bytes.{begins, begins_with, is_line_end, is_name_byte, is_graphic}
 use Rattle.vh_lex.specs.Beginning.{Named, beginning, comment_len, use_by, simple_name, escaped_name, name_of, word_name, is_long}
-use Rattle.vh_lex.specs.Made.{MacroRows as Rows, Made, macro_of, with_macro}
+use Rattle.vh_lex.specs.Gathered.{MacroRows as Rows, Gathered, macro_of, with_macro}
 use Rattle.vh_lex.specs.MacroTexts.{parts_of, macro_text, macro_len}
 use Rattle.vh_lex.specs.Conditionals.{is_skipped, skips}
 use Rattle.vh_lex.specs.State.{State, first_setting, moved}
@@ -405,7 +405,7 @@ module _ (a : At) (rows : Rows) (knows : Knows a.macros rows) (fit : Fits a) whe
   macro-turns st name len f e h d =
       subst (λ o. Turns a st (made_in (s st) len (used_by (expanded 64 (around_of (s st))) o (s st).made))) (sym (knows name)) (by (a.macros name) refl)
     where
-      more-uses : Made
+      more-uses : Gathered
       more-uses = record { tokens = a.tokens; uses = a.uses + 1 }
 
       inside : (text : List ℕ) → a.macros name ≡ Some text → a.uses + 1 ≤ 1048576 → (o : Making)
@@ -413,9 +413,9 @@ module _ (a : At) (rows : Rows) (knows : Knows a.macros rows) (fit : Fits a) whe
       inside text x small (Err fault) g = tt
       inside text x small (Ok n) g =
           let w = made-gives a.macros rows a.setting (place_of a) knows 63 text (record { tokens = a.tokens; uses = a.uses + 1 }) n g in
-          let tokens_fit : length (a.tokens ++ w.tokens) ≤ 4194304 = subst (λ (m : Made). length m.tokens ≤ 4194304) w.made_is (w.tokens_fit fit.0) in
-          let uses_fit : a.uses + 1 + w.uses ≤ 1048576 = subst (λ (m : Made). m.uses ≤ 1048576) w.made_is (w.uses_fit small) in
-          subst (λ (m : Made). Turn a st (record (s st) { made = m }) len) (sym w.made_is)
+          let tokens_fit : length (a.tokens ++ w.tokens) ≤ 4194304 = subst (λ (m : Gathered). length m.tokens ≤ 4194304) w.made_is (w.tokens_fit fit.0) in
+          let uses_fit : a.uses + 1 + w.uses ≤ 1048576 = subst (λ (m : Gathered). m.uses ≤ 1048576) w.made_is (w.uses_fit small) in
+          subst (λ (m : Gathered). Turn a st (record (s st) { made = m }) len) (sym w.made_is)
           (reads-turn st a.macros a.setting (a.tokens ++ w.tokens) (a.uses + 1 + w.uses) rows len knows h (tokens_fit, uses_fit) f
           (macro name text len w.uses w.tokens e d x w.gives tokens_fit uses_fit))
 

@@ -8,7 +8,7 @@ use Rattle.vh_lex.specs.declared.directive.Directive.{Directive}
 use Rattle.vh_lex.specs.declared.directive.Directive.TheVariants as directive
 use Rattle.vh_lex.specs.Bytes.{begins_with}
 use Rattle.vh_lex.specs.Beginning.{comment_len, word_name}
-use Rattle.vh_lex.specs.Made.{MacroRows as Rows, macro_of}
+use Rattle.vh_lex.specs.Gathered.{MacroRows as Rows, macro_of}
 use Rattle.vh_lex.specs.MacroTexts.{parts_of}
 use Rattle.vh_lex.specs.Conditionals.{skips}
 use Rattle.vh_lex.specs.State.{State}

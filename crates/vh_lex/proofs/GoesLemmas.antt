@@ -15,7 +15,7 @@ use Rattle.vh_lex.specs.declared.piece.Part.{Part}
 use Rattle.vh_lex.specs.declared.piece.Part.TheVariants as part
 use Rattle.vh_lex.specs.Bytes.{begins, is_name_byte}
 use Rattle.vh_lex.specs.Beginning.{Named, name_of, is_long}
-use Rattle.vh_lex.specs.Made.{MacroRows as Rows, Made, with_macro}
+use Rattle.vh_lex.specs.Gathered.{MacroRows as Rows, Gathered, with_macro}
 use Rattle.vh_lex.specs.MacroTexts.{parts_of, macro_text, macro_len}
 use Rattle.vh_lex.specs.Conditionals.{skips}
 use Rattle.vh_lex.specs.State.{State}
@@ -35,11 +35,11 @@ token-read a rows cs part.Module k len bytes e = let same : kind.Module a.settin
 token-read a rows cs (part.Use name) k len bytes e = cc
 token-read a rows cs (part.Wrong fault) k len bytes e = cc
 
-token-fits : (k : Kind) (place : Place) (m : Made) → length m.tokens + 1 ≤ 4194304
+token-fits : (k : Kind) (place : Place) (m : Gathered) → length m.tokens + 1 ≤ 4194304
     → token_more k place m ≡ Ok (record m { tokens = m.tokens ++ record { kind = k; place = place } ∷ [] })
 token-fits k place m h = let e : nat_lt (length m.tokens) 4194304 ≡ true = grind (arith, nat_tests) in rw e refl
 
-use-fits : (m : Made) → m.uses + 1 ≤ 1048576 → with_use m ≡ Ok (record m { uses = m.uses + 1 })
+use-fits : (m : Gathered) → m.uses + 1 ≤ 1048576 → with_use m ≡ Ok (record m { uses = m.uses + 1 })
 use-fits m h = let e : nat_lt m.uses 1048576 ≡ true = grind (arith, nat_tests) in rw e refl
 
 -- The use of a macro

@@ -1,7 +1,7 @@
 -- Decoding a string from any byte on
 pub mod TextsLemmas
 -- The table of macros, seen as a list
-pub mod MadeLemmas
+pub mod GatheredLemmas
 -- Cutting a macro's text into parts
 pub mod MacroTextsLemmas
 -- White space and comments, from any byte on

@@ -2,7 +2,7 @@
 use Rattle.std.proofs.Common.{◌≡◌, ℕ, List, [], ◌∷◌, Option, Bool, true, false, cond, bytes_eq, option_map, refl, ap, sym, ◌∙◌}
 use Rattle.std.proofs.lemmas.Slice.Eq.{bytes_eq-Decides}
 use Rattle.vh_lex.specs.declared.piece.Part.{Part}
-use Rattle.vh_lex.specs.Made.{MacroRows as Rows, macro_of, with_macro}
+use Rattle.vh_lex.specs.Gathered.{MacroRows as Rows, macro_of, with_macro}
 use Rattle.vh_lex.specs.MacroTexts.{parts_of}
 use Rattle.vh_lex.specs.MacroTokens.{Macros, no_macros, with_text}
 

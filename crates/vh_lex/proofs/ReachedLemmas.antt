@@ -5,7 +5,7 @@ use Rattle.vh_lex.specs.declared.token.Token.{Token}
 use Rattle.vh_lex.specs.declared.conditional.Conditional.{Conditional}
 use Rattle.vh_lex.specs.declared.conditional.Branch.{Branch}
 use Rattle.vh_lex.specs.declared.conditional.Branch.TheVariants as branch
-use Rattle.vh_lex.specs.Made.{MacroRows as Rows}
+use Rattle.vh_lex.specs.Gathered.{MacroRows as Rows}
 use Rattle.vh_lex.specs.Conditionals.{is_skipped, skips}
 use Rattle.vh_lex.specs.Directives.{next_branch}
 use Rattle.vh_lex.specs.Spelling.{read}

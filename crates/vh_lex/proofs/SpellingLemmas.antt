@@ -13,7 +13,7 @@ use Rattle.vh_lex.specs.declared.piece.Piece.TheVariants as piece
 use Rattle.vh_lex.specs.Conditionals.{skips}
 use Rattle.vh_lex.specs.Directives.{Step}
 use Rattle.vh_lex.specs.Beginning.{beginning, word_at}
-use Rattle.vh_lex.specs.Made.{Made}
+use Rattle.vh_lex.specs.Gathered.{Gathered}
 use Rattle.vh_lex.specs.Outcomes.{Makes, Went, stop_of}
 use Rattle.vh_lex.specs.State.{State, moved}
 use Rattle.vh_lex.specs.Spelling.{Stop, made_in, with_token, skipped, part_read, piece_read, step, step_then, read_after, read}
@@ -72,7 +72,7 @@ read-more all byte bytes rest s t len place same e f h =
     ∙ ap (λ (p : Place). read (drop (len - 1) bytes) (record t { place = p })) (ap (λ (r : List ℕ). moved (take len r) s.place) (sym same) ∙ sym f)
 
 -- What was made is the step of a token
-pub made-went : (kind : Kind) (bytes : List ℕ) (s : State) (m : Made) (outcome : Result (Unit {0}) Halt) → Makes (with_token kind s.place s.made) outcome m
+pub made-went : (kind : Kind) (bytes : List ℕ) (s : State) (m : Gathered) (outcome : Result (Unit {0}) Halt) → Makes (with_token kind s.place s.made) outcome m
     → Went (part_read (part.Token kind) 1 bytes s) (stop_of 1 outcome) (record s { made = m })
 made-went kind bytes s m (Ok done) h = ap (made_in s 1) h
 made-went kind bytes s m (Err (halt.Fault fault)) h = ap (made_in s 1) h

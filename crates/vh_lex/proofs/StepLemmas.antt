@@ -13,7 +13,7 @@ use Rattle.vh_lex.specs.declared.piece.Part.TheVariants as part
 use Rattle.vh_lex.specs.declared.piece.Piece.TheVariants.{Blank, Kept}
 use Rattle.vh_lex.specs.Bytes.{begins}
 use Rattle.vh_lex.specs.Beginning.{Named, beginning, comment_len, word_name, simple_name}
-use Rattle.vh_lex.specs.Made.{MacroRows as Rows}
+use Rattle.vh_lex.specs.Gathered.{MacroRows as Rows}
 use Rattle.vh_lex.specs.Conditionals.{skips}
 use Rattle.vh_lex.specs.State.{State, start_of, moved}
 use Rattle.vh_lex.specs.Directives.{Step, directive_of, directive_behind, directed, seen_directive}

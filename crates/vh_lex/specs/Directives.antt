@@ -14,7 +14,7 @@ use Rattle.vh_lex.specs.declared.directive.Directive.TheVariants as directive
 use Rattle.vh_lex.specs.Bytes.{begins, is_line_end, is_name_byte}
 use Rattle.vh_base.specs.Classes.{is_space, is_digit, is_name_start}
 use Rattle.vh_lex.specs.Beginning.{Named, name_of, is_long, comment_len}
-use Rattle.vh_lex.specs.Made.{macro_of, with_macro}
+use Rattle.vh_lex.specs.Gathered.{macro_of, with_macro}
 use Rattle.vh_lex.specs.Conditionals.{innermost, with_innermost, without_innermost, skips}
 use Rattle.vh_lex.specs.State.{State, first_setting}
 use Rattle.vh_lex.specs.MacroTexts.{macro_text, macro_len, parts_of}

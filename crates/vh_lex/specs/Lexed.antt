@@ -7,7 +7,7 @@ use Rattle.vh_lex.specs.declared.fault.LexFault.{LexFault}
 use Rattle.vh_lex.specs.declared.fault.LexFault.TheVariants.{Refused, NoMemory}
 use Rattle.vh_lex.specs.declared.token.Token.{Token}
 use Rattle.vh_lex.specs.declared.conditional.Conditional.{Conditional}
-use Rattle.vh_lex.specs.Made.{nothing_made}
+use Rattle.vh_lex.specs.Gathered.{nothing_gathered}
 use Rattle.vh_lex.specs.State.{State, first_setting, start_of}
 use Rattle.vh_lex.specs.Spelling.{Stop, read}
 
@@ -31,7 +31,7 @@ lexed_of (Some NoMemory) first s = exhausted
 
 -- The state before the first file: no macro is defined, and no conditional is open (IEEE 1364-2005, clause 19)
 abbrev pub first_state : State
-first_state = record { macros = []; made = nothing_made; conditionals = []; setting = first_setting; place = start_of 0 }
+first_state = record { macros = []; made = nothing_gathered; conditionals = []; setting = first_setting; place = start_of 0 }
 
 abbrev pub nothing_read : Lexed
 nothing_read = reading None first_state

@@ -13,7 +13,7 @@ pub mod Texts
 -- What bytes begin with
 pub mod Beginning
 -- The macros, and what has been made of the text so far
-pub mod Made
+pub mod Gathered
 -- How contracts see the table of macros
 pub mod MacroViews
 -- The conditionals that are open

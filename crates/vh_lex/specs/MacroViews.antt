@@ -3,7 +3,7 @@ use Rattle.std.specs.Prelude.{ℕ, List, Option, Vec, map}
 use Rattle.std.specs.Borrow.{Bor}
 use Rattle.std.specs.Option.{option_map}
 use Rattle.vh_lex.specs.declared.piece.Part.{Part}
-use Rattle.vh_lex.specs.Made.{MacroRows}
+use Rattle.vh_lex.specs.Gathered.{MacroRows}
 
 -- An entry of the table, without where its name lies
 abbrev pub entry_seen : {A : Type 0} → Vec ℕ A × Option (List Part) → List ℕ × Option (List Part)

@@ -7,7 +7,7 @@ use Rattle.vh_lex.specs.declared.fault.Stop.{Stop as StopOf}
 use Rattle.vh_lex.specs.declared.fault.Stop.TheVariants as stop
 use Rattle.vh_lex.specs.declared.fault.LexFault.{LexFault}
 use Rattle.vh_lex.specs.declared.fault.LexFault.TheVariants as lex
-use Rattle.vh_lex.specs.Made.{Made}
+use Rattle.vh_lex.specs.Gathered.{Gathered}
 use Rattle.vh_lex.specs.State.{State, moved}
 use Rattle.vh_lex.specs.Directives.{Naming, Step}
 use Rattle.vh_lex.specs.declared.name.Named.{Named as HeldNamed}
@@ -15,7 +15,7 @@ use Rattle.vh_lex.specs.Views.{named_seen}
 use Rattle.vh_lex.specs.Spelling.{Making, Stop}
 
 -- Parts come to what the code answers and leaves
-abbrev pub Makes : Making → Result (Unit {0}) Halt → Made → Type 0
+abbrev pub Makes : Making → Result (Unit {0}) Halt → Gathered → Type 0
 Makes o (Ok done) left = o ≡ Ok left
 Makes o (Err (halt.Fault fault)) left = o ≡ Err fault
 Makes o (Err halt.NoMemory) left = Unit {0}

@@ -13,7 +13,7 @@ use Rattle.vh_lex.specs.declared.setting.Setting.{Setting}
 use Rattle.vh_lex.specs.declared.directive.Directive.{Directive}
 use Rattle.vh_lex.specs.Bytes.{begins, begins_with}
 use Rattle.vh_lex.specs.Beginning.{Named, word_name, comment_len, beginning}
-use Rattle.vh_lex.specs.Made.{MacroRows, Made, macro_of}
+use Rattle.vh_lex.specs.Gathered.{MacroRows, Gathered, macro_of}
 use Rattle.vh_lex.specs.Conditionals.{skips}
 use Rattle.vh_lex.specs.State.{State, moved}
 use Rattle.vh_lex.specs.Directives.{Step, directive_of, directive_behind, directed, seen_directive}
@@ -26,49 +26,49 @@ pub record Around : Type 0 where
 
 -- What parts come to: the tokens and uses with theirs, or a fault
 abbrev pub Making : Type 0
-Making = Result Made DesignFault
+Making = Result Gathered DesignFault
 
-abbrev pub and_then : Making → (Made → Making) → Making
+abbrev pub and_then : Making → (Gathered → Making) → Making
 and_then (Ok m) f = f m
 and_then (Err fault) f = Err fault
 
 -- A token more; past the 4,194,304th it is L6 (own)
-abbrev pub with_token : Kind → Place → Made → Making
+abbrev pub with_token : Kind → Place → Gathered → Making
 with_token kind place m =
     if nat_lt (length m.tokens) 4194304 then Ok (record m { tokens = m.tokens ++ record { kind = kind; place = place } ∷ [] }) else Err L6
 
 -- A name behind a backquote, in text that is read at `inner`: a directive in a macro's text and an undefined macro are L3
 -- (19.3.1; the first own)
-abbrev pub used_by : (List Part → Made → Making) → Option (List Part) → Made → Making
+abbrev pub used_by : (List Part → Gathered → Making) → Option (List Part) → Gathered → Making
 used_by inner None m = Err L3
 used_by inner (Some text) m = inner text m
 
-abbrev pub used : (List Part → Made → Making) → Around → List ℕ → Made → Making
+abbrev pub used : (List Part → Gathered → Making) → Around → List ℕ → Gathered → Making
 used inner around name m = used_by inner (macro_of name around.macros) m
 
-abbrev pub used_within : Bool → (List Part → Made → Making) → Around → List ℕ → Made → Making
+abbrev pub used_within : Bool → (List Part → Gathered → Making) → Around → List ℕ → Gathered → Making
 used_within true inner around name m = Err L3
 used_within false inner around name m = used inner around name m
 
 -- A part of a macro's text (19.3.1)
-abbrev pub part_made : (List Part → Made → Making) → Around → Part → Made → Making
+abbrev pub part_made : (List Part → Gathered → Making) → Around → Part → Gathered → Making
 part_made inner around (part.Token kind) m = with_token kind around.place m
 part_made inner around part.Module m = with_token (kind.Module around.setting) around.place m
 part_made inner around (part.Use name) m = used_within (is_some (directive_of name)) inner around name m
 part_made inner around (part.Wrong fault) m = Err fault
 
 -- The parts of a macro's text, the macros in it being read by `inner`
-abbrev pub parts_made : (List Part → Made → Making) → Around → List Part → Made → Making
+abbrev pub parts_made : (List Part → Gathered → Making) → Around → List Part → Gathered → Making
 parts_made inner around [] m = Ok m
 parts_made inner around (p ∷ ps) m = and_then (part_made inner around p m) (parts_made inner around ps)
 
 -- A macro use more; past the 1,048,576th it is L6 (own)
-abbrev pub with_use : Made → Making
+abbrev pub with_use : Gathered → Making
 with_use m = if nat_lt m.uses 1048576 then Ok (record m { uses = m.uses + 1 }) else Err L6
 
 -- The use of a macro with this text, where so many levels of uses may still be open: its text is read where it is used,
 -- and so is that of each macro in it; above the last level it is L3 (19.3.1; the limit own)
-unfoldable pub expanded : ℕ → Around → List Part → Made → Making
+unfoldable pub expanded : ℕ → Around → List Part → Gathered → Making
 expanded zero around text m = Err L3
 expanded (suc levels) around text m = and_then (with_use m) (parts_made (expanded levels around) around text)
 

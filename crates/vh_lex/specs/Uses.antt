@@ -7,7 +7,7 @@ use Rattle.vh_lex.specs.declared.fault.Halt.TheVariants as halt
 use Rattle.vh_lex.specs.declared.piece.Part.{Part}
 use Rattle.vh_lex.specs.declared.expand.Around.{Around as HeldAround}
 use Rattle.vh_lex.specs.Directives.{directive_of}
-use Rattle.vh_lex.specs.Made.{MacroRows, Made, macro_of}
+use Rattle.vh_lex.specs.Gathered.{MacroRows, Gathered, macro_of}
 use Rattle.vh_lex.specs.Spelling.{Around, Making, and_then, parts_made, expanded, most_levels}
 
 -- Where a macro is used
@@ -19,16 +19,16 @@ abbrev pub frames_seen : List (Bor (List Part)) → List (List Part)
 frames_seen frames = reverse (map (λ frame. frame.now) frames)
 
 -- What the use of a macro comes to while so many texts are open
-abbrev pub used_in : Around → ℕ → List Part → Made → Making
+abbrev pub used_in : Around → ℕ → List Part → Gathered → Making
 used_in around depth text m = expanded (most_levels - depth) around text m
 
 -- What the rest of the open texts comes to, the innermost first
-abbrev pub finish : Around → List (List Part) → Made → Making
+abbrev pub finish : Around → List (List Part) → Gathered → Making
 finish around [] m = Ok m
 finish around (rest ∷ below) m = and_then (parts_made (used_in around (length (rest ∷ below))) around rest m) (finish around below)
 
 -- The open texts are read to their end, or to the use of a macro with this text, or to a fault
-abbrev pub Pauses : Around → List (List Part) → Made → Result (Option (Bor (List Part))) Halt → List (List Part) → Made → Type 0
+abbrev pub Pauses : Around → List (List Part) → Gathered → Result (Option (Bor (List Part))) Halt → List (List Part) → Gathered → Type 0
 Pauses around old m (Ok None) new n = finish around old m ≡ Ok n
 Pauses around old m (Ok (Some text)) new n = finish around old m ≡ and_then (used_in around (length new) text.now n) (finish around new)
 Pauses around old m (Err (halt.Fault fault)) new n = finish around old m ≡ Err fault

@@ -1,5 +1,5 @@
 ghost use Rattle.std.specs.Prelude.{◌≡◌, List, [], IfOk, is_some};
-ghost use Rattle.vh_lex.specs.Made.{macro_of, with_macro};
+ghost use Rattle.vh_lex.specs.Gathered.{macro_of, with_macro};
 ghost use Rattle.vh_lex.specs.MacroViews.{parts_seen};
 
 use crate::piece::Part;
@@ -16,7 +16,7 @@ pub(crate) struct Macros {
 }
 
 impl Model for Macros {
-    ghost use Rattle.vh_lex.specs.Made.{MacroRows};
+    ghost use Rattle.vh_lex.specs.Gathered.{MacroRows};
     ghost use Rattle.vh_lex.specs.MacroViews.{macros_seen};
 
     ghost Value = { MacroRows };

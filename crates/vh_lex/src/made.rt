@@ -1,5 +1,5 @@
 ghost use Rattle.std.specs.Prelude.{◌≡◌, ◌≤◌, ◌+◌, IfOk};
-ghost use Rattle.vh_lex.specs.Made.{nothing_made};
+ghost use Rattle.vh_lex.specs.Gathered.{nothing_gathered};
 ghost use Rattle.vh_lex.specs.Spelling.{with_token, with_use};
 ghost use Rattle.vh_lex.specs.Outcomes.{Makes};
 
@@ -27,9 +27,9 @@ pub(crate) struct Output {
 }
 
 impl Model for Output {
-    ghost use Rattle.vh_lex.specs.Made.{Made};
+    ghost use Rattle.vh_lex.specs.Gathered.{Gathered};
 
-    ghost Value = { Made };
+    ghost Value = { Gathered };
 
     ghost view = { λ o. record { tokens = o.tokens.items; uses = o.uses } };
 }
@@ -37,7 +37,7 @@ impl Model for Output {
 impl Output {
     // No tokens.
     pub(crate) fn new(alloc: Global) -> Output
-        ensures { result ≡ nothing_made }
+        ensures { result ≡ nothing_gathered }
     {
         Output {
             tokens: Vec::new(alloc),

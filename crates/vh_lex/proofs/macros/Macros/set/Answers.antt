@@ -1,7 +1,7 @@
 use Rattle.std.proofs.Common.{refl, ◌∙◌, ap}
-use Rattle.vh_lex.specs.Made.{with_macro}
+use Rattle.vh_lex.specs.Gathered.{with_macro}
 use Rattle.vh_lex.specs.MacroViews.{macros_seen}
-use Rattle.vh_lex.proofs.MadeLemmas.{seen-insert}
+use Rattle.vh_lex.proofs.GatheredLemmas.{seen-insert}
 use Rattle.vh_lex.proofs.macros.Macros.set.Goals as goal
 
 pub returns : goal.returns

@@ -1,5 +1,5 @@
 use Rattle.std.proofs.Common.{Some, None, sym, ◌∙◌, ap}
-use Rattle.vh_lex.proofs.MadeLemmas.{found-text}
+use Rattle.vh_lex.proofs.GatheredLemmas.{found-text}
 use Rattle.vh_lex.proofs.macros.Macros.text.Goals as goal
 
 pub returns-in_default : goal.returns-in_default

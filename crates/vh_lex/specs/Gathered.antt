@@ -18,9 +18,9 @@ with_macro name text [] = (name, text) ∷ []
 with_macro name text (row ∷ rows) = if bytes_eq name row.0 then (row.0, text) ∷ rows else row ∷ with_macro name text rows
 
 -- The tokens, and how many macros were used
-pub record Made : Type 0 where
+pub record Gathered : Type 0 where
   pub tokens : List Token
   pub uses : ℕ
 
-abbrev pub nothing_made : Made
-nothing_made = record { tokens = []; uses = 0 }
+abbrev pub nothing_gathered : Gathered
+nothing_gathered = record { tokens = []; uses = 0 }

@@ -4,7 +4,7 @@ use Rattle.std.specs.Prelude.{bytes_eq}
 use Rattle.std.specs.Map.{lookup}
 use Rattle.indexmap.specs.IndexMap.{insert_entry}
 use Rattle.vh_lex.specs.declared.piece.Part.{Part}
-use Rattle.vh_lex.specs.Made.{MacroRows, macro_of, with_macro}
+use Rattle.vh_lex.specs.Gathered.{MacroRows, macro_of, with_macro}
 use Rattle.vh_lex.specs.MacroViews.{entry_seen, macros_seen}
 
 -- A name that is given a text, or loses it
