@@ -8,7 +8,9 @@ use Rattle.vh_app_lines.specs.declared.routine.Routine.TheVariants as routine
 
 -- The routines (own).
 abbrev pub built_routines : List Routine
-built_routines = routine.ByName ∷ routine.Register ∷ routine.Remove ∷ routine.Print ∷ []
+built_routines =
+    routine.ByName ∷ routine.ByIndex ∷ routine.Handle ∷ routine.Free ∷ routine.Compare ∷ routine.Get ∷ routine.GetStr ∷
+    routine.GetTime ∷ routine.Register ∷ routine.Remove ∷ routine.CbInfo ∷ routine.ChkError ∷ routine.Print ∷ []
 
 -- The reasons (own).
 abbrev pub built_reasons : List Reason

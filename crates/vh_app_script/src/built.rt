@@ -7,10 +7,19 @@ ghost use Rattle.vh_app_script.specs.Built as spec;
 use vh_app_lines::Routine;
 use vh_base::Reason;
 
-static ROUTINES: [Routine; 4] = [
+static ROUTINES: [Routine; 13] = [
     Routine::ByName,
+    Routine::ByIndex,
+    Routine::Handle,
+    Routine::Free,
+    Routine::Compare,
+    Routine::Get,
+    Routine::GetStr,
+    Routine::GetTime,
     Routine::Register,
     Routine::Remove,
+    Routine::CbInfo,
+    Routine::ChkError,
     Routine::Print,
 ];
 

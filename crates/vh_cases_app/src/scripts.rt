@@ -154,7 +154,7 @@ static WORDS: [Row; 15] = [
     (b"app a; proc p { frob", AppFault::A3, 1, 17),
     (b"app a; proc p { Print \"x\"; }", AppFault::A3, 1, 17),
     (b"app a; proc p { pass; }", AppFault::A3, 1, 17),
-    (b"app a; proc p { get_time; }", AppFault::A3, 1, 17),
+    (b"app a; proc p { set_data 1; }", AppFault::A3, 1, 17),
     (
         b"app a; proc p { register_systf task; }",
         AppFault::A3,

@@ -1,5 +1,5 @@
 -- But for the numbers of handles a run is one list of labels.
-use Rattle.std.proofs.Common.{◌≡◌, ℕ, List, [], ◌∷◌, Bool, true, false, cond, Option, Some, None, Ok, Err, slice_get, slice_set, refl, sym, ap, subst, ◌∙◌, ◌⊎◌, inl, inr}
+use Rattle.std.proofs.Common.{◌≡◌, ℕ, List, [], ◌∷◌, Bool, true, false, cond, Option, Some, None, Ok, Err, slice_get, slice_set, refl, sym, ap, subst, ◌∙◌}
 use Rattle.vh_base.specs.declared.orders.Answer.{Answer}
 use Rattle.vh_base.specs.declared.orders.Answer.TheVariants as answer
 use Rattle.vh_base.specs.declared.orders.Order.{Order}
@@ -32,7 +32,7 @@ use Rattle.vh_kernel_choice.specs.Choices.{chooser_after}
 use Rattle.vh_kernel.specs.Run.{move_from, moves_with, handle_in, given_in, all_given, OneRun}
 use Rattle.vh_kernel.specs.State.{State, with_queue, with_top, without_top, without_item, with_variables}
 use Rattle.vh_kernel.specs.Step.{FitsAnswer, Fits, IsStep, fire_move, telling_outcome, time_move, region_move, pick_move, agenda_move, idle_move, answer_move, pass_move, order_move, activation_move, item_move, top_move, crowded_move, is_crowded, settled_move, step_of, choices_of, is_end}
-use Rattle.vh_orders.proofs.OrdersLemmas.{IsForm, refuses, answers_only, opens_object, registers, removes, effect-form}
+use Rattle.vh_orders.proofs.OrdersLemmas.{TellsOnly, tells_done, tells_null, tells_number, tells_text, IsForm, refuses, answers_only, opens_object, registers, removes, frees, effect-form}
 
 -- By the number that its answer shows, an order is answered again.
 abbrev GivesAgain : World → Given → Effect → Type 0
@@ -42,10 +42,11 @@ GivesAgain s g e =
 again-by : (o : Order) (s : World) (g : Given) (e : Effect) → IsForm o s e → GivesAgain s g e
 again-by o s g e (refuses c is) = subst (λ (x : Effect). GivesAgain s g x) (sym is) refl
 again-by o s g e (answers_only a plain is) = subst (λ (x : Effect). GivesAgain s g x) (sym is) refl
-again-by o s g e (opens_object text name scope id by means at room is) = subst (λ (x : Effect). GivesAgain s g x) (sym is) refl
+again-by o s g e (opens_object x means room is) = subst (λ (x : Effect). GivesAgain s g x) (sym is) refl
 again-by o s g e (registers r h time n body object b by watches calls room free is) =
     subst (λ (x : Effect). GivesAgain s g x) (sym is) refl
 again-by o s g e (removes c h by names is) = subst (λ (x : Effect). GivesAgain s g x) (sym is) refl
+again-by o s g e (frees h by live is) = subst (λ (x : Effect). GivesAgain s g x) (sym is) refl
 
 -- By what its label shows a move is made again.
 abbrev Shows : (Given → Move) → Given → Type 0
@@ -55,7 +56,7 @@ pass-shows : (b : Bool) (o : Order) (a : Activation) (before s : State) (g : Giv
     → Shows (λ x. pass_move b o a before s x) g
 pass-shows true o a before s g = refl
 pass-shows false o a before s g =
-    ap (λ (given : Answer × World). answer_move o a (with_error given) before s)
+    ap (λ (given : Answer × World). answer_move o a (with_error o s.world.error given) before s)
     (again-by o s.world g (effect_of o a.who s.world) (effect-form o a.who s.world))
 
 order-shows : (b : Bool) (o : Order) (a : Activation) (before s : State) (g : Given)
@@ -92,20 +93,23 @@ step-shows : (s : State) (k : ℕ) (g : Given) → Shows (λ x. step_of s k x) g
 step-shows s k g = ap (λ (m : Move). settled_move m) (crowded-shows (is_crowded s) s k g)
 
 -- A handle that is given is the number that was given to the step.
-plain-fits : (s : State) (a : Answer) → (a ≡ answer.Done) ⊎ (a ≡ answer.Null) → FitsAnswer s a
-plain-fits s a (inl is) = subst (λ (x : Answer). FitsAnswer s x) (sym is) tt
-plain-fits s a (inr is) = subst (λ (x : Answer). FitsAnswer s x) (sym is) tt
+plain-fits : (o : Order) (s : State) (a : Answer) → TellsOnly o a → FitsAnswer s a
+plain-fits o s a (tells_done is) = subst (λ (x : Answer). FitsAnswer s x) (sym is) tt
+plain-fits o s a (tells_null is) = subst (λ (x : Answer). FitsAnswer s x) (sym is) tt
+plain-fits o s a (tells_number n none is) = subst (λ (x : Answer). FitsAnswer s x) (sym is) tt
+plain-fits o s a (tells_text text is) = subst (λ (x : Answer). FitsAnswer s x) (sym is) tt
 
 answer-fits : (o : Order) (s : State) (g : Given) (e : Effect) → IsForm o s.world e → s.world.handles.is_given g.handle ≡ false
     → FitsAnswer s (answered e s.world g).0
 answer-fits o s g e (refuses c is) fresh = subst (λ (x : Effect). FitsAnswer s (answered x s.world g).0) (sym is) tt
 answer-fits o s g e (answers_only a plain is) fresh =
-    subst (λ (x : Effect). FitsAnswer s (answered x s.world g).0) (sym is) (plain-fits s a plain)
-answer-fits o s g e (opens_object text name scope id by means at room is) fresh =
+    subst (λ (x : Effect). FitsAnswer s (answered x s.world g).0) (sym is) (plain-fits o s a plain)
+answer-fits o s g e (opens_object x means room is) fresh =
     subst (λ (x : Effect). FitsAnswer s (answered x s.world g).0) (sym is) fresh
 answer-fits o s g e (registers r h time n body object b by watches calls room free is) fresh =
     subst (λ (x : Effect). FitsAnswer s (answered x s.world g).0) (sym is) fresh
 answer-fits o s g e (removes c h by names is) fresh = subst (λ (x : Effect). FitsAnswer s (answered x s.world g).0) (sym is) tt
+answer-fits o s g e (frees h by live is) fresh = subst (λ (x : Effect). FitsAnswer s (answered x s.world g).0) (sym is) tt
 
 pass-fits : (b : Bool) (o : Order) (a : Activation) (before s : State) (g : Given) → s.world.handles.is_given g.handle ≡ false
     → Fits s (pass_move b o a before s g).0

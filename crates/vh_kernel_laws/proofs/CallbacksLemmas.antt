@@ -16,7 +16,7 @@ use Rattle.vh_kernel.specs.declared.label.Label.{Label}
 use Rattle.vh_callbacks.specs.Marks.{is_among}
 use Rattle.vh_kernel.specs.Occurrences.{Occurrence, set_of, set_by}
 use Rattle.vh_kernel.specs.State.{State}
-use Rattle.vh_kernel_laws.proofs.Works.{View, Changes, changes_none, opens_one, registers_one, removes_one, Works, works_none, empties, orders_one, tells_one, fires_one, closes_one}
+use Rattle.vh_kernel_laws.proofs.Works.{View, Changes, changes_none, opens_one, registers_one, removes_one, frees_one, Works, works_none, empties, orders_one, tells_one, fires_one, closes_one}
 use Rattle.vh_kernel_laws.proofs.Splits.{not_both}
 
 -- A callback is live where it has a registration.
@@ -89,6 +89,7 @@ changes-turn s o a w (changes_none plain is) = stays (ap (λ (x : View). x.callb
 changes-turn s o a w (opens_one h x gives fresh finds is) = stays (ap (λ (x : View). x.callbacks) is)
 changes-turn s o a w (registers_one h r b gives fresh room asks is) = adds r b room (ap (λ (x : View). x.callbacks) is)
 changes-turn s o a w (removes_one c h by one names is) = drops c (ap (λ (x : View). x.callbacks) is)
+changes-turn s o a w (frees_one h by one live is) = stays (ap (λ (x : View). x.callbacks) is)
 
 pub works-turn : (s : State) (l : Label) (w : View) → Works s l w → ChangesByOne s.world.callbacks w.callbacks
 works-turn s l w (works_none quiet is) = stays (ap (λ (x : View). x.callbacks) is)

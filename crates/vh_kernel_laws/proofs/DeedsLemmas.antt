@@ -1,5 +1,6 @@
--- A label that frees a handle, or removes a callback, is an answered removal.
-use Rattle.std.proofs.Common.{◌≡◌, ℕ, Option, Some, None, refl, sym, ap, ◌∙◌}
+-- Which labels free a handle, and which remove a callback.
+use Rattle.std.proofs.Common.{◌≡◌, ℕ, Option, Some, None, refl, ap}
+use Rattle.std.specs.Prelude.{⊤}
 use Rattle.vh_base.specs.declared.orders.Answer.{Answer}
 use Rattle.vh_base.specs.declared.orders.Answer.TheVariants as answer
 use Rattle.vh_base.specs.declared.orders.Order.{Order}
@@ -12,78 +13,77 @@ use Rattle.vh_kernel.specs.declared.label.Label.TheVariants as label
 use Rattle.vh_kernel.specs.State.{State}
 use Rattle.vh_orders.specs.declared.who.Who.{Who}
 use Rattle.vh_orders.specs.World.{World}
-use Rattle.vh_kernel_laws.specs.Deeds.{freed_by, frees, callback_at, removed_by, removes}
-
--- An order with its answer, by which the handle is removed.
-pub record IsRemoving (o : Order) (a : Answer) (h : ℕ) : Type 0 where
-  pub number : ℕ
-  pub order_is : o ≡ order.Remove (Some h)
-  pub answer_is : a ≡ answer.Number number
+use Rattle.vh_kernel_laws.specs.Deeds.{freed_by, callback_at, removed_by, removes}
+use Rattle.vh_orders.proofs.OrdersLemmas.{FreesNone}
 
 no-answer : {A : Type 0} (h : ℕ) → None ≡ Some h → A
 no-answer h is = absurd (cc)
 
-freeing-remove : (x : Option ℕ) (a : Answer) (h : ℕ) → freed_by (order.Remove x) a ≡ Some h → IsRemoving (order.Remove x) a h
-freeing-remove x answer.Done h is = no-answer h is
-freeing-remove x answer.Null h is = no-answer h is
-freeing-remove x (answer.Handle n) h is = no-answer h is
-freeing-remove x (answer.Number n) h is = record { number = n; order_is = ap (λ (y : Option ℕ). order.Remove y) is; answer_is = refl }
-freeing-remove x (answer.Text text) h is = no-answer h is
-freeing-remove x (answer.Refused c) h is = no-answer h is
+-- Only an order that is answered a number frees a handle,
+abbrev pub NoNumber : Answer → Type 0
+NoNumber (answer.Number n) = ⊥
+NoNumber _ = ⊤
 
-freeing-order : (o : Order) (a : Answer) (h : ℕ) → freed_by o a ≡ Some h → IsRemoving o a h
-freeing-order (order.Remove x) a h is = freeing-remove x a h is
-freeing-order (order.ByName text scope) a h is = no-answer h is
-freeing-order (order.ByIndex x n) a h is = no-answer h is
-freeing-order (order.Handle r x) a h is = no-answer h is
-freeing-order (order.Iterate r x) a h is = no-answer h is
-freeing-order (order.Scan x) a h is = no-answer h is
-freeing-order (order.Free x) a h is = no-answer h is
-freeing-order (order.Compare x y) a h is = no-answer h is
-freeing-order (order.Get property x) a h is = no-answer h is
-freeing-order (order.GetStr property x) a h is = no-answer h is
-freeing-order (order.GetValue x format) a h is = no-answer h is
-freeing-order (order.PutValue x format text mode time event) a h is = no-answer h is
-freeing-order (order.Cancel x) a h is = no-answer h is
-freeing-order order.GetTime a h is = no-answer h is
-freeing-order (order.Register r x time body n) a h is = no-answer h is
-freeing-order (order.CbInfo x) a h is = no-answer h is
-freeing-order (order.RegisterSystf kind text n calltf compiletf) a h is = no-answer h is
-freeing-order order.ChkError a h is = no-answer h is
-freeing-order (order.Control stop) a h is = no-answer h is
-freeing-order (order.Print text) a h is = no-answer h is
-freeing-order (order.SetData n) a h is = no-answer h is
-freeing-order order.Pass a h is = no-answer h is
-freeing-order order.Return a h is = no-answer h is
+pub no-number-frees : (o : Order) (a : Answer) → NoNumber a → freed_by o a ≡ None
+no-number-frees (order.Free x) answer.Done other = refl
+no-number-frees (order.Free x) answer.Null other = refl
+no-number-frees (order.Free x) (answer.Handle n) other = refl
+no-number-frees (order.Free x) (answer.Number n) other = absurd other
+no-number-frees (order.Free x) (answer.Text text) other = refl
+no-number-frees (order.Free x) (answer.Refused c) other = refl
+no-number-frees (order.Remove x) answer.Done other = refl
+no-number-frees (order.Remove x) answer.Null other = refl
+no-number-frees (order.Remove x) (answer.Handle n) other = refl
+no-number-frees (order.Remove x) (answer.Number n) other = absurd other
+no-number-frees (order.Remove x) (answer.Text text) other = refl
+no-number-frees (order.Remove x) (answer.Refused c) other = refl
+no-number-frees (order.ByName text scope) a other = refl
+no-number-frees (order.ByIndex x n) a other = refl
+no-number-frees (order.Handle r x) a other = refl
+no-number-frees (order.Iterate r x) a other = refl
+no-number-frees (order.Scan x) a other = refl
+no-number-frees (order.Compare x y) a other = refl
+no-number-frees (order.Get property x) a other = refl
+no-number-frees (order.GetStr property x) a other = refl
+no-number-frees (order.GetValue x format) a other = refl
+no-number-frees (order.PutValue x format text mode time event) a other = refl
+no-number-frees (order.Cancel x) a other = refl
+no-number-frees order.GetTime a other = refl
+no-number-frees (order.Register r x time body n) a other = refl
+no-number-frees (order.CbInfo x) a other = refl
+no-number-frees (order.RegisterSystf kind text n calltf compiletf) a other = refl
+no-number-frees order.ChkError a other = refl
+no-number-frees (order.Control stop) a other = refl
+no-number-frees (order.Print text) a other = refl
+no-number-frees (order.SetData n) a other = refl
+no-number-frees order.Pass a other = refl
+no-number-frees order.Return a other = refl
 
--- A label that frees a handle.
-pub record IsFreeing (l : Label) (h : ℕ) : Type 0 where
-  pub who : Who
-  pub number : ℕ
-  pub is : l ≡ label.Do who (order.Remove (Some h)) (answer.Number number)
-
-removing-label : (who : Who) (o : Order) (a : Answer) (h : ℕ) → IsRemoving o a h → IsFreeing (label.Do who o a) h
-removing-label who o a h removing = record {
-  who = who;
-  number = removing.number;
-  is = ap (λ (x : Order). label.Do who x a) removing.order_is
-      ∙ ap (λ (x : Answer). label.Do who (order.Remove (Some h)) x) removing.answer_is;
-}
-
-pub freeing-label : (l : Label) (h : ℕ) → frees l ≡ Some h → IsFreeing l h
-freeing-label (label.Startup k) h is = no-answer h is
-freeing-label (label.Do who o a) h is = removing-label who o a h (freeing-order o a h is)
-freeing-label (label.Pass who) h is = no-answer h is
-freeing-label (label.Ret who) h is = no-answer h is
-freeing-label (label.Occ n reason object) h is = no-answer h is
-freeing-label (label.Fire n c) h is = no-answer h is
-freeing-label (label.Done n) h is = no-answer h is
-freeing-label (label.Activate region) h is = no-answer h is
-freeing-label (label.Advance time) h is = no-answer h is
-freeing-label (label.Pick serial shown) h is = no-answer h is
-freeing-label (label.Stmt process shown) h is = no-answer h is
-freeing-label (label.Finish cause) h is = no-answer h is
-freeing-label (label.End ending) h is = no-answer h is
+-- And of these a `free` and a removal alone.
+pub number-frees-none : (o : Order) (n : ℕ) → FreesNone o → freed_by o (answer.Number n) ≡ None
+number-frees-none (order.Free x) n none = absurd none
+number-frees-none (order.Remove x) n none = absurd none
+number-frees-none (order.ByName text scope) n none = refl
+number-frees-none (order.ByIndex x n) n none = refl
+number-frees-none (order.Handle r x) n none = refl
+number-frees-none (order.Iterate r x) n none = refl
+number-frees-none (order.Scan x) n none = refl
+number-frees-none (order.Compare x y) n none = refl
+number-frees-none (order.Get property x) n none = refl
+number-frees-none (order.GetStr property x) n none = refl
+number-frees-none (order.GetValue x format) n none = refl
+number-frees-none (order.PutValue x format text mode time event) n none = refl
+number-frees-none (order.Cancel x) n none = refl
+number-frees-none order.GetTime n none = refl
+number-frees-none (order.Register r x time body n) n none = refl
+number-frees-none (order.CbInfo x) n none = refl
+number-frees-none (order.RegisterSystf kind text n calltf compiletf) n none = refl
+number-frees-none order.ChkError n none = refl
+number-frees-none (order.Control stop) n none = refl
+number-frees-none (order.Print text) n none = refl
+number-frees-none (order.SetData n) n none = refl
+number-frees-none order.Pass n none = refl
+number-frees-none order.Return n none = refl
 
 -- A label that removes a callback frees a handle that names it.
 named-callback : (t : Option Thing) (c : ℕ) → callback_at t ≡ Some c → t ≡ Some (thing.Callback c)
@@ -94,8 +94,10 @@ named-callback (Some (thing.Callback d)) c is = cc
 named-callback (Some (thing.Event serial)) c is = no-answer c is
 
 pub record FreesOf (l : Label) (c : ℕ) (s : State) : Type 0 where
+  pub who : Who
   pub handle : ℕ
-  pub frees_it : frees l ≡ Some handle
+  pub number : ℕ
+  pub is : l ≡ label.Do who (order.Remove (Some handle)) (answer.Number number)
   pub names : thing_at handle s.world.handles ≡ Some (thing.Callback c)
 
 removing-remove : (who : Who) (x : Option ℕ) (a : Answer) (c : ℕ) (s : State) → removed_by (order.Remove x) a s.world ≡ Some c
@@ -110,7 +112,7 @@ removing-remove who (Some h) answer.Done c s is = no-answer c is
 removing-remove who (Some h) answer.Null c s is = no-answer c is
 removing-remove who (Some h) (answer.Handle n) c s is = no-answer c is
 removing-remove who (Some h) (answer.Number n) c s is =
-    record { handle = h; frees_it = refl; names = named-callback (thing_at h s.world.handles) c is }
+    record { who = who; handle = h; number = n; is = refl; names = named-callback (thing_at h s.world.handles) c is }
 removing-remove who (Some h) (answer.Text text) c s is = no-answer c is
 removing-remove who (Some h) (answer.Refused code) c s is = no-answer c is
 

@@ -21,8 +21,8 @@ use Rattle.vh_kernel.specs.Occurrences.{Occurrence, set_of}
 use Rattle.vh_kernel.specs.Outcome.{Move}
 use Rattle.vh_kernel.specs.State.{State}
 use Rattle.vh_kernel_laws.specs.Firing.{frames_of, IsTelling, TellsOnce, WasTold, FiresOnce, left_of, KeepsSets, LeavesNone, DoneOnce, ClosesInOrder, GoesByRemoval, RemovesForGood}
-use Rattle.vh_kernel_laws.specs.Deeds.{removes}
-use Rattle.vh_kernel_laws.proofs.DeedsLemmas.{IsFreeing, freeing-label, FreesOf, removing-frees, removal-removes}
+use Rattle.vh_kernel_laws.specs.Deeds.{freed_by, removes}
+use Rattle.vh_kernel_laws.proofs.DeedsLemmas.{FreesOf, removing-frees, removal-removes}
 use Rattle.vh_kernel_laws.specs.Paths.{Deed, tells, fires, closes, answers, other, deed_of, fires_for, fires_any, tells_of, closes_of, is_told, is_fire, is_fire_of, is_done, any, was_removed, IsPath, end_of}
 use Rattle.vh_callbacks.proofs.MarksLemmas.{among_less}
 use Rattle.vh_kernel_laws.proofs.CallbacksLemmas.{ChangesByOne, works-turn, turns_sound, turns_next, stays_gone, set-live, live_low, live_registered, live_removed, gone_removed}
@@ -31,7 +31,7 @@ use Rattle.vh_handles.proofs.EntriesLemmas.{other_more, same_more, other_less}
 use Rattle.vh_kernel_laws.proofs.HandlesLemmas.{works-hand, stays-climbing, freed-none}
 use Rattle.vh_kernel_laws.proofs.SetsLemmas.{Falls, falls-below, works-falls, works-number, HasSet, has-on, filter-among, map-at}
 use Rattle.vh_kernel_laws.proofs.Splits.{either, not_both, or_left, or_right, or_false, path_split, path_at}
-use Rattle.vh_kernel_laws.proofs.Works.{View, view_of, taken_from, IsPlain, Changes, changes_none, opens_one, registers_one, removes_one, Works, works_none, empties, orders_one, tells_one, fires_one, closes_one}
+use Rattle.vh_kernel_laws.proofs.Works.{View, view_of, taken_from, Changes, changes_none, opens_one, registers_one, removes_one, frees_one, Works, works_none, empties, orders_one, tells_one, fires_one, closes_one}
 use Rattle.vh_kernel_laws.proofs.WorksLemmas.{made-works}
 
 -- The labels with one more.
@@ -292,6 +292,10 @@ works-stands history s m (orders_one who o a is (removes_one c h by one names af
     subst (λ (x : Callbacks Body). Stands (and_then history m) x f.number f.left) (sym same)
     (removes-stands history s m c (order-quiet m.0 who o a is) keeps.sound keeps.stands i f
     (sym (ap (λ (x : View). slice_get x.frames i) after) ∙ at))
+works-stands history s m (orders_one who o a is (frees_one h by one live after)) keeps i f at =
+    quiet-stands history s.world.callbacks m.1.world.callbacks m (frames_of s) (order-quiet m.0 who o a is)
+    (same-live s.world.callbacks m.1.world.callbacks (ap (λ (y : View). y.callbacks) after)) keeps.stands i f
+    (sym (ap (λ (y : View). slice_get y.frames i) after) ∙ at)
 works-stands history s m (tells_one n what is number after) keeps i f at =
     let same : m.1.world.callbacks ≡ s.world.callbacks = ap (λ (x : View). x.callbacks) after in
     subst (λ (x : Callbacks Body). Stands (and_then history m) x f.number f.left) (sym same)
@@ -373,6 +377,9 @@ works-names s l w (orders_one who o a is (registers_one k r b gives fresh room a
     (opened-names (nat_eq h k) h k c (s.world.callbacks.next + 1) (thing.Callback s.world.callbacks.next) s.world.handles refl
     (λ d same. (let e : s.world.callbacks.next ≡ d = cc in omega arith)) (λ at. (let low = names h c at in omega arith)))
 works-names s l w (orders_one who o a is (removes_one d k by one at after)) climb names h c =
+    subst (λ (y : View). thing_at h y.handles ≡ Some (thing.Callback c) → c < y.callbacks.next) (sym after)
+    (λ there. names h c (freed-names (nat_eq h k) h k c s.world.handles refl climb there))
+works-names s l w (orders_one who o a is (frees_one k by one live after)) climb names h c =
     subst (λ (y : View). thing_at h y.handles ≡ Some (thing.Callback c) → c < y.callbacks.next) (sym after)
     (λ there. names h c (freed-names (nat_eq h k) h k c s.world.handles refl climb there))
 works-names s l w (tells_one n what is number after) climb names h c =
@@ -643,6 +650,8 @@ frames-none n s l w (orders_one who o a is (registers_one h r b gives fresh room
 frames-none n s l w (orders_one who o a is (removes_one c h by one names after)) has i f at of =
     let from = map-at c i (frames_of s) f (sym (ap (λ (x : View). slice_get x.frames i) after) ∙ at) in
     has.none i from.0 from.1 (ap (λ (x : Frame). x.number) from.2 ∙ of)
+frames-none n s l w (orders_one who o a is (frees_one h by one live after)) has i f at of =
+    same-none n s w (ap (λ (y : View). y.frames) after) has i f at of
 frames-none n s l w (tells_one k what is number after) has i f at of =
     told-none n k i s what f has number (sym (ap (λ (x : View). slice_get x.frames i) after) ∙ at) of
 frames-none n s l w (fires_one k c g rest is on number among after) has i f at of =
@@ -792,6 +801,9 @@ nest-settled seen s m (orders_one who o a is (removes_one c h by one names after
           ∙ get-map c stands.0 (frames_of s) stands.1 stands.2,
       stands.3,
     )) settled)
+nest-settled seen s m (orders_one who o a is (frees_one h by one live after)) settled =
+    inr (settled-same seen s m (λ k. ap (λ (y : Label). is_told k y) is)
+    (same-frames s (view_of m.1) (ap (λ (y : View). y.frames) after)) settled)
 nest-settled seen s m (tells_one n what is number after) settled =
     inr (λ k told. told-settled seen s m n what is after settled k told (nat_eq k n) refl)
 nest-settled seen s m (fires_one n c f rest is on number among after) settled =
@@ -908,6 +920,8 @@ works-go s l w c (orders_one who o a is (registers_one h r b gives fresh room as
     ∙ ap (λ (y : View). is_live c y.callbacks) (sym after) ∙ gone))
 works-go s l w c (orders_one who o a is (removes_one d h by one names after)) sound alive gone =
     goes-by (nat_eq c d) c d h s l who o a refl is by one names alive (ap (λ (y : View). is_live c y.callbacks) (sym after) ∙ gone)
+works-go s l w c (orders_one who o a is (frees_one h by one live after)) sound alive gone =
+    absurd (lost-live c s.world.callbacks w.callbacks alive gone (ap (λ (y : View). y.callbacks) after))
 works-go s l w c (tells_one n what is number after) sound alive gone =
     absurd (lost-live c s.world.callbacks w.callbacks alive gone (ap (λ (x : View). x.callbacks) after))
 works-go s l w c (fires_one n d f rest is on number among after) sound alive gone =
@@ -931,7 +945,9 @@ pub record RemovedFrom (s : State) (h : ℕ) (w : View) : Type 0 where
 
 changes-removed : (s : State) (h n : ℕ) (o : Order) (a : Answer) (w : View) → o ≡ order.Remove (Some h) → a ≡ answer.Number n
     → Changes s o a w → RemovedFrom s h w
-changes-removed s h n o a w by one (changes_none plain after) = absurd (subst (λ (x : Answer). IsPlain x) one plain)
+changes-removed s h n o a w by one (changes_none plain after) =
+    absurd (let none : Some h ≡ None = ap (λ (x : Answer). freed_by (order.Remove (Some h)) x) (sym one)
+    ∙ ap (λ (x : Order). freed_by x a) (sym by) ∙ plain.1 in cc)
 changes-removed s h n o a w by one (opens_one k x gives fresh finds after) =
     absurd (let d : answer.Number n ≡ answer.Handle k = sym one ∙ gives in cc)
 changes-removed s h n o a w by one (registers_one k r b gives fresh room asks after) =
@@ -944,6 +960,8 @@ changes-removed s h n o a w by one (removes_one c k too counts names after) =
       callbacks = ap (λ (x : View). x.callbacks) after;
       handles = ap (λ (x : View). x.handles) after ∙ ap (λ (x : ℕ). freed x s.world.handles) same;
     }
+changes-removed s h n o a w by one (frees_one k too counts live after) =
+    absurd (let both : order.Remove (Some h) ≡ order.Free (Some k) = sym by ∙ too in cc)
 
 pub removed-from : (s : State) (l : Label) (w : View) (who : Who) (h k : ℕ) → l ≡ label.Do who (order.Remove (Some h)) (answer.Number k)
     → Works s l w → RemovedFrom s h w
@@ -995,9 +1013,8 @@ removes-for-good s moves path keeps before behind m c is removal =
     let there : Keeps before (view_of u) = keeps-on [] s before parts.0 keeps in
     let works : Works u m.0 (view_of m.1) = made-works u m parts.1.0 in
     let freed_by_it : FreesOf m.0 c u = removing-frees m.0 c u removal in
-    let freeing : IsFreeing m.0 freed_by_it.handle = freeing-label m.0 freed_by_it.handle freed_by_it.frees_it in
     let from : RemovedFrom u freed_by_it.handle (view_of m.1) =
-    removed-from u m.0 (view_of m.1) freeing.who freed_by_it.handle freeing.number freeing.is works in
+    removed-from u m.0 (view_of m.1) freed_by_it.who freed_by_it.handle freed_by_it.number freed_by_it.is works in
     let both : Some (thing.Callback from.callback) ≡ Some (thing.Callback c) = sym from.names ∙ freed_by_it.names in
     let same : from.callback ≡ c = cc in
     let dead : is_live c m.1.world.callbacks ≡ false =

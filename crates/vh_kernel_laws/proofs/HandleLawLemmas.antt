@@ -2,8 +2,8 @@
 use Rattle.std.proofs.Common.{◌≡◌, ℕ, List, [], ◌∷◌, ◌++◌, Bool, true, false, not, ◌&&◌, ◌||◌, nat_eq, Option, Some, None, is_some, Result, Ok, Err, slice_get, refl, sym, ap, subst, ◌∙◌, ◌⊎◌, inl, inr, append_assoc}
 use Rattle.std.proofs.lemmas.Bool.{eqb-true, eq-eqb, and_parts}
 use Rattle.std.specs.List.{list_any, position}
-use Rattle.std.specs.Option.{ok_or}
-use Rattle.std.specs.Prelude.{bytes_eq}
+use Rattle.std.specs.Option.{ok_or, is_none, option_and_then}
+use Rattle.std.specs.Prelude.{if◌then◌else◌, bytes_eq, codes, length, nat_le}
 use Rattle.vh_base.specs.declared.orders.Answer.{Answer}
 use Rattle.vh_base.specs.declared.orders.Answer.TheVariants as answer
 use Rattle.vh_base.specs.declared.orders.BodyName.{BodyName}
@@ -13,13 +13,16 @@ use Rattle.vh_base.specs.declared.orders.Order.{Order}
 use Rattle.vh_base.specs.declared.orders.Order.TheVariants as order
 use Rattle.vh_base.specs.declared.words.Code.{Code}
 use Rattle.vh_base.specs.declared.words.Code.TheVariants as code
+use Rattle.vh_base.specs.declared.words.Property.{Property}
+use Rattle.vh_base.specs.declared.words.Property.TheVariants as property_word
 use Rattle.vh_base.specs.declared.words.Reason.{Reason}
 use Rattle.vh_base.specs.declared.words.Reason.TheVariants as reason
+use Rattle.vh_base.specs.declared.words.Relation.{Relation}
 use Rattle.vh_base.specs.Checks.{unless, with_ok}
 use Rattle.vh_base.proofs.ChecksLemmas.{unless-holds, with_some-holds, with_ok-holds}
 use Rattle.vh_app.specs.Script.{ScriptData}
 use Rattle.vh_callbacks.specs.declared.registration.Registration.{Registration}
-use Rattle.vh_callbacks.specs.Callbacks.{info_of, body_of, is_full as no_callback_more}
+use Rattle.vh_callbacks.specs.Callbacks.{Callbacks, info_of, body_of, is_full as no_callback_more}
 use Rattle.vh_callbacks.proofs.LawsLemmas.{tells_registered}
 use Rattle.vh_kernel.specs.Activations.{Activation}
 use Rattle.vh_orders.specs.declared.who.Body.{Body}
@@ -29,27 +32,38 @@ use Rattle.vh_handles.specs.declared.handles.Thing.TheVariants as thing
 use Rattle.vh_kernel.specs.declared.label.Label.{Label}
 use Rattle.vh_kernel.specs.declared.label.Label.TheVariants as label
 use Rattle.vh_handles.specs.Handles.{Handles, thing_at, opened, freed, no_handle_more}
-use Rattle.vh_design_nodes.specs.Kinds.{is_scope}
+use Rattle.vh_design_names.specs.Names.{full_name}
+use Rattle.vh_design_nodes.specs.declared.object.ObjectInfo.{ObjectInfo}
+use Rattle.vh_design_nodes.specs.Kinds.{is_scope, is_memory}
+use Rattle.vh_objects.specs.declared.found.Found.{Found}
+use Rattle.vh_objects.specs.declared.found.Found.TheVariants as leads
+use Rattle.vh_objects.specs.declared.kind.ObjectKind.{ObjectKind}
+use Rattle.vh_objects.specs.declared.kind.ObjectKind.TheVariants as of_kind
+use Rattle.vh_objects.specs.Kinds.{kind_text, is_port, object_has_value}
+use Rattle.vh_objects.specs.Objects.{info_at, object_kind, kind_of}
+use Rattle.vh_objects.specs.Properties.{is_by_get_str, text_answer, number_if, text_if, told_text, told_number, flag_number as flag_of, with_address, size_of, is_module_kind, is_port_kind, is_net_kind, has_name_kind, direction_in, net_type_in, definition_in, property_of}
+use Rattle.vh_objects.specs.Relations.{one as one_of, index_in}
 use Rattle.vh_orders.specs.Names.{object_named, is_kind, may_watch}
-use Rattle.vh_orders.specs.Orders.{Given, Effect, answers as answers_with, answered, effect_of, is_startup, object_in, callback_in, name_meant, new_handle, new_callback, without_callback, needs_object, needs_entry, object_watched, body_named, start_in, registration_of, handle_or_null, handle_if, handles_read, is_named, all_named, not_yet}
+use Rattle.vh_orders.specs.Orders.{Given, Effect, answers as answers_with, answered, effect_of, is_startup, object_in, callback_in, name_meant, new_handle, new_callback, without_callback, needs_object, needs_entry, object_watched, body_named, start_in, registration_of, handle_or_null, handle_if, handles_read, is_named, all_named, not_yet, thing_named, objects_of, one_related, told, property_told, without_handle, same_handle, flag_number, is_running_call}
 use Rattle.vh_kernel.specs.Outcome.{Move}
 use Rattle.vh_kernel.specs.State.{State, without_top, with_variables}
+use Rattle.vh_orders.specs.Things.{led_to, related, is_memory_kind, word_in, is_type, property_in, info_text, info_in, same_thing}
 use Rattle.vh_orders.specs.World.{World}
 use Rattle.vh_kernel.specs.Table.{Acts, Step}
-use Rattle.vh_orders.proofs.OrdersLemmas.{IsForm, refuses, answers_only, opens_object, registers, removes, effect-form}
+use Rattle.vh_orders.proofs.OrdersLemmas.{tells_done, tells_null, tells_number, tells_text, IsForm, refuses, answers_only, opens_object, registers, removes, frees as frees_only, effect-form}
 use Rattle.vh_kernel.proofs.StepLemmas.{IsActing, returns, passes, orders, acts}
 use Rattle.vh_kernel.proofs.TableLemmas.{steps-by-table}
-use Rattle.vh_kernel_laws.specs.HandleLaw.{is_handle, gives, is_giving, reads, GivesOnce, GivesRight, GivesLive, NamesOne, FindsLive, FreedByRemoval, RemovalFrees, StaysFreed, RemovesCallbacks, answers_found, FindsNames, RegistersAsked}
+use Rattle.vh_kernel_laws.specs.HandleLaw.{is_handle, gives, is_giving, reads, GivesOnce, GivesRight, GivesLive, NamesOne, FindsLive, FreedByOrder, FreedThere, StaysFreed, RemovesCallbacks, FreesLive, answers_found, FindsNames, FindsRelated, FindsWords, RegistersAsked}
 use Rattle.vh_kernel_laws.specs.Laws.{KeepsHandleLaw}
-use Rattle.vh_kernel_laws.specs.Deeds.{frees}
-use Rattle.vh_kernel_laws.proofs.DeedsLemmas.{IsFreeing, freeing-label}
+use Rattle.vh_kernel_laws.specs.Deeds.{freed_by, frees}
+use Rattle.vh_kernel_laws.proofs.DeedsLemmas.{no-number-frees}
 use Rattle.vh_kernel_laws.specs.Paths.{tells, fires, closes, answers, other, deed_of, any, IsMade, IsPath, end_of}
 use Rattle.vh_kernel_laws.proofs.FiringLemmas.{Keeps, keeps-on, RemovedFrom, removed-from}
 use Rattle.vh_handles.specs.Laws.{NumbersRise}
 use Rattle.vh_handles.proofs.EntriesLemmas.{other_more, same_more, other_less}
 use Rattle.vh_kernel_laws.proofs.HandlesLemmas.{Hands, works-hand, stays-given, gives-new, stays-climbing, names-still, freed-none}
 use Rattle.vh_kernel_laws.proofs.Splits.{either, not_both, or_false, path_split, path_at}
-use Rattle.vh_kernel_laws.proofs.Works.{View, view_of, Changes, changes_none, opens_one, registers_one, removes_one, Works, works_none, empties, orders_one, tells_one, fires_one, closes_one}
+use Rattle.vh_kernel_laws.proofs.Works.{View, view_of, Changes, changes_none, opens_one, registers_one, removes_one, frees_one, Works, works_none, empties, orders_one, tells_one, fires_one, closes_one}
 use Rattle.vh_kernel_laws.proofs.WorksLemmas.{same-meant, same-watched, made-works}
 
 hands : (s : State) (m : Move) → IsMade s m → Hands s.world.handles m.0 m.1.world.handles
@@ -113,7 +127,7 @@ answered-by s who o a w (closes_one n f rest is on number none after) = absurd (
 
 gives-right : (history : List Move) (s : State) (o : Order) (h : ℕ) (t : State) → Keeps history (view_of s)
     → Changes s o (answer.Handle h) (view_of t) → GivesRight s o h t
-gives-right history s o h t keeps (changes_none plain after) = absurd plain
+gives-right history s o h t keeps (changes_none plain after) = absurd plain.0
 gives-right history s o h t keeps (opens_one k x gives fresh finds after) =
     let same : k ≡ h = cc in record {
       thing = x;
@@ -146,6 +160,7 @@ gives-right history s o h t keeps (registers_one k r b gives fresh room asks aft
       });
     }
 gives-right history s o h t keeps (removes_one c k by one names after) = absurd (cc)
+gives-right history s o h t keeps (frees_one k by one live after) = absurd (cc)
 
 gives-live : (s : State) (moves : List Move) → IsPath s moves → Keeps [] (view_of s) → GivesLive s moves
 gives-live s moves path keeps before behind who o h t is =
@@ -181,7 +196,7 @@ names-one s moves path keeps before mid behind who o h t is alive =
     still-by h t t mid halves.0 (stays-climbing u.world.handles t.world.handles m.0 step there.climbs)
     (gives-new h u.world.handles t.world.handles m.0 step (eq-eqb h h refl)).1 alive
 
--- A handle is freed by a removal.
+-- A handle is freed by an order that frees it.
 lost-thing : (h : ℕ) (a b : Handles) → is_some (thing_at h a) ≡ true → thing_at h b ≡ None → b ≡ a → ⊥
 lost-thing h a b alive gone same =
     not_both (is_some (thing_at h a)) alive (ap (λ (x : Handles). is_some (thing_at h x)) (sym same) ∙ ap (λ (o : Option Thing). is_some o) gone)
@@ -217,6 +232,10 @@ works-free s l w h (orders_one who o a is (removes_one c k by one names after)) 
     ap frees (is ∙ ap (λ (x : Order). label.Do who x a) by ∙ ap (λ (x : Answer). label.Do who (order.Remove (Some k)) x) one)
     ∙ ap (λ (x : ℕ). Some x)
     (sym (freed-same (nat_eq h k) h k s.world.handles refl alive (ap (λ (y : View). thing_at h y.handles) (sym after) ∙ gone)))
+works-free s l w h (orders_one who o a is (frees_one k by one live after)) alive gone =
+    ap frees (is ∙ ap (λ (x : Order). label.Do who x a) by ∙ ap (λ (x : Answer). label.Do who (order.Free (Some k)) x) one)
+    ∙ ap (λ (x : ℕ). Some x)
+    (sym (freed-same (nat_eq h k) h k s.world.handles refl alive (ap (λ (y : View). thing_at h y.handles) (sym after) ∙ gone)))
 works-free s l w h (tells_one n what is number after) alive gone =
     absurd (lost-thing h s.world.handles w.handles alive gone (ap (λ (x : View). x.handles) after))
 works-free s l w h (fires_one n c f rest is on number among after) alive gone =
@@ -224,20 +243,61 @@ works-free s l w h (fires_one n c f rest is on number among after) alive gone =
 works-free s l w h (closes_one n f rest is on number none after) alive gone =
     absurd (lost-thing h s.world.handles w.handles alive gone (ap (λ (x : View). x.handles) after))
 
-freed-by-removal : (s : State) (moves : List Move) → IsPath s moves → FreedByRemoval s moves
-freed-by-removal s moves path before behind m h is alive gone =
+freed-by-order : (s : State) (moves : List Move) → IsPath s moves → FreedByOrder s moves
+freed-by-order s moves path before behind m h is alive gone =
     let parts = path_at s moves before (m ∷ behind) path is in
     let u : State = end_of s before in
     works-free u m.0 (view_of m.1) h (made-works u m parts.1.0) alive gone
 
-removal-frees : (s : State) (moves : List Move) → IsPath s moves → Keeps [] (view_of s) → RemovalFrees moves
-removal-frees s moves path keeps before behind m h is frees_it =
+changes-free : (s : State) (who : Who) (o : Order) (a : Answer) (w : View) (h : ℕ) → Changes s o a w → freed_by o a ≡ Some h
+    → w.handles ≡ freed h s.world.handles
+changes-free s who o a w h (changes_none plain after) is = absurd (let none : Some h ≡ None = sym is ∙ plain.1 in cc)
+changes-free s who o a w h (opens_one k x gives fresh finds after) is =
+    absurd (let none : Some h ≡ None = sym is ∙ ap (λ (y : Answer). freed_by o y) gives ∙ no-number-frees o (answer.Handle k) tt in cc)
+changes-free s who o a w h (registers_one k r b gives fresh room asks after) is =
+    absurd (let none : Some h ≡ None = sym is ∙ ap (λ (y : Answer). freed_by o y) gives ∙ no-number-frees o (answer.Handle k) tt in cc)
+changes-free s who o a w h (removes_one c k by one names after) is =
+    let both : Some k ≡ Some h =
+    ap (λ (y : Answer). freed_by (order.Remove (Some k)) y) (sym one) ∙ ap (λ (x : Order). freed_by x a) (sym by) ∙ is in
+    let same : k ≡ h = cc in
+    ap (λ (x : View). x.handles) after ∙ ap (λ (x : ℕ). freed x s.world.handles) same
+changes-free s who o a w h (frees_one k by one live after) is =
+    let both : Some k ≡ Some h =
+    ap (λ (y : Answer). freed_by (order.Free (Some k)) y) (sym one) ∙ ap (λ (x : Order). freed_by x a) (sym by) ∙ is in
+    let same : k ≡ h = cc in
+    ap (λ (x : View). x.handles) after ∙ ap (λ (x : ℕ). freed x s.world.handles) same
+
+-- What frees a handle is an order that was answered.
+quiet-frees : (l : Label) (h : ℕ) → deed_of l ≡ other → frees l ≡ Some h → ⊥
+quiet-frees (label.Startup k) h quiet is = absurd (cc)
+quiet-frees (label.Do who o a) h quiet is = absurd (cc)
+quiet-frees (label.Pass who) h quiet is = absurd (cc)
+quiet-frees (label.Ret who) h quiet is = absurd (cc)
+quiet-frees (label.Occ n reason object) h quiet is = absurd (cc)
+quiet-frees (label.Fire n c) h quiet is = absurd (cc)
+quiet-frees (label.Done n) h quiet is = absurd (cc)
+quiet-frees (label.Activate region) h quiet is = absurd (cc)
+quiet-frees (label.Advance time) h quiet is = absurd (cc)
+quiet-frees (label.Pick serial shown) h quiet is = absurd (cc)
+quiet-frees (label.Stmt process shown) h quiet is = absurd (cc)
+quiet-frees (label.Finish cause) h quiet is = absurd (cc)
+quiet-frees (label.End ending) h quiet is = absurd (cc)
+
+freed-from : (s : State) (l : Label) (w : View) (h : ℕ) → Works s l w → frees l ≡ Some h → w.handles ≡ freed h s.world.handles
+freed-from s l w h (works_none quiet after) is = absurd (quiet-frees l h quiet is)
+freed-from s l w h (empties quiet after at_finish) is = absurd (quiet-frees l h quiet is)
+freed-from s l w h (orders_one who o a at changes) is = changes-free s who o a w h changes (ap frees (sym at) ∙ is)
+freed-from s l w h (tells_one n what at number after) is = absurd (let none : None ≡ Some h = ap frees (sym at) ∙ is in cc)
+freed-from s l w h (fires_one n c f rest at on number among after) is = absurd (let none : None ≡ Some h = ap frees (sym at) ∙ is in cc)
+freed-from s l w h (closes_one n f rest at on number left after) is = absurd (let none : None ≡ Some h = ap frees (sym at) ∙ is in cc)
+
+freed-there : (s : State) (moves : List Move) → IsPath s moves → Keeps [] (view_of s) → FreedThere moves
+freed-there s moves path keeps before behind m h is frees_it =
     let parts = path_at s moves before (m ∷ behind) path is in
     let u : State = end_of s before in
     let there : Keeps before (view_of u) = keeps-on [] s before parts.0 keeps in
-    let freeing : IsFreeing m.0 h = freeing-label m.0 h frees_it in
-    let from : RemovedFrom u h (view_of m.1) = removed-from u m.0 (view_of m.1) freeing.who h freeing.number freeing.is (made-works u m parts.1.0) in
-    ap (λ (x : Handles). thing_at h x) from.handles ∙ freed-none h u.world.handles there.climbs
+    ap (λ (x : Handles). thing_at h x) (freed-from u m.0 (view_of m.1) h (made-works u m parts.1.0) frees_it)
+    ∙ freed-none h u.world.handles there.climbs
 
 -- The world in which an order of the activation on top is performed.
 abbrev performing : List (List Answer) → State → World
@@ -382,27 +442,203 @@ remove-found (Some h) w s named =
     (λ _. with_ok-holds NotE1 (callback_in (thing_at h s.handles)) _
     (λ c is. E1-apart c (callback-found (thing_at h s.handles) c named is)) (λ c _ is. absurd (cc)))
 
+-- What is asked of a live thing isn't answered E1.
+thing-found : (h : Option ℕ) (s : World) (c : Code) → is_named s h ≡ true → thing_named h s ≡ Err c → c ≡ code.E1 → ⊥
+thing-found None s c named is one = absurd (cc)
+thing-found (Some h) s c named is one = there-found (thing_at h s.handles) c named is
+  where
+    there-found : (t : Option Thing) (c : Code) → is_some t ≡ true → ok_or t code.E1 ≡ Err c → ⊥
+    there-found None c there is = absurd (cc)
+    there-found (Some t) c there is = absurd (cc)
+
+E2-found : (c : Code) → code.E2 ≡ c → c ≡ code.E1 → ⊥
+E2-found c is one = absurd (let two : code.E2 ≡ code.E1 = is ∙ one in cc)
+
+E3-found : (c : Code) → code.E3 ≡ c → c ≡ code.E1 → ⊥
+E3-found c is one = absurd (let two : code.E3 ≡ code.E1 = is ∙ one in cc)
+
+led-found : (f : Found) (c : Code) → led_to f ≡ Err c → c ≡ code.E1 → ⊥
+led-found (leads.Object o) c is one = absurd (cc)
+led-found leads.None c is one = absurd (cc)
+led-found leads.NoRelation c is one = E3-found c (let same : code.E3 ≡ c = cc in same) one
+
+related-found : (os : List ObjectInfo) (r : Relation) (t : Thing) (c : Code) → related os r t ≡ Err c → c ≡ code.E1 → ⊥
+related-found os r (thing.Object o) c is one = led-found (one_of os r (Some o)) c is one
+related-found os r (thing.Iterator relation from at count) c is one = E3-found c (let same : code.E3 ≡ c = cc in same) one
+related-found os r (thing.Callback d) c is one = E3-found c (let same : code.E3 ≡ c = cc in same) one
+related-found os r (thing.Event serial) c is one = E3-found c (let same : code.E3 ≡ c = cc in same) one
+
+word-found : (os : List ObjectInfo) (t : Thing) (n : ℕ) (c : Code) → word_in os t n ≡ Err c → c ≡ code.E1 → ⊥
+word-found os (thing.Object o) n c is one =
+    unless-holds (λ (r : Result (Option Object) Code). r ≡ Err c → ⊥) (not (is_memory_kind (kind_of os o))) code.E2 _
+    (λ _ same. E2-found c (let two : code.E2 ≡ c = cc in two) one) (λ _ same. absurd (cc)) is
+word-found os (thing.Iterator relation from at count) n c is one = E2-found c (let same : code.E2 ≡ c = cc in same) one
+word-found os (thing.Callback d) n c is one = E2-found c (let same : code.E2 ≡ c = cc in same) one
+word-found os (thing.Event serial) n c is one = E2-found c (let same : code.E2 ≡ c = cc in same) one
+
+info-found : (cs : Callbacks Body) (t : Thing) (c : Code) → info_in cs t ≡ Err c → c ≡ code.E1 → ⊥
+info-found cs (thing.Object o) c is one = E2-found c (let same : code.E2 ≡ c = cc in same) one
+info-found cs (thing.Iterator relation from at count) c is one = E2-found c (let same : code.E2 ≡ c = cc in same) one
+info-found cs (thing.Callback d) c is one =
+    with_some-holds (λ (r : Result Answer Code). r ≡ Err c → ⊥) (info_of d cs) code.E2 _
+    (λ _ same. E2-found c (let two : code.E2 ≡ c = cc in two) one) (λ r _ same. absurd (cc)) is
+info-found cs (thing.Event serial) c is one = E2-found c (let same : code.E2 ≡ c = cc in same) one
+
+-- No property is E1.
+abbrev NoE1 : Option Answer → Type 0
+NoE1 a = a ≡ Some (answer.Refused code.E1) → ⊥
+
+text-no-E1 : (text : List ℕ) → NoE1 (Some (text_answer text))
+text-no-E1 text is = text-by (nat_le (length text) 255) text is
+  where
+    text-by : (b : Bool) (text : List ℕ) → Some (if b then answer.Text text else answer.Refused code.E16) ≡ Some (answer.Refused code.E1) → ⊥
+    text-by true text is = absurd (cc)
+    text-by false text is = absurd (cc)
+
+number-no-E1 : (has : Bool) (n : ℕ) → NoE1 (number_if has n)
+number-no-E1 true n is = absurd (cc)
+number-no-E1 false n is = absurd (cc)
+
+text_if-no-E1 : (has : Bool) (text : List ℕ) → NoE1 (text_if has text)
+text_if-no-E1 true text is = text-no-E1 text is
+text_if-no-E1 false text is = absurd (cc)
+
+told_text-no-E1 : (has : Bool) (text : Option (List ℕ)) → NoE1 (told_text has text)
+told_text-no-E1 has None is = absurd (cc)
+told_text-no-E1 has (Some text) is = text_if-no-E1 has text is
+
+told_number-no-E1 : (has : Bool) (n : Option ℕ) → NoE1 (told_number has n)
+told_number-no-E1 has None is = absurd (cc)
+told_number-no-E1 has (Some n) is = number-no-E1 has n is
+
+size-by : (b has : Bool) (n m : ℕ) → NoE1 (if b then Some (answer.Number n) else number_if has m)
+size-by true has n m is = absurd (cc)
+size-by false has n m is = number-no-E1 has m is
+
+size-no-E1 : (k : ObjectKind) (i : ObjectInfo) → NoE1 (size_of k i)
+size-no-E1 (of_kind.Of k) i is = size-by (is_memory k) (object_has_value (of_kind.Of k) || is_port k) i.words i.width is
+size-no-E1 of_kind.Word i is = absurd (cc)
+
+property-no-E1 : (os : List ObjectInfo) (p : Property) (o : Object) (k : ObjectKind) (i : ObjectInfo) → NoE1 (property_of os p o k i)
+property-no-E1 os property_word.VpiType o k i is = text-no-E1 (kind_text k) is
+property-no-E1 os property_word.VpiSize o k i is = size-no-E1 k i is
+property-no-E1 os property_word.VpiSigned o k i is = number-no-E1 (object_has_value k) (flag_of i.signed) is
+property-no-E1 os property_word.VpiTopModule o k i is = number-no-E1 (is_module_kind k) (flag_of (is_none i.parent)) is
+property-no-E1 os property_word.VpiDirection o k i is = told_text-no-E1 (is_port_kind k) (direction_in i.detail) is
+property-no-E1 os property_word.VpiNetType o k i is = told_text-no-E1 (is_net_kind k) (net_type_in i.detail) is
+property-no-E1 os property_word.VpiPortIndex o k i is = told_number-no-E1 (is_port_kind k) (index_in i.detail) is
+property-no-E1 os property_word.VpiLineNo o k i is = absurd (cc)
+property-no-E1 os property_word.VpiName o k i is = text_if-no-E1 (has_name_kind k) (with_address i.name o.word) is
+property-no-E1 os property_word.VpiFullName o k i is = text_if-no-E1 (has_name_kind k) (with_address (full_name os o.id) o.word) is
+property-no-E1 os property_word.VpiDefName o k i is = told_text-no-E1 (is_module_kind k) (definition_in i.detail) is
+
+there-no-E1 : (os : List ObjectInfo) (p : Property) (o : Object) (i : Option ObjectInfo)
+    → NoE1 (option_and_then (λ x. property_of os p o (object_kind x.kind o.word) x) i)
+there-no-E1 os p o None is = absurd (cc)
+there-no-E1 os p o (Some i) is = property-no-E1 os p o (object_kind i.kind o.word) i is
+
+kind-no-E1 : (b : Bool) (text : List ℕ) → NoE1 (if b then Some (text_answer text) else None)
+kind-no-E1 true text is = text-no-E1 text is
+kind-no-E1 false text is = absurd (cc)
+
+in-no-E1 : (os : List ObjectInfo) (p : Property) (t : Thing) → NoE1 (property_in os p t)
+in-no-E1 os p (thing.Object o) is = there-no-E1 os p o (info_at os o) is
+in-no-E1 os p (thing.Iterator relation from at count) is = kind-no-E1 (is_type p) (codes "vpiIterator") is
+in-no-E1 os p (thing.Callback c) is = kind-no-E1 (is_type p) (codes "vpiCallback") is
+in-no-E1 os p (thing.Event serial) is = kind-no-E1 (is_type p) (codes "vpiSchedEvent") is
+
+info-no-E1 : (cs : Callbacks Body) (t : Thing) (a : Answer) → info_in cs t ≡ Ok a → NoE1 (Some a)
+info-no-E1 cs (thing.Object o) a is one = absurd (cc)
+info-no-E1 cs (thing.Iterator relation from at count) a is one = absurd (cc)
+info-no-E1 cs (thing.Callback d) a is one =
+    with_some-holds (λ (r : Result Answer Code). r ≡ Ok a → ⊥) (info_of d cs) code.E2 _ (λ _ same. absurd (cc))
+    (λ r _ same. text-no-E1 (info_text r) (let told : text_answer (info_text r) ≡ a = cc in ap (λ (x : Answer). Some x) told ∙ one)) is
+info-no-E1 cs (thing.Event serial) a is one = absurd (cc)
+
+told-found : (a : Option Answer) (s : World) → NoE1 a → NotE1 (told a s)
+told-found None s no = λ is. absurd (cc)
+told-found (Some answer.Done) s no = λ is. absurd (cc)
+told-found (Some answer.Null) s no = λ is. absurd (cc)
+told-found (Some (answer.Handle h)) s no = λ is. absurd (cc)
+told-found (Some (answer.Number n)) s no = λ is. absurd (cc)
+told-found (Some (answer.Text text)) s no = λ is. absurd (cc)
+told-found (Some (answer.Refused c)) s no =
+    λ is. no (let same : c ≡ code.E1 = cc in ap (λ (x : Code). Some (answer.Refused x)) same)
+
+by_index-found : (h : Option ℕ) (n : ℕ) (w : Who) (s : World) → is_named s h ≡ true → NotE1 (effect_of (order.ByIndex h n) w s)
+by_index-found h n w s named =
+    unless-holds NotE1 (is_startup w) code.E9 _ (λ _. no-E9)
+    (λ _. with_ok-holds NotE1 (thing_named h s) _ (λ c is. E1-apart c (thing-found h s c named is))
+    (λ t _. with_ok-holds NotE1 (word_in (objects_of s) t n) _ (λ c is. E1-apart c (word-found (objects_of s) t n c is))
+    (λ found _. new_handle-found found s)))
+
+one_related-found : (b : Bool) (r : Relation) (h : Option ℕ) (s : World) → (b ≡ false → is_named s h ≡ true) → NotE1 (one_related b r h s)
+one_related-found true r h s named = λ is. absurd (cc)
+one_related-found false r h s named =
+    with_ok-holds NotE1 (thing_named h s) _ (λ c is. E1-apart c (thing-found h s c (named refl) is))
+    (λ t _. with_ok-holds NotE1 (related (objects_of s) r t) _ (λ c is. E1-apart c (related-found (objects_of s) r t c is))
+    (λ found _. new_handle-found found s))
+
+null-or : (b : Bool) (h : Option ℕ) (s : World) → all_named s (handle_or_null b h) ≡ true → (b && is_none h) ≡ false → is_named s h ≡ true
+null-or b (Some k) s named some = named
+null-or true None s named some = absurd (cc)
+null-or false None s named some = absurd (cc)
+
+handle-found : (r : Relation) (h : Option ℕ) (w : Who) (s : World) → all_named s (handle_or_null (is_running_call r) h) ≡ true
+    → NotE1 (effect_of (order.Handle r h) w s)
+handle-found r h w s named =
+    unless-holds NotE1 (is_startup w) code.E9 _ (λ _. no-E9)
+    (λ _. one_related-found (is_running_call r && is_none h) r h s (null-or (is_running_call r) h s named))
+
+free-found : (h : Option ℕ) (w : Who) (s : World) → is_named s h ≡ true → NotE1 (effect_of (order.Free h) w s)
+free-found h w s named =
+    unless-holds NotE1 (is_startup w) code.E9 _ (λ _. no-E9)
+    (λ _. with_ok-holds NotE1 (thing_named h s) _ (λ c is. E1-apart c (thing-found h s c named is)) (λ t _ is. absurd (cc)))
+
+compare-found : (a b : Option ℕ) (w : Who) (s : World) → is_named s a ≡ true → is_named s b ≡ true → NotE1 (effect_of (order.Compare a b) w s)
+compare-found a b w s first second =
+    unless-holds NotE1 (is_startup w) code.E9 _ (λ _. no-E9)
+    (λ _. with_ok-holds NotE1 (thing_named a s) _ (λ c is. E1-apart c (thing-found a s c first is))
+    (λ t _. with_ok-holds NotE1 (thing_named b s) _ (λ c is. E1-apart c (thing-found b s c second is)) (λ u _ is. absurd (cc))))
+
+property_told-found : (other : Bool) (p : Property) (h : Option ℕ) (s : World) → is_named s h ≡ true → NotE1 (property_told other p h s)
+property_told-found other p h s named =
+    with_ok-holds NotE1 (thing_named h s) _ (λ c is. E1-apart c (thing-found h s c named is))
+    (λ t _. unless-holds NotE1 other code.E3 _ (λ _ is. absurd (cc))
+    (λ _. told-found (property_in (objects_of s) p t) s (in-no-E1 (objects_of s) p t)))
+
+cb_info-found : (h : Option ℕ) (w : Who) (s : World) → is_named s h ≡ true → NotE1 (effect_of (order.CbInfo h) w s)
+cb_info-found h w s named =
+    unless-holds NotE1 (is_startup w) code.E9 _ (λ _. no-E9)
+    (λ _. with_ok-holds NotE1 (thing_named h s) _ (λ c is. E1-apart c (thing-found h s c named is))
+    (λ t _. with_ok-holds NotE1 (info_in s.callbacks t) _ (λ c is. E1-apart c (info-found s.callbacks t c is))
+    (λ a is. told-found (Some a) s (info-no-E1 s.callbacks t a is))))
+
 effect-found : (o : Order) (w : Who) (s : World) → all_named s (handles_read o) ≡ true → NotE1 (effect_of o w s)
 effect-found (order.ByName text scope) w s named = by_name-found text scope w s named
-effect-found (order.ByIndex h n) w s named = not_yet-found (order.ByIndex h n) w s named
-effect-found (order.Handle r h) w s named = not_yet-found (order.Handle r h) w s named
+effect-found (order.ByIndex h n) w s named = by_index-found h n w s named
+effect-found (order.Handle r h) w s named = handle-found r h w s named
 effect-found (order.Iterate r h) w s named = not_yet-found (order.Iterate r h) w s named
 effect-found (order.Scan h) w s named = not_yet-found (order.Scan h) w s named
-effect-found (order.Free h) w s named = not_yet-found (order.Free h) w s named
-effect-found (order.Compare a b) w s named = not_yet-found (order.Compare a b) w s named
-effect-found (order.Get property h) w s named = not_yet-found (order.Get property h) w s named
-effect-found (order.GetStr property h) w s named = not_yet-found (order.GetStr property h) w s named
+effect-found (order.Free h) w s named = free-found h w s named
+effect-found (order.Compare a b) w s named =
+    let parts = and_parts (is_named s b) (is_named s a) named in compare-found a b w s parts.1 parts.0
+effect-found (order.Get property h) w s named =
+    unless-holds NotE1 (is_startup w) code.E9 _ (λ _. no-E9) (λ _. property_told-found (is_by_get_str property) property h s named)
+effect-found (order.GetStr property h) w s named =
+    unless-holds NotE1 (is_startup w) code.E9 _ (λ _. no-E9)
+    (λ _. property_told-found (not (is_by_get_str property)) property h s named)
 effect-found (order.GetValue h format) w s named = not_yet-found (order.GetValue h format) w s named
 effect-found (order.PutValue h format text mode time event) w s named =
     not_yet-found (order.PutValue h format text mode time event) w s named
 effect-found (order.Cancel h) w s named = not_yet-found (order.Cancel h) w s named
-effect-found order.GetTime w s named = not_yet-found order.GetTime w s named
+effect-found order.GetTime w s named = λ is. absurd (cc)
 effect-found (order.Register r h time body n) w s named = register-found r h time body n w s named
 effect-found (order.Remove h) w s named = remove-found h w s named
-effect-found (order.CbInfo h) w s named = not_yet-found (order.CbInfo h) w s named
+effect-found (order.CbInfo h) w s named = cb_info-found h w s named
 effect-found (order.RegisterSystf kind text n calltf compiletf) w s named =
     not_yet-found (order.RegisterSystf kind text n calltf compiletf) w s named
-effect-found order.ChkError w s named = not_yet-found order.ChkError w s named
+effect-found order.ChkError w s named = λ is. absurd (cc)
 effect-found (order.Control stop) w s named = not_yet-found (order.Control stop) w s named
 effect-found (order.Print text) w s named = λ is. absurd (cc)
 effect-found (order.SetData n) w s named = not_yet-found (order.SetData n) w s named
@@ -415,15 +651,21 @@ answered-E1 : (o : Order) (s : World) (g : Given) (e : Effect) → IsForm o s e 
 answered-E1 o s g e (refuses c is) one =
     let there : answer.Refused c ≡ answer.Refused code.E1 = ap (λ (x : Effect). (answered x s g).0) (sym is) ∙ one in
     let same : c ≡ code.E1 = cc in is ∙ ap (λ (x : Code). (let r : Effect = Err x in r)) same
-answered-E1 o s g e (answers_only a (inl done) is) one =
+answered-E1 o s g e (answers_only a (tells_done done) is) one =
     absurd (let there : answer.Done ≡ answer.Refused code.E1 = sym done ∙ ap (λ (x : Effect). (answered x s g).0) (sym is) ∙ one in cc)
-answered-E1 o s g e (answers_only a (inr null) is) one =
+answered-E1 o s g e (answers_only a (tells_null null) is) one =
     absurd (let there : answer.Null ≡ answer.Refused code.E1 = sym null ∙ ap (λ (x : Effect). (answered x s g).0) (sym is) ∙ one in cc)
-answered-E1 o s g e (opens_object text name scope id by means at room is) one =
+answered-E1 o s g e (answers_only a (tells_number n none number) is) one =
+    absurd (let there : answer.Number n ≡ answer.Refused code.E1 = sym number ∙ ap (λ (x : Effect). (answered x s g).0) (sym is) ∙ one in cc)
+answered-E1 o s g e (answers_only a (tells_text text told) is) one =
+    absurd (let there : answer.Text text ≡ answer.Refused code.E1 = sym told ∙ ap (λ (x : Effect). (answered x s g).0) (sym is) ∙ one in cc)
+answered-E1 o s g e (opens_object x means room is) one =
     absurd (let there : answer.Handle g.handle ≡ answer.Refused code.E1 = ap (λ (x : Effect). (answered x s g).0) (sym is) ∙ one in cc)
 answered-E1 o s g e (registers r h time n body object b by watches calls room free is) one =
     absurd (let there : answer.Handle g.handle ≡ answer.Refused code.E1 = ap (λ (x : Effect). (answered x s g).0) (sym is) ∙ one in cc)
 answered-E1 o s g e (removes c h by names is) one =
+    absurd (let there : answer.Number 1 ≡ answer.Refused code.E1 = ap (λ (x : Effect). (answered x s g).0) (sym is) ∙ one in cc)
+answered-E1 o s g e (frees_only h by live is) one =
     absurd (let there : answer.Number 1 ≡ answer.Refused code.E1 = ap (λ (x : Effect). (answered x s g).0) (sym is) ∙ one in cc)
 
 -- Orders are performed with the handles of the state before.
@@ -540,16 +782,78 @@ register-refused r x time body n w s h is gone =
     (λ entry. absurd (not_both (needs_entry r) entry (no-entry r watched.0)))
     (λ _. inl (with_ok-Err (object_watched (needs_object r) r x s) code.E1 _ watched.1)))
 
+-- What isn't live is no thing.
+unnamed-thing : (h : ℕ) (x : Option ℕ) (s : World) → is_handle h x ≡ true → thing_at h s.handles ≡ None → thing_named x s ≡ Err code.E1
+unnamed-thing h None s is gone = refl
+unnamed-thing h (Some k) s is gone =
+    let none : thing_at k s.handles ≡ None = ap (λ (n : ℕ). thing_at n s.handles) (sym (eqb-true h k is)) ∙ gone in
+    ap (λ (o : Option Thing). ok_or o code.E1) none
+
+only-read : (b : Bool) → (b || false) ≡ true → b ≡ true
+only-read true is = refl
+only-read false is = absurd (cc)
+
+-- No other error comes of that.
+E1-only : (x : Option ℕ) (s : World) (c : Code) → thing_named x s ≡ Err c → c ≡ code.E1
+E1-only None s c is = cc
+E1-only (Some k) s c is = there-only (thing_at k s.handles) c is
+  where
+    there-only : (t : Option Thing) (c : Code) → ok_or t code.E1 ≡ Err c → c ≡ code.E1
+    there-only None c is = cc
+    there-only (Some t) c is = absurd (cc)
+
+and-false : (b : Bool) → (b && false) ≡ false
+and-false true = refl
+and-false false = refl
+
+-- An order that looks at a thing first is refused where it isn't live.
+looks-refused : (rest : Thing → Effect) (x : Option ℕ) (w : Who) (s : World) (h : ℕ) → is_handle h x ≡ true → thing_at h s.handles ≡ None
+    → RefusedBy w (unless (is_startup w) code.E9 (with_ok (thing_named x s) rest))
+looks-refused rest x w s h is gone =
+    unless-holds (RefusedBy w) (is_startup w) code.E9 _ (λ early. inr (early, refl))
+    (λ _. inl (with_ok-Err (thing_named x s) code.E1 rest (unnamed-thing h x s is gone)))
+
+-- The first or the second of two.
+compare-refused : (a b : Option ℕ) (w : Who) (s : World) (h : ℕ) → reads h (order.Compare a b) ≡ true → thing_at h s.handles ≡ None
+    → RefusedBy w (effect_of (order.Compare a b) w s)
+compare-refused a b w s h is gone =
+    unless-holds (RefusedBy w) (is_startup w) code.E9 _ (λ early. inr (early, refl))
+    (λ _. inl (second-dead (is_handle h a) refl is))
+  where
+    second : Thing → Effect
+    second t = with_ok (thing_named b s) (λ u. Ok (answers_with (answer.Number (flag_number (same_thing (same_handle a b) t u))) s))
+
+    second-dead : (c : Bool) → is_handle h a ≡ c → (c || (is_handle h b || false)) ≡ true → with_ok (thing_named a s) second ≡ Err code.E1
+    second-dead true here some = with_ok-Err (thing_named a s) code.E1 second (unnamed-thing h a s here gone)
+    second-dead false here some =
+        let dead : thing_named b s ≡ Err code.E1 = unnamed-thing h b s (only-read (is_handle h b) some) gone in
+        by_first (thing_named a s) refl dead
+      where
+        by_first : (r : Result Thing Code) → thing_named a s ≡ r → thing_named b s ≡ Err code.E1 → with_ok (thing_named a s) second ≡ Err code.E1
+        by_first (Err c) is dead = rw (is) (ap (λ (x : Code). (let e : Effect = Err x in e)) (E1-only a s c is))
+        by_first (Ok t) is dead = rw (is) (with_ok-Err (thing_named b s) code.E1 _ dead)
+
+handle-refused : (r : Relation) (x : Option ℕ) (w : Who) (s : World) (h : ℕ) → reads h (order.Handle r x) ≡ true → thing_at h s.handles ≡ None
+    → RefusedBy w (effect_of (order.Handle r x) w s)
+handle-refused r None w s h is gone = null-read (is_running_call r) is
+  where
+    null-read : (b : Bool) → list_any (is_handle h) (handle_or_null b None) ≡ true → RefusedBy w (effect_of (order.Handle r None) w s)
+    null-read true is = absurd (cc)
+    null-read false is = absurd (cc)
+handle-refused r (Some k) w s h is gone =
+    subst (λ (b : Bool). RefusedBy w (unless (is_startup w) code.E9 (one_related b r (Some k) s))) (sym (and-false (is_running_call r)))
+    (looks-refused _ (Some k) w s h (only-read (is_handle h (Some k)) is) gone)
+
 effect-refused : (o : Order) (w : Who) (s : World) (h : ℕ) → reads h o ≡ true → thing_at h s.handles ≡ None → RefusedBy w (effect_of o w s)
 effect-refused (order.ByName text scope) w s h is gone = by_name-refused text scope w s h is gone
-effect-refused (order.ByIndex x n) w s h is gone = not_yet-refused (order.ByIndex x n) w s h is gone
-effect-refused (order.Handle r x) w s h is gone = not_yet-refused (order.Handle r x) w s h is gone
+effect-refused (order.ByIndex x n) w s h is gone = looks-refused _ x w s h (only-read (is_handle h x) is) gone
+effect-refused (order.Handle r x) w s h is gone = handle-refused r x w s h is gone
 effect-refused (order.Iterate r x) w s h is gone = not_yet-refused (order.Iterate r x) w s h is gone
 effect-refused (order.Scan x) w s h is gone = not_yet-refused (order.Scan x) w s h is gone
-effect-refused (order.Free x) w s h is gone = not_yet-refused (order.Free x) w s h is gone
-effect-refused (order.Compare a b) w s h is gone = not_yet-refused (order.Compare a b) w s h is gone
-effect-refused (order.Get property x) w s h is gone = not_yet-refused (order.Get property x) w s h is gone
-effect-refused (order.GetStr property x) w s h is gone = not_yet-refused (order.GetStr property x) w s h is gone
+effect-refused (order.Free x) w s h is gone = looks-refused _ x w s h (only-read (is_handle h x) is) gone
+effect-refused (order.Compare a b) w s h is gone = compare-refused a b w s h is gone
+effect-refused (order.Get property x) w s h is gone = looks-refused _ x w s h (only-read (is_handle h x) is) gone
+effect-refused (order.GetStr property x) w s h is gone = looks-refused _ x w s h (only-read (is_handle h x) is) gone
 effect-refused (order.GetValue x format) w s h is gone = not_yet-refused (order.GetValue x format) w s h is gone
 effect-refused (order.PutValue x format text mode time event) w s h is gone =
     not_yet-refused (order.PutValue x format text mode time event) w s h is gone
@@ -557,7 +861,7 @@ effect-refused (order.Cancel x) w s h is gone = not_yet-refused (order.Cancel x)
 effect-refused order.GetTime w s h is gone = absurd (cc)
 effect-refused (order.Register r x time body n) w s h is gone = register-refused r x time body n w s h is gone
 effect-refused (order.Remove x) w s h is gone = remove-refused x w s h is gone
-effect-refused (order.CbInfo x) w s h is gone = not_yet-refused (order.CbInfo x) w s h is gone
+effect-refused (order.CbInfo x) w s h is gone = looks-refused _ x w s h (only-read (is_handle h x) is) gone
 effect-refused (order.RegisterSystf kind text n calltf compiletf) w s h is gone = absurd (cc)
 effect-refused order.ChkError w s h is gone = absurd (cc)
 effect-refused (order.Control stop) w s h is gone = absurd (cc)
@@ -638,6 +942,89 @@ finds-names s moves path before behind who text scope name a t is running means 
     subst P (sym from.is)
     (name-answer (is_startup who) (name_meant scope text w) name w from.given running (same-meant from.vars u scope text ∙ means))
 
+-- What a relation leads to, and a word, are found so too.
+related-answer : (b c : Bool) (r : Relation) (h : ℕ) (t : Thing) (found : Option Object) (w : World) (g : Given) → b ≡ false → c ≡ false
+    → thing_at h w.handles ≡ Some t → related (objects_of w) r t ≡ Ok found
+    → answers_found found (no_handle_more w.handles) (answered (unless b code.E9 (one_related c r (Some h) w)) w g).0
+related-answer b c r h t found w g running plain names is =
+    let T : Effect → Type 0 = λ e. answers_found found (no_handle_more w.handles) (answered e w g).0 in
+    let last : T (with_ok (related (objects_of w) r t) (λ x. new_handle x w)) =
+    subst (λ (y : Result (Option Object) Code). T (with_ok y (λ x. new_handle x w))) (sym is) (new-answer found (no_handle_more w.handles) w g refl) in
+    let named : T (with_ok (ok_or (thing_at h w.handles) code.E1) (λ u. with_ok (related (objects_of w) r u) (λ x. new_handle x w))) =
+    subst (λ (y : Option Thing). T (with_ok (ok_or y code.E1) (λ u. with_ok (related (objects_of w) r u) (λ x. new_handle x w)))) (sym names) last in
+    subst (λ (x : Bool). T (unless x code.E9 (one_related c r (Some h) w))) (sym running)
+    (subst (λ (x : Bool). T (one_related x r (Some h) w)) (sym plain) named)
+
+finds-related : (s : State) (moves : List Move) → IsPath s moves → FindsRelated s moves
+finds-related s moves path before behind who r h x found a t is running names leads =
+    let o : Order = order.Handle r (Some h) in
+    let parts = path_at s moves before ((label.Do who o a, t) ∷ behind) path is in
+    let u : State = end_of s before in
+    let from : OrderedFrom u who o a = ordered-from u t who o a parts.1.0 in
+    let P : Answer → Type 0 = answers_found found (no_handle_more u.world.handles) in
+    subst P (sym from.is)
+    (related-answer (is_startup who) (is_running_call r && false) r h x found (performing from.vars u) from.given running
+    (and-false (is_running_call r)) names leads)
+
+word-answer : (b : Bool) (h n : ℕ) (t : Thing) (found : Option Object) (w : World) (g : Given) → b ≡ false
+    → thing_at h w.handles ≡ Some t → word_in (objects_of w) t n ≡ Ok found
+    → answers_found found (no_handle_more w.handles)
+    (answered (unless b code.E9 (with_ok (thing_named (Some h) w) (λ u. with_ok (word_in (objects_of w) u n) (λ x. new_handle x w)))) w g).0
+word-answer b h n t found w g running names is =
+    let T : Effect → Type 0 = λ e. answers_found found (no_handle_more w.handles) (answered e w g).0 in
+    let last : T (with_ok (word_in (objects_of w) t n) (λ x. new_handle x w)) =
+    subst (λ (y : Result (Option Object) Code). T (with_ok y (λ x. new_handle x w))) (sym is) (new-answer found (no_handle_more w.handles) w g refl) in
+    let named : T (with_ok (ok_or (thing_at h w.handles) code.E1) (λ u. with_ok (word_in (objects_of w) u n) (λ x. new_handle x w))) =
+    subst (λ (y : Option Thing). T (with_ok (ok_or y code.E1) (λ u. with_ok (word_in (objects_of w) u n) (λ x. new_handle x w)))) (sym names) last in
+    subst (λ (x : Bool). T (unless x code.E9 (with_ok (thing_named (Some h) w) (λ u. with_ok (word_in (objects_of w) u n) (λ x. new_handle x w)))))
+    (sym running) named
+
+finds-words : (s : State) (moves : List Move) → IsPath s moves → FindsWords s moves
+finds-words s moves path before behind who h n x found a t is running names there =
+    let o : Order = order.ByIndex (Some h) n in
+    let parts = path_at s moves before ((label.Do who o a, t) ∷ behind) path is in
+    let u : State = end_of s before in
+    let from : OrderedFrom u who o a = ordered-from u t who o a parts.1.0 in
+    let P : Answer → Type 0 = answers_found found (no_handle_more u.world.handles) in
+    subst P (sym from.is) (word-answer (is_startup who) h n x found (performing from.vars u) from.given running names there)
+
+-- A live handle is freed.
+some-thing : (o : Option Thing) → is_some o ≡ true → (t : Thing) × (o ≡ Some t)
+some-thing None there = absurd (cc)
+some-thing (Some t) there = (t, refl)
+
+free-answer : (b : Bool) (h : ℕ) (t : Thing) (w : World) (g : Given) → b ≡ false → thing_at h w.handles ≡ Some t
+    → (answered (unless b code.E9 (with_ok (thing_named (Some h) w) (λ u. Ok (answers_with (answer.Number 1) (without_handle (Some h) w))))) w g).0
+    ≡ answer.Number 1
+free-answer b h t w g running names = rw (running, names) refl
+
+changes-live : (s : State) (h : ℕ) (o : Order) (a : Answer) (w : View) → o ≡ order.Free (Some h) → a ≡ answer.Number 1 → Changes s o a w
+    → is_some (thing_at h s.world.handles) ≡ true
+changes-live s h o a w by one (changes_none plain after) =
+    absurd (let none : Some h ≡ None = ap (λ (x : Answer). freed_by (order.Free (Some h)) x) (sym one)
+    ∙ ap (λ (x : Order). freed_by x a) (sym by) ∙ plain.1 in cc)
+changes-live s h o a w by one (opens_one k x gives fresh finds after) =
+    absurd (let d : answer.Number 1 ≡ answer.Handle k = sym one ∙ gives in cc)
+changes-live s h o a w by one (registers_one k r b gives fresh room asks after) =
+    absurd (let d : answer.Number 1 ≡ answer.Handle k = sym one ∙ gives in cc)
+changes-live s h o a w by one (removes_one c k too counts names after) =
+    absurd (let both : order.Free (Some h) ≡ order.Remove (Some k) = sym by ∙ too in cc)
+changes-live s h o a w by one (frees_one k too counts live after) =
+    let both : order.Free (Some h) ≡ order.Free (Some k) = sym by ∙ too in
+    let same : k ≡ h = cc in ap (λ (x : ℕ). is_some (thing_at x s.world.handles)) (sym same) ∙ live
+
+frees-live : (s : State) (moves : List Move) → IsPath s moves → FreesLive s moves
+frees-live s moves path before behind who h a t is =
+    let o : Order = order.Free (Some h) in
+    let parts = path_at s moves before ((label.Do who o a, t) ∷ behind) path is in
+    let u : State = end_of s before in
+    let from : OrderedFrom u who o a = ordered-from u t who o a parts.1.0 in
+    record {
+      frees = λ running there. (let named = some-thing (thing_at h u.world.handles) there in
+          from.is ∙ free-answer (is_startup who) h named.0 (performing from.vars u) from.given running named.1);
+      live = λ one. changes-live u h o a (view_of t) refl one (answered-by u who o a (view_of t) (made-works u (label.Do who o a, t) parts.1.0)).changes;
+    }
+
 registration-answer : (a b : Bool) (object : Result (Option Object) Code) (body : Result Body Code) (o : Option Object) (y : Body)
     (r : Option Object → ℕ → Registration) (w : World) (g : Given)
     → a ≡ false → b ≡ false → object ≡ Ok o → body ≡ Ok y → no_callback_more w.callbacks ≡ false → no_handle_more w.handles ≡ false
@@ -666,10 +1053,13 @@ handle-law s moves path keeps = record {
   given_live = gives-live s moves path keeps;
   names_one = names-one s moves path keeps;
   finds_live = finds-live s moves path;
-  freed_by_removal = freed-by-removal s moves path;
-  removal_frees = removal-frees s moves path keeps;
+  freed_by_order = freed-by-order s moves path;
+  freed_there = freed-there s moves path keeps;
   stays_freed = stays-freed s moves path keeps;
   removes_callbacks = removes-callbacks s moves path;
+  frees_live = frees-live s moves path;
   finds_names = finds-names s moves path;
+  finds_related = finds-related s moves path;
+  finds_words = finds-words s moves path;
   registers_asked = registers-asked s moves path;
 }

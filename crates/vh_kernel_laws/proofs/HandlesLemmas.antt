@@ -16,7 +16,7 @@ use Rattle.vh_kernel.specs.State.{State}
 use Rattle.vh_kernel_laws.specs.HandleLaw.{gives, gives_of, is_giving}
 use Rattle.vh_kernel_laws.specs.Paths.{Deed}
 use Rattle.vh_kernel_laws.proofs.Splits.{not_both, or_right}
-use Rattle.vh_kernel_laws.proofs.Works.{View, IsPlain, Changes, changes_none, opens_one, registers_one, removes_one, Works, works_none, empties, orders_one, tells_one, fires_one, closes_one}
+use Rattle.vh_kernel_laws.proofs.Works.{View, GivesNone, Changes, changes_none, opens_one, registers_one, removes_one, frees_one as order_frees, Works, works_none, empties, orders_one, tells_one, fires_one, closes_one}
 
 -- What a label does to the handles: it gives none and frees one at most, or it gives one.
 pub data Hands (a : Handles) (l : Label) (b : Handles) : Type 0 where
@@ -24,11 +24,11 @@ pub data Hands (a : Handles) (l : Label) (b : Handles) : Type 0 where
   frees_one : ((h : ℕ) → is_giving h l ≡ false) → (h : ℕ) → b ≡ freed h a → Hands a l b
   gives_one : (h : ℕ) (t : Thing) → a.is_given h ≡ false → ((q : ℕ) → is_giving q l ≡ nat_eq q h) → b ≡ opened h t a → Hands a l b
 
-plain-gives : (a : Answer) → IsPlain a → (h : ℕ) → gives h a ≡ false
+plain-gives : (a : Answer) → GivesNone a → (h : ℕ) → gives h a ≡ false
 plain-gives answer.Done plain h = refl
 plain-gives answer.Null plain h = refl
 plain-gives (answer.Handle k) plain h = absurd plain
-plain-gives (answer.Number n) plain h = absurd plain
+plain-gives (answer.Number n) plain h = refl
 plain-gives (answer.Text text) plain h = refl
 plain-gives (answer.Refused c) plain h = refl
 
@@ -38,13 +38,15 @@ giving-by l who o a is h = ap (λ (x : Label). is_giving h x) is
 changes-hand : (s : State) (l : Label) (who : Who) (o : Order) (a : Answer) (w : View) → l ≡ label.Do who o a → Changes s o a w
     → Hands s.world.handles l w.handles
 changes-hand s l who o a w is (changes_none plain after) =
-    gives_none (λ h. giving-by l who o a is h ∙ plain-gives a plain h) (ap (λ (x : View). x.handles) after)
+    gives_none (λ h. giving-by l who o a is h ∙ plain-gives a plain.0 h) (ap (λ (x : View). x.handles) after)
 changes-hand s l who o a w is (opens_one h x gives_it fresh finds after) =
     gives_one h x fresh (λ q. giving-by l who o a is q ∙ ap (λ (y : Answer). gives q y) gives_it) (ap (λ (x : View). x.handles) after)
 changes-hand s l who o a w is (registers_one h r b gives_it fresh room asks after) =
     gives_one h (thing.Callback s.world.callbacks.next) fresh (λ q. giving-by l who o a is q ∙ ap (λ (y : Answer). gives q y) gives_it)
     (ap (λ (x : View). x.handles) after)
 changes-hand s l who o a w is (removes_one c h by one names after) =
+    frees_one (λ q. giving-by l who o a is q ∙ ap (λ (y : Answer). gives q y) one) h (ap (λ (x : View). x.handles) after)
+changes-hand s l who o a w is (order_frees h by one live after) =
     frees_one (λ q. giving-by l who o a is q ∙ ap (λ (y : Answer). gives q y) one) h (ap (λ (x : View). x.handles) after)
 
 pub works-hand : (s : State) (l : Label) (w : View) → Works s l w → Hands s.world.handles l w.handles

@@ -1,5 +1,5 @@
 -- Worked rows with one label changed: each is refused by a law.
-use Rattle.std.proofs.Common.{◌≡◌, ℕ, List, [], ◌∷◌, ◌++◌, take, drop, Bool, true, false, Option, Some, None, slice_get, refl, sym, ap, subst, ◌∙◌, inl, inr, append_assoc, append-nil}
+use Rattle.std.proofs.Common.{◌≡◌, ℕ, List, [], ◌∷◌, ◌++◌, take, drop, Bool, true, false, Option, Some, None, is_some, Ok, slice_get, refl, sym, ap, subst, ◌∙◌, inl, inr, append_assoc, append-nil}
 use Rattle.std.specs.Prelude.{codes, unwrap_or}
 use Rattle.std.specs.Option.{option_map}
 use Rattle.vh_base.specs.declared.first.First.{First}
@@ -21,7 +21,9 @@ use Rattle.vh_kernel.specs.declared.control.Control.TheVariants as top
 use Rattle.vh_kernel.specs.declared.occurrence.Told.{Told}
 use Rattle.vh_orders.specs.declared.who.Who.{Who}
 use Rattle.vh_orders.specs.Names.{object_named}
-use Rattle.vh_orders.specs.Orders.{needs_entry}
+use Rattle.vh_orders.specs.Orders.{needs_entry, objects_of}
+use Rattle.vh_orders.specs.Things.{related, word_in}
+use Rattle.vh_base.specs.declared.words.Relation.TheVariants as relation
 use Rattle.vh_orders.specs.declared.who.Who.TheVariants as who_is
 use Rattle.vh_handles.specs.declared.handles.Thing.TheVariants as thing
 use Rattle.vh_kernel.specs.Activations.{Activation}
@@ -41,7 +43,7 @@ use Rattle.vh_kernel.specs.Run.{moves_of}
 use Rattle.vh_kernel_laws.proofs.Openings.{opening}
 use Rattle.vh_kernel.specs.State.{State}
 use Rattle.vh_kernel_laws.specs.Firing.{frames_of, IsTelling, TellsOnce, WasTold, FiresOnce, LeavesNone, DoneOnce, RemovesForGood}
-use Rattle.vh_kernel_laws.specs.HandleLaw.{GivesOnce, GivesLive, GivesRight, FindsLive, RemovalFrees, StaysFreed, RemovesCallbacks, answers_found, FindsNames, IsRegistrable, RegistersAsked}
+use Rattle.vh_kernel_laws.specs.HandleLaw.{GivesOnce, GivesLive, GivesRight, FindsLive, FreedByOrder, FreedThere, StaysFreed, RemovesCallbacks, FreesLive, answers_found, FindsNames, FindsRelated, FindsWords, IsRegistrable, RegistersAsked}
 use Rattle.vh_kernel_laws.specs.Acting.{Orders, OrdersNext, Returns, ReturnsLast}
 use Rattle.vh_app.specs.Next.{next_of}
 use Rattle.vh_orders.specs.Orders.{is_return}
@@ -158,7 +160,7 @@ no-removal-of-nothing s front removal is lives law =
     not_both (is_live 3 removal.1.world.callbacks) lives (law front [] removal 3 refl is).dead
 
 no-handle-left : (front : List Move) (t : State) (x : Thing) → thing_at 3 t.world.handles ≡ Some x
-    → RemovalFrees (front ++ (label.Do (who_is.Callback 2) (order.Remove (Some 3)) (answer.Number 1), t) ∷ []) → ⊥
+    → FreedThere (front ++ (label.Do (who_is.Callback 2) (order.Remove (Some 3)) (answer.Number 1), t) ∷ []) → ⊥
 no-handle-left front t x there law =
     let gone : thing_at 3 t.world.handles ≡ None = law front [] (label.Do (who_is.Callback 2) (order.Remove (Some 3)) (answer.Number 1), t) 3 refl refl in absurd (cc)
 
@@ -294,7 +296,7 @@ frees_the_handle_alone law =
     (removes_three (with_handles (state_at 13).world.handles (state_at 12))) refl law
 
 -- One that leaves the handle.
-leaves_the_handle : RemovalFrees (up_to 13 ++ removal (with_handles (state_at 12).world.handles (state_at 13)) ∷ []) → ⊥
+leaves_the_handle : FreedThere (up_to 13 ++ removal (with_handles (state_at 12).world.handles (state_at 13)) ∷ []) → ⊥
 unfolding instructions_of codes_of scopes_below dotted
 leaves_the_handle law =
     no-handle-left (up_to 13) (with_handles (state_at 12).world.handles (state_at 13)) (thing.Callback 3) refl law
@@ -459,6 +461,36 @@ name_not_found s t text x found room law =
     subst (λ (b : Bool). answers_found (Some x) b answer.Null) room
     (subst (λ (o : Option Object). answers_found o (no_handle_more s.world.handles) answer.Null) found told) in
     let wrong : answer.Null ≡ answer.Handle right.0 = right.1 in absurd (cc)
+
+relation_not_found : (s t : State) (h : ℕ) (y : Thing) (x : Object) → thing_at h s.world.handles ≡ Some y
+    → related (objects_of s.world) relation.VpiScope y ≡ Ok (Some x) → no_handle_more s.world.handles ≡ false
+    → FindsRelated s ((label.Do (who_is.Callback 1) (order.Handle relation.VpiScope (Some h)) answer.Null, t) ∷ []) → ⊥
+relation_not_found s t h y x names leads room law =
+    let told : answers_found (Some x) (no_handle_more s.world.handles) answer.Null =
+    law [] [] (who_is.Callback 1) relation.VpiScope h y (Some x) answer.Null t refl refl names leads in
+    let right : answers_found (Some x) false answer.Null = subst (λ (b : Bool). answers_found (Some x) b answer.Null) room told in
+    let wrong : answer.Null ≡ answer.Handle right.0 = right.1 in absurd (cc)
+
+word_not_found : (s t : State) (h n : ℕ) (y : Thing) (x : Object) → thing_at h s.world.handles ≡ Some y
+    → word_in (objects_of s.world) y n ≡ Ok (Some x) → no_handle_more s.world.handles ≡ false
+    → FindsWords s ((label.Do (who_is.Callback 1) (order.ByIndex (Some h) n) answer.Null, t) ∷ []) → ⊥
+word_not_found s t h n y x names there room law =
+    let told : answers_found (Some x) (no_handle_more s.world.handles) answer.Null =
+    law [] [] (who_is.Callback 1) h n y (Some x) answer.Null t refl refl names there in
+    let right : answers_found (Some x) false answer.Null = subst (λ (b : Bool). answers_found (Some x) b answer.Null) room told in
+    let wrong : answer.Null ≡ answer.Handle right.0 = right.1 in absurd (cc)
+
+-- A live handle that isn't freed when that is asked for, and one that is freed by an order that only asks.
+freeing_refused : (s t : State) (h : ℕ) → is_some (thing_at h s.world.handles) ≡ true
+    → FreesLive s ((label.Do (who_is.Callback 2) (order.Free (Some h)) (answer.Refused code.E1), t) ∷ []) → ⊥
+freeing_refused s t h live law =
+    let right : answer.Refused code.E1 ≡ answer.Number 1 =
+    (law [] [] (who_is.Callback 2) h (answer.Refused code.E1) t refl).frees refl live in absurd (cc)
+
+asking_frees : (s t : State) (h : ℕ) → is_some (thing_at h s.world.handles) ≡ true → thing_at h t.world.handles ≡ None
+    → FreedByOrder s ((label.Do (who_is.Callback 2) order.GetTime (answer.Number 1), t) ∷ []) → ⊥
+asking_frees s t h live gone law =
+    let freed : None ≡ Some h = law [] [] (label.Do (who_is.Callback 2) order.GetTime (answer.Number 1), t) h refl live gone in absurd (cc)
 
 registration_refused : (who : Who) (s t : State) (watched : Option ℕ) (time n : ℕ) (calls : BodyName)
     → IsRegistrable s.world who reason.CbValueChange watched calls

@@ -18,7 +18,7 @@ use Rattle.vh_kernel_laws.specs.Firing.{frames_of, left_of}
 use Rattle.vh_kernel_laws.specs.Paths.{Deed, other, deed_of, fires_for, is_fire, any, was_removed, IsPath, end_of}
 use Rattle.vh_kernel_laws.proofs.CallbacksLemmas.{works-turn, turns_sound, live_low, live_registered, live_removed, gone_removed}
 use Rattle.vh_kernel_laws.proofs.Splits.{not_both, or_right, or_left}
-use Rattle.vh_kernel_laws.proofs.Works.{View, view_of, taken_from, changes_none, opens_one, registers_one, removes_one, Works, works_none, empties, orders_one, tells_one, fires_one, closes_one}
+use Rattle.vh_kernel_laws.proofs.Works.{View, view_of, taken_from, changes_none, opens_one, registers_one, removes_one, frees_one, Works, works_none, empties, orders_one, tells_one, fires_one, closes_one}
 use Rattle.vh_kernel_laws.proofs.WorksLemmas.{made-works}
 
 -- Lists and tests.
@@ -115,6 +115,8 @@ works-falls s l w (orders_one who o a is (registers_one h r b gives fresh room a
     subst (λ (x : View). Falls x.occurrence x.frames) (sym after) falls
 works-falls s l w (orders_one who o a is (removes_one c h by one names after)) falls =
     subst (λ (x : View). Falls x.occurrence x.frames) (sym after) (falls-map c s.occurrence (frames_of s) falls)
+works-falls s l w (orders_one who o a is (frees_one h by one live after)) falls =
+    subst (λ (x : View). Falls x.occurrence x.frames) (sym after) falls
 works-falls s l w (tells_one n what is number after) falls =
     subst (λ (x : View). Falls x.occurrence x.frames) (sym after)
     (omega arith, subst (λ (k : ℕ). Falls k (frames_of s)) (sym number) falls)
@@ -137,6 +139,8 @@ works-number s l w (orders_one who o a is (opens_one h x gives fresh finds after
 works-number s l w (orders_one who o a is (registers_one h r b gives fresh room asks after)) =
     let e : w.occurrence ≡ s.occurrence = ap (λ (x : View). x.occurrence) after in omega arith
 works-number s l w (orders_one who o a is (removes_one c h by one names after)) =
+    let e : w.occurrence ≡ s.occurrence = ap (λ (x : View). x.occurrence) after in omega arith
+works-number s l w (orders_one who o a is (frees_one h by one live after)) =
     let e : w.occurrence ≡ s.occurrence = ap (λ (x : View). x.occurrence) after in omega arith
 works-number s l w (tells_one n what is number after) =
     let e : w.occurrence ≡ n + 1 = ap (λ (x : View). x.occurrence) after in omega arith
@@ -293,6 +297,10 @@ works-sets n set s l w (orders_one who o a is (removes_one c h by one names afte
     ∙ left-without n c l s.world.callbacks set (order-fire l who o a is n) sound has.live in
     subst (λ (fs : List Frame). SetsAre n (left_by n l w.callbacks set) fs) (sym (ap (λ (x : View). x.frames) after))
     (λ i f at of. removed-set n c i s set f has at of ∙ sym less)
+works-sets n set s l w (orders_one who o a is (frees_one h by one live after)) sound has =
+    sets-same n s l w set (ap (λ (x : View). x.frames) after)
+    (left-all n l w.callbacks set (order-fire l who o a is n)
+    (λ c among. ap (λ (x : View). is_live c x.callbacks) after ∙ has.live c among)) has.sets
 works-sets n set s l w (tells_one k what is number after) sound has =
     subst (λ (fs : List Frame). SetsAre n (left_by n l w.callbacks set) fs) (sym (ap (λ (x : View). x.frames) after))
     (λ i f at of. told-set n k i s what set f has number at of ∙ sym (left-all n l w.callbacks set

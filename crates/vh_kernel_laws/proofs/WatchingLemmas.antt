@@ -57,7 +57,7 @@ use Rattle.vh_kernel_laws.proofs.FiringLemmas.{Keeps, Waits, keeps-on, FiredFrom
 use Rattle.vh_kernel_laws.proofs.ActingLemmas.{orders-next, passes-next, returns-last}
 use Rattle.vh_kernel_laws.proofs.PendingLemmas.{tells-in-turn}
 use Rattle.vh_kernel_laws.proofs.Splits.{not_both, path_at}
-use Rattle.vh_kernel_laws.proofs.Works.{View, view_of, taken_from, RegistersAs, changes_none, opens_one, registers_one, removes_one, Works, works_none, empties, orders_one, tells_one, fires_one, closes_one}
+use Rattle.vh_kernel_laws.proofs.Works.{View, view_of, taken_from, RegistersAs, changes_none, opens_one, registers_one, removes_one, frees_one, Works, works_none, empties, orders_one, tells_one, fires_one, closes_one}
 use Rattle.vh_kernel_laws.proofs.WorksLemmas.{first-of, frames-top, frames-settled, made-works}
 use Rattle.vh_kernel_laws.specs.Firing.{Frame, standing, frames_in, frames_of}
 use Rattle.vh_kernel_laws.specs.Laws.{KeepsFiringLaw, all_need_none}
@@ -423,6 +423,8 @@ frame-goes n s m (orders_one who o a is (registers_one h r b gives fresh room as
     inl (frame-kept n s m.1 (ap (λ (y : View). y.frames) after) has)
 frame-goes n s m (orders_one who o a is (removes_one c h by one names after)) (i, f, at, of) =
     inl (i, taken_from c f, ap (λ (x : View). slice_get x.frames i) after ∙ get-map c i (frames_of s) f at, of)
+frame-goes n s m (orders_one who o a is (frees_one h by one live after)) has =
+    inl (frame-kept n s m.1 (ap (λ (y : View). y.frames) after) has)
 frame-goes n s m (tells_one k what is number after) (i, f, at, of) =
     inl (suc i, f, ap (λ (x : View). slice_get x.frames (suc i)) after ∙ at, of)
 frame-goes n s m (fires_one k c f rest is on number among after) (i, g, at, of) =
@@ -478,6 +480,8 @@ works-come s m c (orders_one who o a is (registers_one h r b gives fresh room as
 works-come s m c (orders_one who o a is (removes_one d h by one names after)) sound gone alive =
     absurd (not_both (is_live c m.1.world.callbacks) alive
     (ap (λ (x : View). is_live c x.callbacks) after ∙ gone_by (nat_eq c d) c d s.world.callbacks refl sound gone))
+works-come s m c (orders_one who o a is (frees_one h by one live after)) sound gone alive =
+    absurd (came-alive c s.world.callbacks m.1.world.callbacks gone alive (ap (λ (y : View). y.callbacks) after))
 works-come s m c (tells_one n what is number after) sound gone alive =
     absurd (came-alive c s.world.callbacks m.1.world.callbacks gone alive (ap (λ (x : View). x.callbacks) after))
 works-come s m c (fires_one n d f rest is on number among after) sound gone alive =
@@ -526,6 +530,8 @@ works-same s m c (orders_one who o a is (registers_one h r b gives fresh room as
     }
 works-same s m c (orders_one who o a is (removes_one d h by one names after)) sound was alive =
     kept-by (nat_eq c d) c d s m.1 refl sound (ap (λ (x : View). x.callbacks) after) alive
+works-same s m c (orders_one who o a is (frees_one h by one live after)) sound was alive =
+    same-callbacks c s m.1 (ap (λ (y : View). y.callbacks) after)
 works-same s m c (tells_one n what is number after) sound was alive = same-callbacks c s m.1 (ap (λ (x : View). x.callbacks) after)
 works-same s m c (fires_one n d f rest is on number among after) sound was alive =
     same-callbacks c s m.1 (ap (λ (x : View). x.callbacks) after)

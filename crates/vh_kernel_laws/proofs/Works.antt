@@ -1,6 +1,7 @@
 -- What a label changes of that of which the laws speak: the frames, the callbacks, the handles and the
 -- number of the next occurrence. Each step of the machine is one of six kinds.
-use Rattle.std.proofs.Common.{◌≡◌, ℕ, ◌+◌, List, [], ◌∷◌, map, true, false, Option, Some, Ok}
+use Rattle.std.proofs.Common.{◌≡◌, ℕ, ◌+◌, List, [], ◌∷◌, map, true, false, Option, Some, None, Ok}
+use Rattle.std.specs.Option.{is_some}
 use Rattle.vh_base.specs.declared.faults.Cause.{Cause}
 use Rattle.vh_base.specs.declared.orders.Answer.{Answer}
 use Rattle.vh_base.specs.declared.orders.Answer.TheVariants as answer
@@ -23,6 +24,7 @@ use Rattle.vh_callbacks.specs.Marks.{is_among, without_number}
 use Rattle.vh_kernel.specs.Occurrences.{Occurrence, set_of}
 use Rattle.vh_orders.specs.Orders.{needs_object, object_watched, body_named, registration_of}
 use Rattle.vh_kernel.specs.State.{State}
+use Rattle.vh_kernel_laws.specs.Deeds.{freed_by}
 use Rattle.vh_kernel_laws.specs.Firing.{frames_of}
 use Rattle.vh_kernel_laws.specs.HandleLaw.{FindsObject}
 use Rattle.vh_kernel_laws.specs.Paths.{other, deed_of}
@@ -41,14 +43,17 @@ view_of s = record { frames = frames_of s; callbacks = s.world.callbacks; handle
 abbrev pub taken_from : ℕ → Frame → Frame
 taken_from c f = record f { left = without_number c f.left }
 
--- An answer that gives no handle and counts nothing.
-abbrev pub IsPlain : Answer → Type 0
-IsPlain answer.Done = Unit {0}
-IsPlain answer.Null = Unit {0}
-IsPlain (answer.Handle h) = ⊥
-IsPlain (answer.Number n) = ⊥
-IsPlain (answer.Text text) = Unit {0}
-IsPlain (answer.Refused c) = Unit {0}
+-- An answer that gives no handle, and that of no order that frees one.
+abbrev pub GivesNone : Answer → Type 0
+GivesNone answer.Done = Unit {0}
+GivesNone answer.Null = Unit {0}
+GivesNone (answer.Handle h) = ⊥
+GivesNone (answer.Number n) = Unit {0}
+GivesNone (answer.Text text) = Unit {0}
+GivesNone (answer.Refused c) = Unit {0}
+
+abbrev pub IsPlain : Order → Answer → Type 0
+IsPlain o a = GivesNone a × (freed_by o a ≡ None)
 
 -- What was asked to be registered.
 pub record RegistersAs (s : State) (o : Order) (h : ℕ) (r : Registration) (b : Body) : Type 0 where
@@ -66,7 +71,7 @@ pub record RegistersAs (s : State) (o : Order) (h : ℕ) (r : Registration) (b :
 -- What an order changes is told by its answer.
 pub data Changes (s : State) (o : Order) (a : Answer) (w : View) : Type 0 where
   -- nothing;
-  changes_none : IsPlain a → w ≡ view_of s → Changes s o a w
+  changes_none : IsPlain o a → w ≡ view_of s → Changes s o a w
   -- an object gets a handle;
   opens_one : (h : ℕ) (x : Thing) → a ≡ answer.Handle h → s.world.handles.is_given h ≡ false → FindsObject s o x
       → w ≡ record (view_of s) { handles = opened h x s.world.handles } → Changes s o a w
@@ -77,13 +82,16 @@ pub data Changes (s : State) (o : Order) (a : Answer) (w : View) : Type 0 where
         callbacks = registered r b s.world.callbacks;
         handles = opened h (thing.Callback s.world.callbacks.next) s.world.handles;
       } → Changes s o a w
-  -- the callback that a handle names is removed, from every frame's set too, and the handle is freed.
+  -- the callback that a handle names is removed, from every frame's set too, and the handle is freed;
   removes_one : (c h : ℕ) → o ≡ order.Remove (Some h) → a ≡ answer.Number 1 → thing_at h s.world.handles ≡ Some (thing.Callback c)
       → w ≡ record (view_of s) {
         frames = map (taken_from c) (frames_of s);
         callbacks = removed c s.world.callbacks;
         handles = freed h s.world.handles;
       } → Changes s o a w
+  -- or a handle is freed.
+  frees_one : (h : ℕ) → o ≡ order.Free (Some h) → a ≡ answer.Number 1 → is_some (thing_at h s.world.handles) ≡ true
+      → w ≡ record (view_of s) { handles = freed h s.world.handles } → Changes s o a w
 
 pub data Works (s : State) (l : Label) (w : View) : Type 0 where
   -- nothing;

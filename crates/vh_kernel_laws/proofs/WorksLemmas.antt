@@ -28,7 +28,7 @@ use Rattle.vh_kernel.specs.declared.occurrence.Told.{Told}
 use Rattle.vh_handles.specs.Handles.{opened, freed}
 use Rattle.vh_callbacks.specs.Marks.{is_among, without_number}
 use Rattle.vh_kernel.specs.Occurrences.{Occurrence, is_empty, set_of}
-use Rattle.vh_orders.specs.Orders.{Given, Effect, answered, effect_of, name_meant, object_watched, needs_object}
+use Rattle.vh_orders.specs.Orders.{Given, Effect, answered, effect_of, name_meant, thing_named, Means, of_name, of_relation, of_address, object_watched, needs_object}
 use Rattle.vh_kernel.specs.Outcome.{Made, Outcome, Move, after_made}
 use Rattle.vh_kernel.specs.Settle.{settled, settled_control, is_void, without_front}
 use Rattle.vh_kernel.specs.State.{State, with_top, without_top, without_item, with_frames, with_variables}
@@ -38,7 +38,7 @@ use Rattle.vh_proc_turn.specs.declared.next.Next.{Next}
 use Rattle.vh_proc_turn.specs.declared.next.Next.TheVariants as next
 use Rattle.vh_kernel.specs.Step.{Fits, FitsAnswer, telling_outcome, called, started, is_end}
 use Rattle.vh_kernel.specs.Table.{HasTop, TellsNext, Row, Step}
-use Rattle.vh_orders.proofs.OrdersLemmas.{IsForm, refuses, answers_only, opens_object, registers, removes, effect-form}
+use Rattle.vh_orders.proofs.OrdersLemmas.{TellsOnly, tells_done, tells_null, tells_number, tells_text, IsForm, refuses, answers_only, opens_object, registers, removes, frees, effect-form}
 use Rattle.vh_kernel.proofs.StepLemmas.{AllMade, IsActing, returns, passes, orders, acts}
 use Rattle.vh_kernel.proofs.TableLemmas.{steps-by-table, tells-number}
 use Rattle.vh_dispatch.specs.Frames.{top_set, without_in_top}
@@ -46,8 +46,9 @@ use Rattle.vh_orders.specs.World.{World}
 use Rattle.vh_kernel_laws.specs.Firing.{Frame, standing, frames_in, frames_of}
 use Rattle.vh_kernel_laws.specs.HandleLaw.{FindsObject}
 use Rattle.vh_kernel_laws.specs.Paths.{IsMade}
+use Rattle.vh_kernel_laws.proofs.DeedsLemmas.{no-number-frees, number-frees-none}
 use Rattle.vh_kernel_laws.proofs.Splits.{or_right}
-use Rattle.vh_kernel_laws.proofs.Works.{View, view_of, taken_from, IsPlain, RegistersAs, Changes, changes_none, opens_one, registers_one, removes_one, Works, works_none, empties, orders_one, tells_one, fires_one, closes_one}
+use Rattle.vh_kernel_laws.proofs.Works.{View, view_of, taken_from, IsPlain, RegistersAs, Changes, changes_none, opens_one, registers_one, removes_one, frees_one, Works, works_none, empties, orders_one, tells_one, fires_one, closes_one}
 
 -- A list with this first is that and the rest.
 pub first-of : {X : Type 0} (xs : List X) (x : X) → slice_get xs 0 ≡ Some x → xs ≡ x ∷ drop 1 xs
@@ -208,22 +209,23 @@ in_world w s = record s { world = w }
 abbrev ChangesBy : State → Order → Answer × World → Type 0
 ChangesBy s o p = Changes s o p.0 (view_of (in_world p.1 s))
 
-plain-by : (a : Answer) → (a ≡ answer.Done) ⊎ (a ≡ answer.Null) → IsPlain a
-plain-by a (inl is) = subst (λ (x : Answer). IsPlain x) (sym is) tt
-plain-by a (inr is) = subst (λ (x : Answer). IsPlain x) (sym is) tt
+plain-by : (o : Order) (a : Answer) → TellsOnly o a → IsPlain o a
+plain-by o a (tells_done is) = subst (λ (x : Answer). IsPlain o x) (sym is) (tt, no-number-frees o answer.Done tt)
+plain-by o a (tells_null is) = subst (λ (x : Answer). IsPlain o x) (sym is) (tt, no-number-frees o answer.Null tt)
+plain-by o a (tells_number n none is) = subst (λ (x : Answer). IsPlain o x) (sym is) (tt, number-frees-none o n none)
+plain-by o a (tells_text text is) = subst (λ (x : Answer). IsPlain o x) (sym is) (tt, no-number-frees o (answer.Text text) tt)
 
 abbrev FormChanges : State → Order → Given → Effect → Type 0
 FormChanges s o g e = FitsAnswer s (answered e s.world g).0 → ChangesBy s o (answered e s.world g)
 
 form-changes : (o : Order) (s : State) (g : Given) (e : Effect) → IsForm o s.world e → FormChanges s o g e
 form-changes o s g e (refuses c is) =
-    subst (λ (x : Effect). FormChanges s o g x) (sym is) (λ fits. changes_none tt refl)
+    subst (λ (x : Effect). FormChanges s o g x) (sym is) (λ fits. changes_none (tt, no-number-frees o (answer.Refused c) tt) refl)
 form-changes o s g e (answers_only a plain is) =
-    subst (λ (x : Effect). FormChanges s o g x) (sym is) (λ fits. changes_none (plain-by a plain) refl)
-form-changes o s g e (opens_object text name scope id by means at room is) =
+    subst (λ (x : Effect). FormChanges s o g x) (sym is) (λ fits. changes_none (plain-by o a plain) refl)
+form-changes o s g e (opens_object x means room is) =
     subst (λ (x : Effect). FormChanges s o g x) (sym is)
-    (λ fits. opens_one g.handle _ refl fits
-    (record { text = text; scope = scope; name = name; object = id; asks = by; means = means; found = at; names = refl }) refl)
+    (λ fits. opens_one g.handle _ refl fits (record { object = x; means = means; names = refl }) refl)
 form-changes o s g e (registers r h time n body object b by watches calls room free is) =
     subst (λ (x : Effect). FormChanges s o g x) (sym is)
     (λ fits. registers_one g.handle _ b refl fits room (record {
@@ -244,6 +246,8 @@ form-changes o s g e (removes c h by names is) =
     (framed (record (view_of s) { callbacks = removed c s.world.callbacks; handles = freed h s.world.handles })
     (frames_in s.control (map (without_number c) s.world.frames)) (map (taken_from c) (frames_of s))
     (frames-without c s.control s.world.frames)))
+form-changes o s g e (frees h by live is) =
+    subst (λ (x : Effect). FormChanges s o g x) (sym is) (λ fits. frees_one h by refl live refl)
 
 -- The same change, seen from the state with the activation on top.
 abbrev pub performing : List (List Answer) → State → State
@@ -260,17 +264,18 @@ same-watched vars s false r h = refl
 same-watched vars s true r None = refl
 same-watched vars s true r (Some h) = refl
 
+same-thing_named : (vars : List (List Answer)) (s : State) (h : Option ℕ) → thing_named h (performing vars s).world ≡ thing_named h s.world
+same-thing_named vars s None = refl
+same-thing_named vars s (Some h) = refl
+
+same-means : (vars : List (List Answer)) (s : State) (o : Order) (x : Object) → Means o (performing vars s).world x → Means o s.world x
+same-means vars s o x (of_name text name scope asks means found) =
+    of_name text name scope asks (sym (same-meant vars s scope text) ∙ means) found
+same-means vars s o x (of_relation r h t asks names leads) = of_relation r h t asks (sym (same-thing_named vars s h) ∙ names) leads
+same-means vars s o x (of_address h n t asks names leads) = of_address h n t asks (sym (same-thing_named vars s h) ∙ names) leads
+
 same-finds : (vars : List (List Answer)) (s : State) (o : Order) (x : Thing) → FindsObject (performing vars s) o x → FindsObject s o x
-same-finds vars s o x f = record {
-  text = f.text;
-  scope = f.scope;
-  name = f.name;
-  object = f.object;
-  asks = f.asks;
-  means = sym (same-meant vars s f.scope f.text) ∙ f.means;
-  found = f.found;
-  names = f.names;
-}
+same-finds vars s o x f = record { object = f.object; means = same-means vars s o f.object f.means; names = f.names }
 
 same-registers : (vars : List (List Answer)) (s : State) (o : Order) (h : ℕ) (r : Registration) (b : Body)
     → RegistersAs (performing vars s) o h r b → RegistersAs s o h r b
@@ -309,6 +314,8 @@ changes-from vars s o a w same (removes_one c h by one names is) =
     (is ∙ framed (record (view_of s) { callbacks = removed c s.world.callbacks; handles = freed h s.world.handles })
     (map (taken_from c) (below_top s)) (map (taken_from c) (frames_of s))
     (ap (λ (fs : List Frame). map (taken_from c) fs) same))
+changes-from vars s o a w same (frees_one h by one live is) =
+    frees_one h by one live (is ∙ framed (record (view_of s) { handles = freed h s.world.handles }) (below_top s) (frames_of s) same)
 
 fits-from : (vars : List (List Answer)) (s : State) (a : Answer) → FitsAnswer s a → FitsAnswer (performing vars s) a
 fits-from vars s answer.Done fits = fits

@@ -13,8 +13,9 @@ use Rattle.vh_kernel.specs.declared.label.Label.TheVariants as label
 use Rattle.vh_kernel.specs.State.{State}
 use Rattle.vh_orders.specs.World.{World}
 
--- The handle that an order frees: that of an answered removal.
+-- The handle that an order frees: that of an answered `free`, and that of an answered removal.
 abbrev pub freed_by : Order → Answer → Option ℕ
+freed_by (order.Free h) (answer.Number n) = h
 freed_by (order.Remove h) (answer.Number n) = h
 freed_by _ _ = None
 

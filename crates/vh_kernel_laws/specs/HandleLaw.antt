@@ -10,6 +10,7 @@ use Rattle.vh_base.specs.declared.orders.Order.{Order}
 use Rattle.vh_base.specs.declared.orders.Order.TheVariants as order
 use Rattle.vh_base.specs.declared.words.Code.TheVariants as code
 use Rattle.vh_base.specs.declared.words.Reason.{Reason}
+use Rattle.vh_base.specs.declared.words.Relation.{Relation}
 use Rattle.vh_callbacks.specs.Callbacks.{info_of, body_of, is_full}
 use Rattle.vh_orders.specs.declared.who.Body.{Body}
 use Rattle.vh_orders.specs.declared.who.Who.{Who}
@@ -19,7 +20,8 @@ use Rattle.vh_kernel.specs.declared.label.Label.{Label}
 use Rattle.vh_kernel.specs.declared.label.Label.TheVariants as label
 use Rattle.vh_handles.specs.Handles.{thing_at, no_handle_more}
 use Rattle.vh_orders.specs.Names.{object_named}
-use Rattle.vh_orders.specs.Orders.{is_startup, name_meant, needs_object, needs_entry, object_watched, body_named, registration_of, handles_read, all_named}
+use Rattle.vh_orders.specs.Orders.{is_startup, name_meant, objects_of, Means, needs_object, needs_entry, object_watched, body_named, registration_of, handles_read, all_named}
+use Rattle.vh_orders.specs.Things.{related, word_in}
 use Rattle.vh_orders.specs.World.{World}
 use Rattle.vh_kernel.specs.Outcome.{Move}
 use Rattle.vh_kernel.specs.State.{State}
@@ -62,15 +64,10 @@ GivesOnce moves =
     → moves ≡ before ++ (label.Do who o (answer.Handle h), t) ∷ behind
     → (any (is_giving h) before ≡ false) × (any (is_giving h) behind ≡ false)
 
--- A handle is given for the object, or the word, of the name that was asked for,
+-- A handle is given for the object, or the word, that was asked for: by its name, by a relation, by an address,
 pub record FindsObject (s : State) (o : Order) (x : Thing) : Type 0 where
-  pub text : List ℕ
-  pub scope : Option ℕ
-  pub name : List ℕ
   pub object : Object
-  pub asks : o ≡ order.ByName text scope
-  pub means : name_meant scope text s.world ≡ Ok name
-  pub found : object_named name s.world.names ≡ Some object
+  pub means : Means o s.world object
   pub names : x ≡ thing.Object object
 
 -- Or for the callback that was registered, which is live from then on with what was asked for.
@@ -116,15 +113,15 @@ FindsLive s moves =
     → all_named (end_of s before).world (handles_read o) ≡ true → a ≡ answer.Refused code.E1 → ⊥
 
 -- A handle stops being live only where a label frees it,
-abbrev pub FreedByRemoval : State → List Move → Type 0
-FreedByRemoval s moves =
+abbrev pub FreedByOrder : State → List Move → Type 0
+FreedByOrder s moves =
     (before behind : List Move) (m : Move) (h : ℕ) → moves ≡ before ++ m ∷ behind
     → is_some (thing_at h (end_of s before).world.handles) ≡ true → thing_at h m.1.world.handles ≡ None
     → frees m.0 ≡ Some h
 
 -- And what a label frees is live no more.
-abbrev pub RemovalFrees : List Move → Type 0
-RemovalFrees moves =
+abbrev pub FreedThere : List Move → Type 0
+FreedThere moves =
     (before behind : List Move) (m : Move) (h : ℕ) → moves ≡ before ++ m ∷ behind → frees m.0 ≡ Some h
     → thing_at h m.1.world.handles ≡ None
 
@@ -147,6 +144,16 @@ RemovesCallbacks s moves =
     (before behind : List Move) (who : Who) (h : ℕ) (a : Answer) (t : State)
     → moves ≡ before ++ (label.Do who (order.Remove (Some h)) a, t) ∷ behind → AnswersRemoval (end_of s before) who h a
 
+-- A `free` of a live handle is answered 1, and none of another.
+pub record AnswersFreeing (s : State) (who : Who) (h : ℕ) (a : Answer) : Type 0 where
+  pub frees : is_startup who ≡ false → is_some (thing_at h s.world.handles) ≡ true → a ≡ answer.Number 1
+  pub live : a ≡ answer.Number 1 → is_some (thing_at h s.world.handles) ≡ true
+
+abbrev pub FreesLive : State → List Move → Type 0
+FreesLive s moves =
+    (before behind : List Move) (who : Who) (h : ℕ) (a : Answer) (t : State)
+    → moves ≡ before ++ (label.Do who (order.Free (Some h)) a, t) ∷ behind → AnswersFreeing (end_of s before) who h a
+
 -- The name of an object is found: a handle is given, unless as many are live as may be; and null where the name is of none.
 abbrev pub answers_found : Option Object → Bool → Answer → Type 0
 answers_found None is_full a = a ≡ answer.Null
@@ -159,6 +166,21 @@ FindsNames s moves =
     → moves ≡ before ++ (label.Do who (order.ByName text scope) a, t) ∷ behind → is_startup who ≡ false
     → name_meant scope text (end_of s before).world ≡ Ok name
     → answers_found (object_named name (end_of s before).world.names) (no_handle_more (end_of s before).world.handles) a
+
+-- And so is what a relation leads to, and the word of a memory at an address.
+abbrev pub FindsRelated : State → List Move → Type 0
+FindsRelated s moves =
+    (before behind : List Move) (who : Who) (r : Relation) (h : ℕ) (x : Thing) (found : Option Object) (a : Answer) (t : State)
+    → moves ≡ before ++ (label.Do who (order.Handle r (Some h)) a, t) ∷ behind → is_startup who ≡ false
+    → thing_at h (end_of s before).world.handles ≡ Some x → related (objects_of (end_of s before).world) r x ≡ Ok found
+    → answers_found found (no_handle_more (end_of s before).world.handles) a
+
+abbrev pub FindsWords : State → List Move → Type 0
+FindsWords s moves =
+    (before behind : List Move) (who : Who) (h n : ℕ) (x : Thing) (found : Option Object) (a : Answer) (t : State)
+    → moves ≡ before ++ (label.Do who (order.ByIndex (Some h) n) a, t) ∷ behind → is_startup who ≡ false
+    → thing_at h (end_of s before).world.handles ≡ Some x → word_in (objects_of (end_of s before).world) x n ≡ Ok found
+    → answers_found found (no_handle_more (end_of s before).world.handles) a
 
 -- A registration that nothing speaks against is answered a handle.
 pub record IsRegistrable (w : World) (who : Who) (reason : Reason) (watched : Option ℕ) (calls : BodyName) : Type 0 where

@@ -15,7 +15,7 @@ use Rattle.vh_kernel.specs.State.{State}
 use Rattle.vh_kernel.specs.Step.{is_over}
 use Rattle.vh_kernel_laws.specs.Paths.{IsPath}
 use Rattle.vh_kernel_laws.specs.Firing.{TellsOnce, FiresOnce, KeepsSets, LeavesNone, DoneOnce, ClosesInOrder, GoesByRemoval, RemovesForGood}
-use Rattle.vh_kernel_laws.specs.HandleLaw.{GivesOnce, GivesLive, NamesOne, FindsLive, FreedByRemoval, RemovalFrees, StaysFreed, RemovesCallbacks, FindsNames, RegistersAsked}
+use Rattle.vh_kernel_laws.specs.HandleLaw.{GivesOnce, GivesLive, NamesOne, FindsLive, FreedByOrder, FreedThere, StaysFreed, RemovesCallbacks, FreesLive, FindsNames, FindsRelated, FindsWords, RegistersAsked}
 use Rattle.vh_kernel_laws.specs.Acting.{OrdersNext, PassesNext, ReturnsLast}
 use Rattle.vh_kernel_laws.specs.Pending.{TellsInTurn}
 use Rattle.vh_kernel_laws.specs.Watching.{TellsThoseWhoWatch, FiresTop, ClosesTop, FramesStand, ComesByRegistration, StaysAsRegistered}
@@ -47,11 +47,14 @@ pub record KeepsHandleLaw (s : State) (moves : List Move) : Type 0 where
   pub given_live : GivesLive s moves
   pub names_one : NamesOne moves
   pub finds_live : FindsLive s moves
-  pub freed_by_removal : FreedByRemoval s moves
-  pub removal_frees : RemovalFrees moves
+  pub freed_by_order : FreedByOrder s moves
+  pub freed_there : FreedThere moves
   pub stays_freed : StaysFreed s moves
   pub removes_callbacks : RemovesCallbacks s moves
+  pub frees_live : FreesLive s moves
   pub finds_names : FindsNames s moves
+  pub finds_related : FindsRelated s moves
+  pub finds_words : FindsWords s moves
   pub registers_asked : RegistersAsked s moves
 
 pub record KeepsLaws (s : State) (moves : List Move) : Type 0 where

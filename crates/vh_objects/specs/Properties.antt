@@ -22,7 +22,7 @@ use Rattle.vh_objects.specs.Kinds.{kind_text, is_module, is_port, has_name, obje
 use Rattle.vh_objects.specs.Objects.{info_at, object_kind}
 use Rattle.vh_objects.specs.Relations.{index_in}
 
--- Which properties `get_str` answers, and which `get`. (27.7 and 27.11)
+-- Which properties `get_str` answers, and which `get`. (27.6 and 27.10)
 abbrev pub is_by_get_str : Property → Bool
 is_by_get_str property_word.VpiType = false
 is_by_get_str property_word.VpiSize = false

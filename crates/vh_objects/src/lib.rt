@@ -25,5 +25,5 @@ pub use found::Found;
 pub use kind::ObjectKind;
 pub use kinds::{has_name, has_path};
 pub use lister::{Lister, count_from};
-pub use properties::{is_by_get_str, property, push_address};
+pub use properties::{is_by_get_str, property, push_address, text_answer};
 pub use relation::{info_at, kind_of, one};

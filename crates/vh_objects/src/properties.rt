@@ -13,7 +13,7 @@ use vh_base::{Answer, Code, NoMemory, Object, Property, Short};
 use vh_design::{Design, Detail, Kind, NetType, ObjectInfo};
 use vh_design_names::full_name;
 
-/// Whether `get_str` answers the property, and not `get` (IEEE 1364-2005, 27.7 and 27.11).
+/// Whether `get_str` answers the property, and not `get` (IEEE 1364-2005, 27.6 and 27.10).
 pub fn is_by_get_str(property: Property) -> bool
     ensures { result ≡ is_by_get_str property }
 {
@@ -23,8 +23,8 @@ pub fn is_by_get_str(property: Property) -> bool
     )
 }
 
-// A text that is answered: one above 255 bytes doesn't fit.
-fn text_answer(alloc: Global, text: &[u8]) -> Result<Answer, NoMemory>
+/// A text that is answered: one above 255 bytes doesn't fit, which is E16.
+pub fn text_answer(alloc: Global, text: &[u8]) -> Result<Answer, NoMemory>
     ensures { IfOk result (λ a. a ≡ text_answer text.now) }
 {
     match Short::new(alloc, text)? {

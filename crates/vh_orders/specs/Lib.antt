@@ -6,6 +6,8 @@ pub mod Addresses
 pub mod LookUp
 -- What orders read and change.
 pub mod World
+-- What is asked of what a handle names
+pub mod Things
 -- What each order is answered and what it changes, a row for each.
 pub mod Orders
 -- How contracts see a world, and what its functions do to it.

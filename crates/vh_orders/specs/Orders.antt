@@ -1,6 +1,6 @@
 -- What an order is answered and what it changes: a row for each order, its checks in the row's order.
 -- (IEEE 1364-2005, clause 27, in this project's profile; the codes of errors are own)
-use Rattle.std.specs.Prelude.{ℕ, List, [], ◌∷◌, map, Bool, true, false, if◌then◌else◌, not, ◌&&◌, Option, Some, None, is_some, Result, Ok, Err, bytes_eq, ok_or, option_map, position, slice_get}
+use Rattle.std.specs.Prelude.{◌≡◌, ℕ, List, [], ◌∷◌, map, Bool, true, false, if◌then◌else◌, not, ◌&&◌, ◌==◌, Option, Some, None, is_some, is_none, Result, Ok, Err, bytes_eq, ok_or, option_map, position, slice_get}
 use Rattle.vh_base.specs.declared.orders.Answer.{Answer}
 use Rattle.vh_base.specs.declared.orders.Answer.TheVariants as answer
 use Rattle.vh_base.specs.declared.orders.BodyName.{BodyName}
@@ -10,6 +10,7 @@ use Rattle.vh_base.specs.declared.orders.Order.{Order}
 use Rattle.vh_base.specs.declared.orders.Order.TheVariants as order
 use Rattle.vh_base.specs.declared.words.Code.{Code}
 use Rattle.vh_base.specs.declared.words.Code.TheVariants as code
+use Rattle.vh_base.specs.declared.words.Property.{Property}
 use Rattle.vh_base.specs.declared.words.Reason.{Reason}
 use Rattle.vh_base.specs.declared.words.Reason.TheVariants as reason
 use Rattle.vh_base.specs.declared.words.Relation.{Relation}
@@ -26,8 +27,11 @@ use Rattle.vh_callbacks.specs.Marks.{without_number}
 use Rattle.vh_handles.specs.declared.handles.Thing.{Thing}
 use Rattle.vh_handles.specs.declared.handles.Thing.TheVariants as thing
 use Rattle.vh_handles.specs.Handles.{thing_at, opened, freed, no_handle_more}
+use Rattle.vh_design_nodes.specs.declared.object.ObjectInfo.{ObjectInfo}
 use Rattle.vh_design_nodes.specs.Kinds.{is_scope}
+use Rattle.vh_objects.specs.Properties.{is_by_get_str}
 use Rattle.vh_orders.specs.Names.{object_named, name_of, is_kind, may_watch, below}
+use Rattle.vh_orders.specs.Things.{related, word_in, property_in, info_in, same_thing, error_number}
 use Rattle.vh_orders.specs.World.{World}
 
 -- An order is refused with an error, and nothing changes; or it is answered; or it gives a new handle,
@@ -82,6 +86,14 @@ new_handle None w = Ok (answers answer.Null w)
 new_handle (Some o) w =
     unless (no_handle_more w.handles) code.E10
     (Ok (opens (λ h. record w { handles = opened h (thing.Object o) w.handles })))
+
+-- The thing that a handle names: E1 where it is null or isn't live.
+abbrev pub thing_named : Option ℕ → World → Result Thing Code
+thing_named h w = with_some h code.E1 (λ n. ok_or (thing_at n w.handles) code.E1)
+
+-- The objects of the design.
+abbrev pub objects_of : World → List ObjectInfo
+objects_of w = w.activity.design.objects
 
 -- Which reasons watch an object. (27.33)
 abbrev pub needs_object : Reason → Bool
@@ -243,6 +255,41 @@ abbrev pub all_named : World → List (Option ℕ) → Bool
 all_named w [] = true
 all_named w (h ∷ hs) = all_named w hs && is_named w h
 
+-- What a relation leads to from what a handle names. The relation of the running call leads from null, to nothing while no
+-- user system task or function runs. (27.16)
+abbrev pub one_related : Bool → Relation → Option ℕ → World → Effect
+one_related true r h w = Ok (answers answer.Null w)
+one_related false r h w = with_ok (thing_named h w) (λ t. with_ok (related (objects_of w) r t) (λ found. new_handle found w))
+
+-- A number or a text that is told; E3 where the kind has no such property.
+abbrev pub told : Option Answer → World → Effect
+told None w = Err code.E3
+told (Some answer.Done) w = Err code.E3
+told (Some answer.Null) w = Err code.E3
+told (Some (answer.Handle h)) w = Err code.E3
+told (Some (answer.Number n)) w = Ok (answers (answer.Number n) w)
+told (Some (answer.Text text)) w = Ok (answers (answer.Text text) w)
+told (Some (answer.Refused c)) w = Err c
+
+-- A property of what a handle names, of those that the routine answers.
+abbrev pub property_told : Bool → Property → Option ℕ → World → Effect
+property_told other p h w =
+    with_ok (thing_named h w) (λ t. unless other code.E3 (told (property_in (objects_of w) p t) w))
+
+-- A handle is freed, and what it named stays. (27.5)
+abbrev pub without_handle : Option ℕ → World → World
+without_handle None w = w
+without_handle (Some h) w = record w { handles = freed h w.handles }
+
+-- Are two handles one?
+abbrev pub same_handle : Option ℕ → Option ℕ → Bool
+same_handle None b = false
+same_handle (Some a) None = false
+same_handle (Some a) (Some b) = a == b
+
+abbrev pub flag_number : Bool → ℕ
+flag_number b = if b then 1 else 0
+
 -- An order that no script gives yet is refused, after the checks that stand before all others.
 abbrev pub not_yet : Order → Who → World → Effect
 not_yet o who w =
@@ -256,18 +303,33 @@ abbrev pub effect_of : Order → Who → World → Effect
 effect_of (order.ByName text scope) who w =
     unless (is_startup who) code.E9
     (with_ok (name_meant scope text w) (λ name. new_handle (object_named name w.names) w))
-effect_of (order.ByIndex h n) who w = not_yet (order.ByIndex h n) who w
-effect_of (order.Handle r h) who w = not_yet (order.Handle r h) who w
+-- by_index (27.17)
+effect_of (order.ByIndex h n) who w =
+    unless (is_startup who) code.E9
+    (with_ok (thing_named h w) (λ t. with_ok (word_in (objects_of w) t n) (λ found. new_handle found w)))
+-- handle (27.16)
+effect_of (order.Handle r h) who w = unless (is_startup who) code.E9 (one_related (is_running_call r && is_none h) r h w)
 effect_of (order.Iterate r h) who w = not_yet (order.Iterate r h) who w
 effect_of (order.Scan h) who w = not_yet (order.Scan h) who w
-effect_of (order.Free h) who w = not_yet (order.Free h) who w
-effect_of (order.Compare a b) who w = not_yet (order.Compare a b) who w
-effect_of (order.Get property h) who w = not_yet (order.Get property h) who w
-effect_of (order.GetStr property h) who w = not_yet (order.GetStr property h) who w
+-- free (27.5)
+effect_of (order.Free h) who w =
+    unless (is_startup who) code.E9 (with_ok (thing_named h w) (λ t. Ok (answers (answer.Number 1) (without_handle h w))))
+-- compare (27.2)
+effect_of (order.Compare a b) who w =
+    unless (is_startup who) code.E9
+    (with_ok (thing_named a w) (λ t.
+    with_ok (thing_named b w) (λ u.
+    Ok (answers (answer.Number (flag_number (same_thing (same_handle a b) t u))) w))))
+-- get (27.6) and get_str (27.10)
+effect_of (order.Get property h) who w =
+    unless (is_startup who) code.E9 (property_told (is_by_get_str property) property h w)
+effect_of (order.GetStr property h) who w =
+    unless (is_startup who) code.E9 (property_told (not (is_by_get_str property)) property h w)
 effect_of (order.GetValue h format) who w = not_yet (order.GetValue h format) who w
 effect_of (order.PutValue h format text mode time event) who w = not_yet (order.PutValue h format text mode time event) who w
 effect_of (order.Cancel h) who w = not_yet (order.Cancel h) who w
-effect_of order.GetTime who w = not_yet order.GetTime who w
+-- get_time (27.12)
+effect_of order.GetTime who w = Ok (answers (answer.Number w.activity.queue.time) w)
 -- Register (27.33)
 effect_of (order.Register r h time body n) who w =
     unless (is_startup who && needs_object r) code.E9
@@ -281,9 +343,13 @@ effect_of (order.Remove h) who w =
     (with_some h code.E1 (λ n.
     with_ok (callback_in (thing_at n w.handles)) (λ c.
     Ok (answers (answer.Number 1) (without_callback c n w)))))
-effect_of (order.CbInfo h) who w = not_yet (order.CbInfo h) who w
+-- cb_info (27.7)
+effect_of (order.CbInfo h) who w =
+    unless (is_startup who) code.E9
+    (with_ok (thing_named h w) (λ t. with_ok (info_in w.callbacks t) (λ a. told (Some a) w)))
 effect_of (order.RegisterSystf kind text n calltf compiletf) who w = not_yet (order.RegisterSystf kind text n calltf compiletf) who w
-effect_of order.ChkError who w = not_yet order.ChkError who w
+-- chk_error (27.1)
+effect_of order.ChkError who w = Ok (answers (answer.Number (error_number w.error)) w)
 effect_of (order.Control stop) who w = not_yet (order.Control stop) who w
 effect_of (order.Print text) who w = Ok (answers answer.Done w)
 effect_of (order.SetData n) who w = not_yet (order.SetData n) who w
@@ -299,12 +365,26 @@ error_in (answer.Number n) = None
 error_in (answer.Text text) = None
 error_in (answer.Refused c) = Some c
 
--- The order is performed: it is answered, and the error of its answer is kept.
-abbrev pub with_error : Answer × World → Answer × World
-with_error x = (x.0, record x.1 { error = error_in x.0 })
+-- The error that is kept: that of the answer, but for an order that asks for it.
+abbrev pub error_after : Order → Answer → Option Code → Option Code
+error_after order.ChkError a kept = kept
+error_after _ a kept = error_in a
+
+-- The order is performed: it is answered, and its error is kept.
+abbrev pub with_error : Order → Option Code → Answer × World → Answer × World
+with_error o kept x = (x.0, record x.1 { error = error_after o x.0 kept })
 
 abbrev pub performed : Order → Who → World → Given → Answer × World
-performed o who w g = with_error (answered (effect_of o who w) w g)
+performed o who w g = with_error o w.error (answered (effect_of o who w) w g)
+
+-- The object that an order gives a handle of: that of a name, what a relation leads to, or a word of a memory.
+pub data Means (o : Order) (w : World) (x : Object) : Type 0 where
+  of_name : (text name : List ℕ) (scope : Option ℕ) → o ≡ order.ByName text scope → name_meant scope text w ≡ Ok name
+      → object_named name w.names ≡ Some x → Means o w x
+  of_relation : (r : Relation) (h : Option ℕ) (t : Thing) → o ≡ order.Handle r h → thing_named h w ≡ Ok t
+      → related (objects_of w) r t ≡ Ok (Some x) → Means o w x
+  of_address : (h : Option ℕ) (n : ℕ) (t : Thing) → o ≡ order.ByIndex h n → thing_named h w ≡ Ok t
+      → word_in (objects_of w) t n ≡ Ok (Some x) → Means o w x
 
 -- Does an activation return?
 abbrev pub is_return : Order → Bool

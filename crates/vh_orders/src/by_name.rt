@@ -65,7 +65,7 @@ impl World {
     }
 
     // A new handle of an object, if there is one.
-    fn open(&mut self, alloc: Global, object: Option<Object>) -> Result<Answer, Halt>
+    pub(crate) fn open(&mut self, alloc: Global, object: Option<Object>) -> Result<Answer, Halt>
         ensures { HasEffect (new_handle object (world_of self.old)) self.old result self.new }
     {
         let Some(object) = object else {

@@ -6,10 +6,11 @@
 //! Want of memory is the one free answer. It wakes nobody and knows neither control nor the
 //! event queue: a removal reaches every frame through the registry's sets. It stands on
 //! `vh_app`, whose scripts have procedures, `vh_callbacks` and `vh_dispatch`, which keep the
-//! callbacks and the frames' sets, and `vh_handles`.
+//! callbacks and the frames' sets, `vh_handles`, and `vh_objects`, which walks the design.
 #![tactic(auto)]
 
 mod addresses;
+mod asking;
 mod by_name;
 mod halt;
 mod look_up;
@@ -20,6 +21,7 @@ mod reads;
 mod register;
 mod remove;
 mod tables;
+mod walking;
 mod who;
 mod world;
 

@@ -2,8 +2,9 @@ ghost use Rattle.std.specs.Prelude.{◌≡◌, false, IfOk, Err};
 ghost use Rattle.vh_orders.specs.Orders.{performed, answered, effect_of, not_yet, is_pass, is_return};
 ghost use Rattle.vh_orders.specs.Views.{world_of, given_by, HasEffect};
 
+use crate::asking::error_number;
 use crate::halt::Halt;
-use crate::tables::{error_in, is_startup};
+use crate::tables::{error_after, is_startup};
 use crate::who::Who;
 use crate::world::World;
 use std::alloc::Global;
@@ -22,7 +23,7 @@ pub fn perform(alloc: Global, w: &mut World, who: Who, order: &Order) -> Result<
         ≡ (a, world_of w.new)) }
 {
     let answer = w.answer(alloc, &who, order)?;
-    w.last_error = error_in(&answer);
+    w.last_error = error_after(order, &answer, w.last_error);
     Ok(answer)
 }
 
@@ -65,21 +66,21 @@ impl World {
             }
             Order::Remove { h } => self.remove(who, *h),
             Order::Print { .. } => Ok(Answer::Done),
-            Order::ByIndex { .. }
-            | Order::Handle { .. }
-            | Order::Iterate { .. }
+            Order::ByIndex { h, n } => self.by_index(alloc, who, *h, *n),
+            Order::Handle { relation, h } => self.handle(alloc, who, *relation, *h),
+            Order::Free { h } => self.free(who, *h),
+            Order::Compare { a, b } => self.compare(who, *a, *b),
+            Order::Get { property, h } => self.get(alloc, who, *property, *h),
+            Order::GetStr { property, h } => self.get_str(alloc, who, *property, *h),
+            Order::GetTime => Ok(Answer::Number(self.simulation.time())),
+            Order::CbInfo { h } => self.cb_info(alloc, who, *h),
+            Order::ChkError => Ok(Answer::Number(error_number(self.last_error))),
+            Order::Iterate { .. }
             | Order::Scan { .. }
-            | Order::Free { .. }
-            | Order::Compare { .. }
-            | Order::Get { .. }
-            | Order::GetStr { .. }
             | Order::GetValue { .. }
             | Order::PutValue { .. }
             | Order::Cancel { .. }
-            | Order::GetTime
-            | Order::CbInfo { .. }
             | Order::RegisterSystf { .. }
-            | Order::ChkError
             | Order::Control { .. }
             | Order::SetData { .. }
             | Order::Pass

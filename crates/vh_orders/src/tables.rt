@@ -1,5 +1,5 @@
 ghost use Rattle.std.specs.Prelude.{◌≡◌};
-ghost use Rattle.vh_orders.specs.Orders.{is_startup, needs_object, needs_entry, is_running_call, is_module, error_in, is_pass, is_return};
+ghost use Rattle.vh_orders.specs.Orders.{is_startup, needs_object, needs_entry, is_running_call, is_module, error_in, error_after, is_pass, is_return};
 
 use crate::who::Who;
 use vh_base::{Answer, Code, Order, Reason, Relation};
@@ -50,7 +50,7 @@ pub(crate) fn is_module(relation: Relation) -> bool
 }
 
 // The error of an answer, if it is one.
-pub(crate) fn error_in(answer: &Answer) -> Option<Code>
+fn error_in(answer: &Answer) -> Option<Code>
     ensures { result ≡ error_in answer.now }
 {
     match answer {
@@ -58,6 +58,16 @@ pub(crate) fn error_in(answer: &Answer) -> Option<Code>
         Answer::Done | Answer::Null | Answer::Handle(_) | Answer::Number(_) | Answer::Text(_) => {
             None
         }
+    }
+}
+
+// The error that is kept after an order: that of the answer, but for an order that asks for it.
+pub(crate) fn error_after(order: &Order, answer: &Answer, kept: Option<Code>) -> Option<Code>
+    ensures { result ≡ error_after order.now answer.now kept }
+{
+    match order {
+        Order::ChkError => kept,
+        _ => error_in(answer),
     }
 }
 
