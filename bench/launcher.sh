@@ -580,14 +580,17 @@ refused_so() {
     cat "$work/behind" >>"$work/wanted"
     holds cmp -s "$work/lines" "$work/wanted"
 }
-# on_terminal WORD..: what a call with these words writes to a terminal as its standard error goes to $work/lines.
+# on_terminal WORD..: what a call with these words writes to a terminal as its standard error goes to $work/lines. Standard output is
+# a file, or with PIPED set a pipe.
 on_terminal() {
     cat >"$work/call" <<'CALL'
-import os, pty, sys
+import os, pty, subprocess, sys
 parent, child = pty.fork()
 if parent == 0:
     with open(sys.argv[1], "wb") as text:
         os.dup2(text.fileno(), 1)
+    if os.environ.get("PIPED"):
+        os.dup2(subprocess.Popen(["cat"], stdin=subprocess.PIPE).stdin.fileno(), 1)
     os.execv("./vhost", ["./vhost"] + sys.argv[3:])
 shown = b""
 while True:
@@ -720,8 +723,8 @@ run 1.v 2.v 3.v 4.v 5.v 6.v 7.v 8.v 9.app|there are 9 files, and a run takes eig
 WORDS
     said 'there is no word run; vhost --help prints a page' 'see docs/FAULTS.md#usage'
     refused_so "$usage" 1
-    # a budget that is spent, and of which time the last line is where standard output is a file
-    said 'the run made 100000000 steps and isn'"'"'t over' \
+    # a budget that is spent, and of which time the last line is where standard output is a file, or how that is seen
+    said 'the run made 100000000 steps and isn'"'"'t over; no line of its transcript tells a time, and initial forever #1 $display("%0d", $time); shows each' \
         'where time stands still, a loop without a delay goes on; else --budget N gives it more steps, or $finish an end' 'see docs/FAULTS.md#budget'
     refused_so "budget spent" 5 run a.v
     said 'the run made 20 steps and isn'"'"'t over; the last line of its transcript is of time 17' \
@@ -730,7 +733,12 @@ WORDS
     export RAN
     refused_so "budget spent" 5 run --budget=20 a.v
     refused_so "budget spent" 5 run a.v --budget 20
-    unset RAN
+    said 'the run made 20 steps and isn'"'"'t over; the last line of its transcript begins with its time' \
+        'where time stands still, a loop without a delay goes on; else --budget N gives it more steps, or $finish an end' 'see docs/FAULTS.md#budget'
+    PIPED=yes
+    export PIPED
+    refused_so "budget spent" 5 run a.v --budget 20
+    unset RAN PIPED
     # a file that isn't there, is a folder or a link, or is too long
     rm -f gone.v && mkdir -p folder.v && ln -sf itself.v itself.v && ln -sf nowhere.v lost.v && head -c 4194305 /dev/zero >much.v
     cp a.v counter.v

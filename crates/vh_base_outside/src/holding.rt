@@ -1,4 +1,5 @@
-ghost use Rattle.std.specs.Prelude.{◌≡◌, ◌++◌, ◌≤◌, [], None, length, OnOk, OnErr, IfOk, IsTrue, if◌then◌else◌};
+ghost use Rattle.std.specs.Prelude.{◌≡◌, ◌++◌, ◌*◌, ◌-◌, ◌≤◌, ◌↔◌, [], None, length, OnOk, OnErr, IfOk, IsTrue, IsFalse, if◌then◌else◌};
+ghost use Rattle.std.specs.Time.{instant_nanos};
 ghost use Rattle.vh_base.specs.Outside.{appended, AppendsFront};
 ghost use Rattle.vh_base_outside.specs.Kept.{Kept, Tells};
 
@@ -8,10 +9,10 @@ use std::rt::Clock;
 use std::time::{Duration, Instant};
 use vh_base::{Sink, SinkFault};
 
-// How many milliseconds old the oldest byte held is when a look at the clock writes it out.
-const PATIENCE: u64 = 250;
+// How many milliseconds after the last write below a look at the clock writes out what is held.
+const PATIENCE: u64 = 100;
 
-// Where so many bytes or more came within so many milliseconds, the clock isn't looked at with so many pieces.
+// Where so many bytes or more came within so many milliseconds of that write, the clock isn't looked at with so many pieces.
 const MUCH: usize = 4_096;
 
 const HASTE: u64 = 10;
@@ -19,18 +20,20 @@ const HASTE: u64 = 10;
 const UNSEEN: u8 = 7;
 
 /// A sink that holds what it is given, up to so many bytes, and writes it out to the sink below: when there would be more, with
-/// a piece that comes a quarter of a second after the oldest one held, and by `flush`. That piece is the first one that comes
-/// then. But where 4,096 bytes came within 10 milliseconds the clock is looked at with each eighth piece alone, and then it may
-/// be any of the first eight. With no room it writes each piece at once. It tells nothing itself, since what is held when a
-/// write fails is lost.
+/// a piece that comes 100 milliseconds or more after the last write below ended, and by `flush`. So the first piece of all goes
+/// out at once, and so does the first one behind a quiet stretch, while pieces that come fast are held. But where 4,096 bytes
+/// came within 10 milliseconds of the last write the clock is looked at with each eighth piece alone, and then it may be any of
+/// the first eight. An empty piece adds nothing and always looks at the clock: offered where no other will come soon, it writes
+/// out what was held long enough. With no room each piece is written at once. It tells nothing itself, since what is held when
+/// a write fails is lost.
 #[derive(Drop)]
 pub struct Holding<'a, K, C> {
     sink: K,
     clock: &'a C,
     room: usize,
     held: Vec<u8>,
-    // when the first piece of those that are held came
-    since: Option<Instant>,
+    // when the last write below ended; none where there was none, or the clock didn't tell
+    last: Option<Instant>,
     // with how many pieces more the clock isn't looked at
     unseen: u8,
 }
@@ -46,7 +49,7 @@ impl<'a, K: Sink, C: Clock> Holding<'a, K, C> {
             clock,
             room,
             held: Vec::new(alloc),
-            since: None,
+            last: None,
             unseen: 0,
         }
     }
@@ -60,15 +63,19 @@ impl<'a, K: Sink, C: Clock> Holding<'a, K, C> {
             self.old.held.items) }
         ensures tells { Tells result (K.faults self.old.sink) (K.faults self.new.sink) }
         ensures room { self.new.room ≡ self.old.room }
+        ensures last { self.old.held.items ≡ [] → self.new.last ≡ self.old.last }
     {
         let written = write_whole(&mut self.sink, self.held.as_slice());
-        self.held.clear();
-        self.since = None;
-        self.unseen = 0;
+        if !self.held.is_empty() {
+            self.held.clear();
+            self.last = Instant::now(self.clock).ok();
+            self.unseen = 0;
+        }
         written
     }
 
-    // Takes a piece: keeps it, and writes out what is held where that has been held long enough.
+    // Takes a piece: keeps it, and writes out what is held where the last write below was long ago. So what comes before any
+    // write is written at once.
     fn take(&mut self, piece: &[u8]) -> Result<(), SinkFault>
         ensures ok { OnOk result (Kept (K.written self.old.sink) (K.written self.new.sink)
             self.new.held.items (self.old.held.items ++ piece.now)) }
@@ -78,9 +85,11 @@ impl<'a, K: Sink, C: Clock> Holding<'a, K, C> {
         ensures tells { Tells result (K.faults self.old.sink) (K.faults self.new.sink) }
         ensures bounded { length self.old.held.items ≤ self.old.room
             → length self.new.held.items ≤ self.old.room }
+        ensures first { self.old.last ≡ None → self.old.held.items ≡ []
+            → OnOk result (self.new.held.items ≡ []) }
     {
         self.keep(piece)?;
-        if self.is_due() {
+        if self.is_due(piece) {
             self.flush()?;
         }
         Ok(())
@@ -99,6 +108,7 @@ impl<'a, K: Sink, C: Clock> Holding<'a, K, C> {
         ensures bounded { length self.old.held.items ≤ self.old.room
             → length self.new.held.items ≤ self.old.room }
         ensures room { self.new.room ≡ self.old.room }
+        ensures last { self.old.held.items ≡ [] → self.new.last ≡ self.old.last }
     {
         if self.hold(piece) {
             return Ok(());
@@ -118,38 +128,45 @@ impl<'a, K: Sink, C: Clock> Holding<'a, K, C> {
             → length self.new.held.items ≤ self.old.room }
         ensures sink { self.new.sink ≡ self.old.sink }
         ensures room { self.new.room ≡ self.old.room }
+        ensures last { self.new.last ≡ self.old.last }
     {
         piece.len() <= self.room.saturating_sub(self.held.len())
             && self.held.extend_from_slice(piece).is_ok()
     }
 
-    // Has the oldest of what is held been held long enough, as far as the clock is looked at? It has where the clock can't be
-    // read; the clock isn't read where nothing is held.
-    fn is_due(&mut self) -> bool
+    // Does what is held go out with this piece, as far as the clock is looked at? It does where nothing was written below before,
+    // and where the clock can't be read; the clock isn't read where nothing is held.
+    fn is_due(&mut self, piece: &[u8]) -> bool
         ensures held { self.new.held.items ≡ self.old.held.items }
         ensures sink { self.new.sink ≡ self.old.sink }
         ensures room { self.new.room ≡ self.old.room }
+        ensures first { self.old.last ≡ None → IsFalse result → self.new.held.items ≡ [] }
     {
         if self.held.is_empty() {
             return false;
         }
-        if self.unseen > 0 {
+        let Some(last) = self.last else {
+            return true;
+        };
+        if self.unseen > 0 && !piece.is_empty() {
             self.unseen -= 1;
             return false;
         }
         let Ok(now) = Instant::now(self.clock) else {
             return true;
         };
-        let Some(since) = self.since else {
-            self.since = Some(now);
-            return false;
-        };
-        let age = now.duration_since(since);
-        if self.held.len() >= MUCH && age < Duration::from_millis(HASTE) {
+        if self.held.len() >= MUCH && now.duration_since(last) < Duration::from_millis(HASTE) {
             self.unseen = UNSEEN;
         }
-        age >= Duration::from_millis(PATIENCE)
+        is_late(last, now)
     }
+}
+
+// Is this time so long after the last write that what is held goes out?
+fn is_late(last: Instant, now: Instant) -> bool
+    ensures { IsTrue result ↔ (PATIENCE * 1_000_000 ≤ instant_nanos now - instant_nanos last) }
+{
+    now.duration_since(last) >= Duration::from_millis(PATIENCE)
 }
 
 impl<K: Sink, C: Clock> Sink for Holding<'_, K, C> {

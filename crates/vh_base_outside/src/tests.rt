@@ -36,13 +36,14 @@ fn an_output_takes_the_whole_piece(rt: HostRuntime) -> Result<(), Fail> {
 }
 
 // A standard output with a clock: how many bytes were written and by how many calls, and the time in milliseconds, or
-// none where there is no clock. It has room for so many bytes.
+// none where there is no clock. It has room for so many bytes, and so many of the next writes would have to wait.
 #[derive(Drop)]
 struct Stand {
     written: Cell<usize>,
     calls: Cell<u32>,
     time: Cell<Option<u64>>,
     room: usize,
+    full: Cell<u32>,
 }
 
 impl Stand {
@@ -52,6 +53,7 @@ impl Stand {
             calls: Cell::new(0),
             time: Cell::new(Some(0)),
             room,
+            full: Cell::new(0),
         }
     }
 
@@ -71,6 +73,10 @@ impl Print for Stand {
 
     fn write_all(&self, bytes: &[u8]) -> io::Result<()> {
         self.calls.set(self.calls.get().saturating_add(1));
+        if self.full.get() > 0 {
+            self.full.set(self.full.get().saturating_sub(1));
+            return Err(io::Error::from(io::ErrorKind::WouldBlock));
+        }
         let written = self.written.get().saturating_add(bytes.len());
         if written > self.room {
             return Err(io::Error::from(io::ErrorKind::StorageFull));
@@ -105,26 +111,68 @@ fn a_terminal_gets_each_piece_at_once(rt: HostRuntime) -> Result<(), Fail> {
 }
 
 #[test]
-fn a_pipe_gets_what_is_held_after_a_quarter_of_a_second(rt: HostRuntime) -> Result<(), Fail> {
+fn a_pipe_gets_what_comes_a_tenth_of_a_second_after_the_last_write(
+    rt: HostRuntime,
+) -> Result<(), Fail> {
+    let stand = Stand::new(100);
+    let mut out = Holding::new(Output::new(&stand), &stand, rt.alloc(), 65_536);
+    // the first piece of all at once, and those that come soon behind it later
+    assert_eq!(rt; out.write(b"1234567890"), Ok(10));
+    assert_eq!(rt; stand.seen(), (10, 1));
+    stand.time.set(Some(99));
+    assert_eq!(rt; out.write(b"1234567890"), Ok(10));
+    assert_eq!(rt; stand.seen(), (10, 1));
+    stand.time.set(Some(100));
+    assert_eq!(rt; out.write(b"1234567890"), Ok(10));
+    assert_eq!(rt; stand.seen(), (30, 2));
+    // behind a quiet stretch at once
+    stand.time.set(Some(900));
+    assert_eq!(rt; out.write(b"1234567890"), Ok(10));
+    assert_eq!(rt; stand.seen(), (40, 3));
+    // a flush is a write too
+    stand.time.set(Some(990));
+    assert_eq!(rt; out.write(b"1234567890"), Ok(10));
+    assert_eq!(rt; out.flush(), Ok(()));
+    assert_eq!(rt; stand.seen(), (50, 4));
+    stand.time.set(Some(1089));
+    assert_eq!(rt; out.write(b"1234567890"), Ok(10));
+    assert_eq!(rt; stand.seen(), (50, 4));
+    Ok(())
+}
+
+#[test]
+fn without_a_clock_each_piece_is_written_at_once(rt: HostRuntime) -> Result<(), Fail> {
     let stand = Stand::new(100);
     let mut out = Holding::new(Output::new(&stand), &stand, rt.alloc(), 65_536);
     assert_eq!(rt; out.write(b"1234567890"), Ok(10));
-    stand.time.set(Some(249));
     assert_eq!(rt; out.write(b"1234567890"), Ok(10));
-    assert_eq!(rt; stand.seen(), (0, 0));
-    stand.time.set(Some(250));
-    assert_eq!(rt; out.write(b"1234567890"), Ok(10));
-    assert_eq!(rt; stand.seen(), (30, 1));
-    // the next quarter begins with the next piece
-    stand.time.set(Some(900));
-    assert_eq!(rt; out.write(b"1234567890"), Ok(10));
-    assert_eq!(rt; stand.seen(), (30, 1));
-    assert_eq!(rt; out.flush(), Ok(()));
-    assert_eq!(rt; stand.seen(), (40, 2));
-    // without a clock each piece is written at once
+    assert_eq!(rt; stand.seen(), (10, 1));
     stand.time.set(None);
     assert_eq!(rt; out.write(b"1234567890"), Ok(10));
-    assert_eq!(rt; stand.seen(), (50, 3));
+    assert_eq!(rt; stand.seen(), (30, 2));
+    assert_eq!(rt; out.write(b"1234567890"), Ok(10));
+    assert_eq!(rt; stand.seen(), (40, 3));
+    Ok(())
+}
+
+#[test]
+fn an_empty_piece_writes_out_what_was_held_long_enough(rt: HostRuntime) -> Result<(), Fail> {
+    let stand = Stand::new(100);
+    let mut out = Holding::new(Output::new(&stand), &stand, rt.alloc(), 65_536);
+    assert_eq!(rt; out.write(b""), Ok(0));
+    assert_eq!(rt; stand.seen(), (0, 0));
+    assert_eq!(rt; out.write(b"1234567890"), Ok(10));
+    assert_eq!(rt; out.write(b"1234567890"), Ok(10));
+    stand.time.set(Some(99));
+    assert_eq!(rt; out.write(b""), Ok(0));
+    assert_eq!(rt; stand.seen(), (10, 1));
+    stand.time.set(Some(100));
+    assert_eq!(rt; out.write(b""), Ok(0));
+    assert_eq!(rt; stand.seen(), (20, 2));
+    // where nothing is held it writes nothing
+    stand.time.set(Some(300));
+    assert_eq!(rt; out.write(b""), Ok(0));
+    assert_eq!(rt; stand.seen(), (20, 2));
     Ok(())
 }
 
@@ -132,22 +180,31 @@ fn a_pipe_gets_what_is_held_after_a_quarter_of_a_second(rt: HostRuntime) -> Resu
 fn where_much_comes_at_once_the_clock_is_looked_at_with_each_eighth_piece(
     rt: HostRuntime,
 ) -> Result<(), Fail> {
-    let stand = Stand::new(10_000);
+    let stand = Stand::new(20_000);
     let mut out = Holding::new(Output::new(&stand), &stand, rt.alloc(), 65_536);
     let piece = [b'a'; 1000];
-    for _ in 0..4 {
+    for _ in 0..5 {
         assert_eq!(rt; out.write(&piece), Ok(1000));
     }
     stand.time.set(Some(9));
     assert_eq!(rt; out.write(&piece), Ok(1000));
     // not with the next seven
-    stand.time.set(Some(250));
+    stand.time.set(Some(100));
     for _ in 0..7 {
         assert_eq!(rt; out.write(b"1234567890"), Ok(10));
     }
-    assert_eq!(rt; stand.seen(), (0, 0));
+    assert_eq!(rt; stand.seen(), (1000, 1));
     assert_eq!(rt; out.write(b"1234567890"), Ok(10));
-    assert_eq!(rt; stand.seen(), (5080, 1));
+    assert_eq!(rt; stand.seen(), (6080, 2));
+    // but always with an empty one
+    for _ in 0..5 {
+        assert_eq!(rt; out.write(&piece), Ok(1000));
+    }
+    stand.time.set(Some(200));
+    assert_eq!(rt; out.write(b"1234567890"), Ok(10));
+    assert_eq!(rt; stand.seen(), (6080, 2));
+    assert_eq!(rt; out.write(b""), Ok(0));
+    assert_eq!(rt; stand.seen(), (11_090, 3));
     Ok(())
 }
 
@@ -160,9 +217,9 @@ fn where_little_comes_at_once_the_clock_is_looked_at_with_each_piece(
     assert_eq!(rt; out.write(b"1234567890"), Ok(10));
     stand.time.set(Some(9));
     assert_eq!(rt; out.write(b"1234567890"), Ok(10));
-    stand.time.set(Some(250));
+    stand.time.set(Some(100));
     assert_eq!(rt; out.write(b"1234567890"), Ok(10));
-    assert_eq!(rt; stand.seen(), (30, 1));
+    assert_eq!(rt; stand.seen(), (30, 2));
     Ok(())
 }
 
@@ -171,14 +228,14 @@ fn no_more_is_held_than_there_is_room(rt: HostRuntime) -> Result<(), Fail> {
     let stand = Stand::new(1_000_000);
     let mut out = Holding::new(Output::new(&stand), &stand, rt.alloc(), 65_536);
     let piece = [b'a'; 1000];
-    for _ in 0..65 {
+    for _ in 0..66 {
         assert_eq!(rt; out.write(&piece), Ok(1000));
     }
-    assert_eq!(rt; stand.seen(), (0, 0));
+    assert_eq!(rt; stand.seen(), (1000, 1));
     assert_eq!(rt; out.write(&piece), Ok(1000));
-    assert_eq!(rt; stand.seen(), (65_000, 1));
-    assert_eq!(rt; out.flush(), Ok(()));
     assert_eq!(rt; stand.seen(), (66_000, 2));
+    assert_eq!(rt; out.flush(), Ok(()));
+    assert_eq!(rt; stand.seen(), (67_000, 3));
     Ok(())
 }
 
@@ -191,6 +248,16 @@ fn a_failed_write_is_told_at_the_end(rt: HostRuntime) -> Result<(), Fail> {
     assert_eq!(rt; out.flush(), Err(SinkFault::Failed));
     // and nothing is written after it
     assert_eq!(rt; out.flush(), Ok(()));
-    assert_eq!(rt; stand.seen(), (0, 1));
+    assert_eq!(rt; stand.seen(), (10, 2));
+    Ok(())
+}
+
+#[test]
+fn a_pipe_that_is_full_is_tried_again(rt: HostRuntime) -> Result<(), Fail> {
+    let stand = Stand::new(100);
+    stand.full.set(3);
+    let mut out = Output::new(&stand);
+    assert_eq!(rt; out.write(b"1234567890"), Ok(10));
+    assert_eq!(rt; stand.seen(), (10, 4));
     Ok(())
 }

@@ -7,6 +7,7 @@ ghost use Rattle.vh_kernel.specs.Run.{line_of_move};
 ghost use Rattle.vh_kernel_laws.specs.Laws.{Lawful};
 ghost use Rattle.vh_host.specs.Turn.{Turned, status_after};
 ghost use Rattle.vh_host.specs.Transcript.{Wrote};
+ghost use Rattle.vh_base_outside.specs.Kept.{Tells};
 
 use crate::status::Status;
 use std::alloc::Global;
@@ -15,10 +16,13 @@ use vh_base_outside::write_whole;
 use vh_kernel::{Ending, Kernel, Label, push_line};
 use vh_kernel_choice::Chooser;
 
+// Behind so many labels in a row that have no line the sink is offered an empty piece.
+const QUIET: u32 = 4_096;
+
 /// Runs a kernel under an order of choice, and writes the line of each label as it is made, until
 /// the run ends, as many labels as the budget were made, or a fault of the sink or of memory cuts
-/// it
-/// short.
+/// it short. Where many labels in a row have no line, the sink is offered an empty piece now and
+/// then, with which it may write out what it holds.
 pub fn transcribe<K: Sink>(
     alloc: Global,
     kernel: &mut Kernel,
@@ -37,9 +41,10 @@ pub fn transcribe<K: Sink>(
 {
     let mut next = chooser;
     let mut line = String::new(alloc);
+    let mut quiet = 0;
     for made in 0..budget {
         let k = choose(kernel, &mut next);
-        if let Some(status) = turn(alloc, kernel, k, &mut line, out) {
+        if let Some(status) = turn(alloc, kernel, k, &mut line, &mut quiet, out) {
             return status;
         }
     }
@@ -62,12 +67,14 @@ pub(crate) fn choose(kernel: &Kernel, chooser: &mut Chooser) -> u32
     choice
 }
 
-// One step by the k-th choice, with its line, in the room that lines are kept in.
+// One step by the k-th choice, with its line, in the room that lines are kept in. `quiet` counts the labels in a row that
+// have no line.
 fn turn<K: Sink>(
     alloc: Global,
     kernel: &mut Kernel,
     k: u32,
     line: &mut String,
+    quiet: &mut u32,
     out: &mut K,
 ) -> Option<Status>
     requires { k < choices_of (state_of kernel.old) }
@@ -80,7 +87,7 @@ fn turn<K: Sink>(
         Ok(label) => label,
         Err(_) => return Some(Status::NoMemory),
     };
-    match tell(kernel, &label, line, out) {
+    match tell(kernel, &label, line, quiet, out) {
         Ok(()) => {
             if is_order(&label) {
                 return hand_back(kernel, label);
@@ -97,6 +104,7 @@ fn tell<K: Sink>(
     kernel: &Kernel,
     label: &Label,
     line: &mut String,
+    quiet: &mut u32,
     out: &mut K,
 ) -> Result<(), SinkFault>
     ensures ok { OnOk result (K.written out.new
@@ -108,8 +116,37 @@ fn tell<K: Sink>(
 {
     line.clear();
     match push_line(line, kernel, label) {
-        Ok(()) => write_whole(out, line.as_bytes()),
+        Ok(()) => offer(out, line.as_bytes(), quiet),
         Err(_) => Err(SinkFault::NoMemory),
+    }
+}
+
+// Offers a label's line whole, where it has one; else an empty piece, where it is the last of so many in a row.
+fn offer<K: Sink>(out: &mut K, line: &[u8], quiet: &mut u32) -> Result<(), SinkFault>
+    ensures ok { OnOk result (K.written out.new ≡ appended (K.written out.old) line.now) }
+    ensures err { OnErr result (AppendsFront (K.written out.old) (K.written out.new) line.now) }
+    ensures tells { Tells result (K.faults out.old) (K.faults out.new) }
+{
+    if !line.is_empty() {
+        *quiet = 0;
+        return write_whole(out, line);
+    }
+    *quiet = quiet.saturating_add(1);
+    if *quiet < QUIET {
+        return Ok(());
+    }
+    *quiet = 0;
+    offer_nothing(out)
+}
+
+// Offers an empty piece, with which a sink that holds what it was given may write it out.
+fn offer_nothing<K: Sink>(out: &mut K) -> Result<(), SinkFault>
+    ensures same { K.written out.new ≡ K.written out.old }
+    ensures tells { Tells result (K.faults out.old) (K.faults out.new) }
+{
+    match out.write(&[]) {
+        Ok(_) => Ok(()),
+        Err(fault) => Err(fault),
     }
 }
 
