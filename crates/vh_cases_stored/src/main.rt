@@ -13,7 +13,7 @@ use list::List;
 use std::fs;
 
 // The lists, files of the folder in which the program runs.
-const NAMES: [&str; 13] = [
+const NAMES: [&str; 14] = [
     "words",
     "statements",
     "waits",
@@ -25,6 +25,7 @@ const NAMES: [&str; 13] = [
     "orders",
     "sources",
     "scripts",
+    "objects",
     "expressions",
     "examples",
 ];
