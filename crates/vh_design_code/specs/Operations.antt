@@ -91,7 +91,7 @@ fits_force os exprs o value = has_kind is_forcible os o && nat_lt value exprs
 abbrev pub fits_write : List ObjectInfo → ℕ → ℕ → ℕ → Bool
 fits_write os exprs o value = has_kind is_variable os o && nat_lt value exprs
 
--- A statement with one value, a row for each kind.
+-- A statement with one instruction, a row for each kind.
 abbrev pub fits_single : List ObjectInfo → ℕ → ℕ → Single → Bool
 fits_single os exprs shows (single.Show show) = nat_lt show shows
 fits_single os exprs shows single.Finish = true

@@ -8,7 +8,7 @@ pub enum Goes {
     Back,
 }
 
-/// One value of a code.
+/// One instruction of a code.
 #[derive(Drop)]
 pub struct Instruction {
     pub operation: Operation,
@@ -18,7 +18,7 @@ pub struct Instruction {
     pub stmt: Option<u32>,
     /// The innermost block of the code that it stands in.
     pub block: Option<u32>,
-    /// Whether it is the first value of an execution of its statement.
+    /// Whether it is the first of an execution of its statement.
     pub first: bool,
 }
 

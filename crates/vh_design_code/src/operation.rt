@@ -88,7 +88,7 @@ pub enum Loop {
     Turn,
 }
 
-/// A statement with one value that goes on at once.
+/// A statement with one instruction that goes on at once.
 #[derive(Clone, Copy)]
 pub enum Single {
     /// `$display` and its like.
@@ -117,14 +117,14 @@ pub enum Operation {
         value: ExprId,
         targets: Targets,
     },
-    /// The first value of one with a delay: it reads the value in a context of so many digits, and
+    /// The first instruction of one with a delay: it reads the value in a context of so many digits, and
     /// waits.
     Hold {
         value: ExprId,
         width: u32,
         delay: Delay,
     },
-    /// Its second value: it assigns what was held.
+    /// Its second instruction: it assigns what was held.
     Store(Targets),
     Schedule(Boxed<Schedule>),
     Pause(Pause),

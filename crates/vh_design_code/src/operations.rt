@@ -181,7 +181,7 @@ fn fits_write(objects: &[ObjectInfo], exprs: usize, object: ObjId, value: ExprId
     is_variable_at(objects, object) && is_before(exprs, value)
 }
 
-// Whether a statement with one value may stand there.
+// Whether a statement with one instruction may stand there.
 fn fits_single(objects: &[ObjectInfo], exprs: usize, shows: usize, single: Single) -> bool
     ensures { result ≡ fits_single objects.now exprs shows single }
 {

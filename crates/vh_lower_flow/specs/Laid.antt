@@ -59,7 +59,7 @@ gate_of (gate.Repeat count) otherwise = op.Loop (turn.Repeat count otherwise)
 gate_of gate.Again otherwise = op.Loop (turn.Again otherwise)
 gate_of gate.Turn otherwise = op.Loop turn.Turn
 
--- The instructions of a `case`, each with the statement that it leads to, where the first of these has that position. (9.5)
+-- The values of a `case`'s items, each with the statement that it leads to, where the first of these has that position. (9.5)
 abbrev pub arm_to : Goes → ℕ → Arm
 arm_to to value = record { value = value; to = to }
 
@@ -86,7 +86,7 @@ with_choice g m holds fails after inner so =
     let first = position_in so + 1 in
     with_instruction (instruction_of (gate_of g (start_at (first + holds) fails after)) m (start_at first holds after) inner) so
 
--- The test of a `case`, whose statements stand behind it, the one where no instruction fits last. (9.5)
+-- The test of a `case`, whose statements stand behind it, the one where no value fits last. (9.5)
 abbrev pub with_case : CaseHead → Origin → CaseItems → ℕ → Goes → Option ℕ → Laid → Laid
 with_case h m is default after inner so =
     let first = position_in so + 1 in

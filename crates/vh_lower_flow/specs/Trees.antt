@@ -26,7 +26,7 @@ mutual
     no_flow : Flows
     one_flow : FlowTree → Flows → Flows
 
-  -- The statements of a `case` in source order, each with its instructions.
+  -- The statements of a `case` in source order, each with its values.
   pub data CaseItems : Type 0 where
     no_item : CaseItems
     one_item : List ℕ → FlowTree → CaseItems → CaseItems

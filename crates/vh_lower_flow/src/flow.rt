@@ -41,13 +41,13 @@ pub enum Gate {
 pub struct CaseHead {
     pub kind: CaseKind,
     pub subject: ExprId,
-    /// The greatest width of the subject and all instructions.
+    /// The greatest width of the subject and all values.
     pub width: u32,
-    /// Whether the subject and all instructions are signed.
+    /// Whether the subject and all values are signed.
     pub signed: bool,
 }
 
-/// A statement of a `case` with its instructions, over trees `F`.
+/// A statement of a `case` with its values, over trees `F`.
 #[derive(Drop)]
 pub struct CaseItem<F> {
     pub matched: ExprIds,
@@ -74,7 +74,7 @@ pub enum FlowForm<F> {
         gate: Gate,
         origin: Origin,
     },
-    /// A `case`: items in source order, and what is done where no instruction fits.
+    /// A `case`: items in source order, and what is done where no value fits.
     Case {
         head: CaseHead,
         origin: Origin,

@@ -58,7 +58,7 @@ fn code_from(start: Goes, so: Laid) -> Code
     }
 }
 
-// The instructions of a `case`, each with the statement that it leads to.
+// The values of a `case`'s items, each with the statement that it leads to.
 fn arms_from(
     alloc: Global,
     first: u32,

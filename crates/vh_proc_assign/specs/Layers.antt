@@ -49,7 +49,7 @@ abbrev pub listed_change : ℕ → Option Change → List Made
 listed_change o None = []
 listed_change o (Some c) = record { object = whole o; change = Some c; layer = layer.Plain } ∷ []
 
--- The expression that the force of an object follows, or its procedural assign: none where none is in position, or
+-- The expression that the force of an object follows, or its procedural assign: none where none is in force, or
 -- where a put gave the value. (9.3)
 abbrev pub expr_of : Bool → Contents → ℕ → Option ℕ
 expr_of true s o = force_of s o
@@ -59,8 +59,8 @@ abbrev pub with_layer : Bool → Shape → ℕ → ℕ → Contents → Contents
 with_layer true d o e s = with_force d o e s
 with_layer false d o e s = with_assign d o e s
 
--- It is followed: a force or assign that is in position takes the present value of its expression, one of the design's;
--- where none is in position, nothing is done. (9.3; the latter is own)
+-- It is followed: a force or assign that is in force takes the present value of its expression, one of the design's;
+-- where none is in force, nothing is done. (9.3; the latter is own)
 abbrev pub followed_by : Option ℕ → Bool → Shape → ℕ → Contents → Contents
 followed_by None force d o s = s
 followed_by (Some e) force d o s = if fits_force d.objects (length d.exprs) o e then with_layer force d o e s else s

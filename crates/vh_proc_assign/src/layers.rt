@@ -130,7 +130,7 @@ pub fn deassign_object(s: &mut Store, o: ObjId, made: &mut Vec<Made>) -> Result<
 }
 
 /// The expression that the force of an object follows, or its procedural assign; none where none is
-/// in position, or where a put gave the value.
+/// in force, or where a put gave the value.
 pub fn expr_of(s: &Store, force: bool, o: ObjId) -> Option<ExprId>
     ensures { result ≡ expr_of force s.now o }
 {
@@ -165,7 +165,7 @@ fn force_anew(
     Ok(())
 }
 
-/// A force or a procedural assign is followed: where one is in position, the object takes the present
+/// A force or a procedural assign is followed: where one is in force, the object takes the present
 /// value of its expression. It is told where the object shows another value.
 pub fn follow_object(
     d: &Design,

@@ -55,7 +55,7 @@ set_back m n p q w some = by_cases m n (p == q) some
     by_cases false false true some = refl
     by_cases false false false some = refl
 
--- Another set in the position of one.
+-- Another set in place of one.
 get_same : {X : Type 0} (xs : List X) (i : ℕ) (y : X) → i < length xs → slice_get (set xs i y) i ≡ Some y
 get_same [] i y h = absurd (omega arith)
 get_same (z ∷ xs) zero y h = refl

@@ -43,7 +43,7 @@ module _ {T : Type 0} where
   abbrev pub held : Key → Table T → Option T
   held key t = value_at key.generation (slice_get t.cells key.slot)
 
-  -- The slots with another cell in the position of one
+  -- The slots with another cell in place of one
   abbrev pub with_cell : ℕ → Cell T → Table T → Table T
   with_cell i c t = record { cells = slice_set t.cells i c; limit = t.limit; first = t.first }
 

@@ -153,7 +153,7 @@ impl<T: Drop> Slots<T> {
         Some(value)
     }
 
-    /// Puts a value in the position of another, under the same key, and hands the other back; hands
+    /// Puts a value in place of another, under the same key, and hands the other back; hands
     /// the value itself back where none is held under the key.
     pub fn replace(&mut self, key: Key, value: T) -> Result<T, T>
         ensures old { IfOk result (λ old. held key self.old ≡ Some old) }
