@@ -288,9 +288,9 @@ impl World {
         let Some(handle) = h else {
             return Err(Halt::Refused(Code::E1));
         };
-        if self.handles.thing(handle).is_none() {
+        let Some(_) = self.handles.thing(handle) else {
             return Err(Halt::Refused(Code::E1));
-        }
+        };
         self.handles.free(handle);
         Ok(Answer::Number(1))
     }

@@ -22,8 +22,9 @@ pub fn perform(alloc: Global, w: &mut World, who: Who, order: &Order) -> Result<
     ensures { IfOk result (λ a. performed order.now who (world_of w.old) (given_by w.old)
         ≡ (a, world_of w.new)) }
 {
+    let kept = w.last_error;
     let answer = w.answer(alloc, &who, order)?;
-    w.last_error = error_after(order, &answer, w.last_error);
+    w.last_error = error_after(order, &answer, kept);
     Ok(answer)
 }
 
