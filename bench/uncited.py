@@ -8,7 +8,7 @@ import os
 import re
 import sys
 
-TOP = os.environ.get("TOP") or os.path.dirname(os.path.dirname(os.path.abspath(__file__)))
+TOP = os.path.dirname(os.path.dirname(os.path.abspath(__file__)))
 os.chdir(TOP)
 NAME = re.compile(r"[A-Za-z_][\w\-']*")
 HEAD = re.compile(r"( *)(?:pub |unfoldable |abbrev )*([A-Za-z_][\w\-']*) :(?: |$)")
