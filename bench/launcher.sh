@@ -20,7 +20,7 @@ fresh_repository() {
     printf '# a comment\nvh_sim: vh_low std\nvh_beside: vh_low\nvh_low:\n' >crates.txt
     printf '# a comment\nvh_low 6000\nvh_sim 600\nvh_beside 99999\n' >bench/seconds.txt
     echo 'Handles allowed: none.' >HANDLES
-    for page in pages counts examples faults; do echo "import os, sys; sys.exit('$page' in os.environ.get('STALE', ''))" >"bench/$page.py"; done
+    for page in pages counts drawn examples faults; do echo "import os, sys; sys.exit('$page' in os.environ.get('STALE', ''))" >"bench/$page.py"; done
     echo 'pub mod Words' >crates/vh_low/specs/Lib.antt
     echo 'old: low' >crates/vh_low/must-fail/low.edit
     echo 'fn beside() {}' >crates/vh_beside/src/lib.rt
@@ -436,7 +436,7 @@ unset BROKEN
 holds [ "$status" = 1 ]
 tried_so run a.v
 # nor is the gate passed where a page isn't so
-for STALE in pages counts examples faults; do
+for STALE in pages counts drawn examples faults; do
     export STALE
     run "$full" .ci/run
     holds [ "$status" = 1 ]

@@ -127,7 +127,8 @@ def main(arguments):
                         it.write(texts[path])
         if not gone:
             break
-    print("\n".join(told))
+    for it in told:
+        print(it)
     return 1 if told else 0
 
 

@@ -11,9 +11,11 @@ A wrong body is overdue where its text, or the src/, specs/ or proofs/ of its cr
 `bench/wrong_bodies.txt` says at which commit that was. What stands below the crate isn't looked at: what a crate claims of itself
 stands in its own folders.
 
-Each is tried on a copy of its crate, over the libraries that `rt ci` kept on this machine: call `rt ci NAME` first. The function in
-which it stands is checked alone with those that it calls, in ten to twenty seconds. One that is proved so is tried once more with
-its whole crate, since a caller may refuse it. This reads `rt` itself (a Python program) for how a crate is checked.
+Each is tried on a copy of its crate, over the libraries that `rt ci` kept on this machine: call `rt ci NAME` first. Those of a crate
+that stand in different functions are tried in one check of these functions alone: a function is held to its contract by what those
+that it calls promise, so none of them hides another. One that isn't refused so is tried by itself, its function alone, in ten to
+twenty seconds, and then with its whole crate, since a caller may refuse it. This reads `rt` itself (a Python program) for how a crate
+is checked.
 """
 import concurrent.futures
 import hashlib
@@ -115,6 +117,27 @@ def function_of(crate, edit):
     return "::".join([module, *([kind] if kind else []), function])
 
 
+def added(texts, edit, folder):
+    """The texts of a crate's files with one more edit in them; none where it can't be applied beside the others."""
+    texts, file, old = dict(texts), "", None
+    with open(edit, encoding="utf-8") as it:
+        lines = it.read().split("\n")
+    for line in lines:
+        if line.startswith("file: "):
+            file = line[6:].strip()
+            if file not in texts:
+                with open(f"{folder}/{file}", encoding="utf-8") as it:
+                    texts[file] = it.read()
+        elif line.startswith("old: "):
+            old = line[5:]
+        elif line.startswith("new:") and old:
+            if texts[file].count(old) != 1:
+                return None
+            texts[file] = texts[file].replace(old, line[4:].removeprefix(" "))
+            old = None
+    return texts
+
+
 class Tries:
     """The crates of a copy of this checkout, over the libraries that `rt ci` kept."""
 
@@ -143,6 +166,29 @@ class Tries:
             if self.given[crate.name]:
                 self.kept.is_built(crate)
         return self.given[crate.name]
+
+    def together(self, name, edits):
+        """Tries edits of different functions in one check, and gives those that were refused, each with its function, and those
+        that stand in a function of another one."""
+        crate, texts, only, left = self.crates[name], {}, {}, []
+        for edit in edits:
+            path = f"{crate.folder}/{edit}"
+            if self.rt.read_edit(path, crate.folder)[1]:
+                continue
+            function = function_of(name, path)
+            if not function or function.count("::") < 2:
+                continue
+            more = None if function in only.values() else added(texts, path, crate.folder)
+            if more is None:
+                left.append(edit)
+                continue
+            texts, only[edit] = more, function
+        if len(only) < 2:
+            return {}, left
+        words = [word for function in only.values() for word in ("--only", function)]
+        ran = self.rt.checked(crate, texts, ["--jobs", "1", *words], None)
+        refused = {*re.findall(r"^fn (\S+): not proved", ran.stdout, re.M)} if re.search(r"^only=", ran.stdout, re.M) else set()
+        return {edit: function for edit, function in only.items() if function in refused}, left
 
     def outcome(self, name, edit):
         """What a try of the edit comes to, and what is said of it."""
@@ -199,12 +245,8 @@ def main(words):
         os.mkdir(f"{copy}/.git")
         tries = Tries(copy)
 
-        def one(name, edit):
+        def tell(name, edit, kind, said):
             nonlocal failed
-            if not tries.has_libraries(name):
-                kind, said = "NOT TRIED", f"the libraries below aren't kept: call rt ci {name}"
-            else:
-                kind, said = tries.outcome(name, edit)
             with alone:
                 print(f"{name}/{edit}: {kind}: {said}", flush=True)
                 if kind == "refused":
@@ -213,8 +255,25 @@ def main(words):
                 else:
                     failed += 1
 
+        def of_crate(name, edits):
+            if not tries.has_libraries(name):
+                for edit in edits:
+                    tell(name, edit, "NOT TRIED", f"the libraries below aren't kept: call rt ci {name}")
+                return
+            next_round, single = edits, [*edits]
+            while next_round:
+                refused, next_round = tries.together(name, next_round)
+                for edit, function in refused.items():
+                    tell(name, edit, "refused", function)
+                    single.remove(edit)
+            for edit in single:
+                tell(name, edit, *tries.outcome(name, edit))
+
+        of = {}
+        for name, edit in todo:
+            of.setdefault(name, []).append(edit)
         with concurrent.futures.ThreadPoolExecutor(jobs) as pool:
-            for it in [pool.submit(one, *it) for it in todo]:
+            for it in [pool.submit(of_crate, *it) for it in of.items()]:
                 it.result()
         os.chdir(TOP)
     print(f"{len(todo) - failed} refused, {failed} not")
