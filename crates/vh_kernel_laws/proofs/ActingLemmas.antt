@@ -1,25 +1,27 @@
 -- The firing law: what an activation does is what its script has next.
-use Rattle.std.proofs.Common.{◌≡◌, ℕ, List, [], ◌∷◌, ◌++◌, drop, Bool, true, false, Option, Some, None, slice_get, slice_set, refl, sym, ap, subst, ◌∙◌}
+use Rattle.std.proofs.Common.{◌≡◌, ◌-◌, ℕ, List, [], ◌∷◌, ◌++◌, drop, Bool, true, false, Option, Some, None, slice_get, slice_set, refl, sym, ap, subst, ◌∙◌}
 use Rattle.vh_app.specs.declared.point.Point.{Point}
-use Rattle.vh_app.specs.Next.{next_of}
+use Rattle.vh_app.specs.Next.{next_of, startup}
 use Rattle.vh_app.specs.Script.{ScriptData}
 use Rattle.vh_base.specs.declared.orders.Answer.{Answer}
 use Rattle.vh_base.specs.declared.orders.Order.{Order}
 use Rattle.vh_kernel.proofs.TableLemmas.{steps-by-table}
-use Rattle.vh_kernel.specs.Activations.{Activation, after_answer, after_pass}
+use Rattle.vh_kernel.specs.Activations.{Activation, after_answer, after_pass, startup_seen}
 use Rattle.vh_kernel.specs.declared.control.Control.{Control}
 use Rattle.vh_kernel.specs.declared.control.Control.TheVariants as top
 use Rattle.vh_kernel.specs.declared.label.Label.{Label}
 use Rattle.vh_kernel.specs.declared.label.Label.TheVariants as label
 use Rattle.vh_kernel.specs.Outcome.{Move}
 use Rattle.vh_kernel.specs.Settle.{is_void, without_front}
-use Rattle.vh_kernel.specs.State.{State, with_top, without_top, with_variables}
-use Rattle.vh_kernel.specs.Step.{activation_move, order_move, pass_move}
-use Rattle.vh_kernel.specs.Table.{Acts, Step}
+use Rattle.vh_kernel.specs.State.{State, with_top, without_top, without_item, with_variables}
+use Rattle.vh_kernel.specs.Step.{activation_move, order_move, pass_move, started}
+use Rattle.vh_kernel.specs.Table.{Acts, HasNext, Step}
+use Rattle.vh_kernel.specs.declared.occurrence.Agendum.TheVariants as agendum
 use Rattle.vh_orders.specs.declared.who.Who.{Who}
+use Rattle.vh_orders.specs.declared.who.Who.TheVariants as who_is
 use Rattle.vh_orders.specs.Orders.{Given, is_pass, is_return}
 use Rattle.vh_kernel_laws.proofs.Splits.{path_at}
-use Rattle.vh_kernel_laws.specs.Acting.{Stands, Orders, OrdersNext, Passes, PassesNext, Returns, ReturnsLast}
+use Rattle.vh_kernel_laws.specs.Acting.{Stands, Begins, BeginsStartups, Orders, OrdersNext, Passes, PassesNext, Returns, ReturnsLast}
 use Rattle.vh_kernel_laws.specs.Paths.{IsMade, IsPath, end_of}
 
 -- What a label of an activation tells, whichever it is.
@@ -189,4 +191,32 @@ returns-last s moves path before behind who t is =
       on_top = row.on.on;
       who_is = return-who _ _ row.who (without_top u) table.before row.given who row.makes;
       last = last-by _ _ row.who (without_top u) table.before row.given who row.makes;
+    }
+
+-- Startups.
+no-control : (xs : List Control) → slice_get xs 0 ≡ None → xs ≡ []
+no-control [] none = refl
+no-control (x ∷ xs) none = absurd (let some : Some x ≡ None = none in cc)
+
+pub begins-startups : (s : State) (moves : List Move) → IsPath s moves → BeginsStartups s moves
+begins-startups s moves path before behind k t is =
+    let m : Move = (label.Startup k, t) in
+    let u : State = end_of s before in
+    let made : IsMade u m = (path_at s moves before (m ∷ behind) path is).1.0 in
+    let table : Step u (label.Startup k) t = steps-by-table u t made.choice (label.Startup k) made.below made.step in
+    let row : HasNext u (Some (agendum.Startup k)) × (table.before ≡ started (slice_get u.world.scripts (k - 1)) k (without_item u)) = table.row in
+    let empty : u.control ≡ [] = no-control u.control row.0.idle in
+    record {
+      alone = empty;
+      next = row.0.next;
+      begins = λ script there. (let a : Activation = record {
+        who = who_is.Startup k;
+        script = k - 1;
+        at = startup;
+        seen = startup_seen u.world.activity.queue.time;
+      } in
+          let begun : table.before.control ≡ top.Activation a ∷ [] =
+          ap (λ (x : State). x.control) row.1 ∙ ap (λ (o : Option ScriptData). (started o k (without_item u)).control) there
+          ∙ ap (λ (cs : List Control). top.Activation a ∷ cs) empty in
+          (a, ap (λ (x : State). x.control) table.settles ∙ ap (λ (cs : List Control). without_front (is_void table.before.world.callbacks) cs) begun, refl, refl, refl));
     }

@@ -44,7 +44,8 @@ use Rattle.vh_kernel_laws.proofs.Openings.{opening}
 use Rattle.vh_kernel.specs.State.{State}
 use Rattle.vh_kernel_laws.specs.Firing.{frames_of, IsTelling, TellsOnce, WasTold, FiresOnce, LeavesNone, DoneOnce, RemovesForGood}
 use Rattle.vh_kernel_laws.specs.HandleLaw.{GivesOnce, GivesLive, GivesRight, FindsLive, FreedByOrder, FreedThere, StaysFreed, RemovesCallbacks, FreesLive, answers_found, FindsNames, FindsRelated, FindsWords, IsRegistrable, RegistersAsked}
-use Rattle.vh_kernel_laws.specs.Acting.{Orders, OrdersNext, Returns, ReturnsLast}
+use Rattle.vh_kernel_laws.specs.Acting.{BeginsStartups, Orders, OrdersNext, Returns, ReturnsLast}
+use Rattle.vh_kernel.specs.declared.occurrence.Agendum.TheVariants as agendum
 use Rattle.vh_app.specs.Next.{next_of}
 use Rattle.vh_orders.specs.Orders.{is_return}
 use Rattle.vh_base.specs.declared.orders.Answer.{Answer}
@@ -584,3 +585,24 @@ returns_early s t act script vars on script_is vars_are goes law =
     let P : Activation → Type 0 = λ x. (y : ScriptData) (z : List Answer) → slice_get s.world.scripts x.script ≡ Some y
     → slice_get s.world.variables x.script ≡ Some z → is_return (next_of y x.at z x.seen).0 ≡ true in
     not_both (is_return (next_of script act.at vars act.seen).0) ((subst P same right.last) script vars script_is vars_are) goes
+
+-- An occurrence of the run that is told before a startup that comes first; a startup out of its turn; and one whose script does nothing.
+tells_before_a_startup : (s t : State) (n k : ℕ) → s.control ≡ [] → slice_get s.agenda 0 ≡ Some (agendum.Startup k)
+    → TellsInTurn s ((label.Occ n reason.CbEndOfCompile None, t) ∷ []) → ⊥
+tells_before_a_startup s t n k alone first law =
+    let kept : KeepsPending s (label.Occ n reason.CbEndOfCompile None, t) = law [] [] (label.Occ n reason.CbEndOfCompile None, t) refl in
+    elim kept.leaves [
+      | inl there ↦ absurd (let wrong : [] ≡ there.0 ∷ kept.rest = sym (ap pendings_in alone) ∙ there.2 in cc)
+      | inr there ↦ absurd (let wrong : Some (agendum.Startup k) ≡ Some (agendum.Occurrence reason.CbEndOfCompile) = sym first ∙ there.1 in cc)
+    ]
+
+startup_out_of_turn : (s t : State) → slice_get s.agenda 0 ≡ Some (agendum.Startup 2) → BeginsStartups s ((label.Startup 1, t) ∷ []) → ⊥
+startup_out_of_turn s t first law =
+    let wrong : Some (agendum.Startup 2) ≡ Some (agendum.Startup 1) = sym first ∙ (law [] [] 1 t refl).next in
+    absurd (let two : 2 ≡ 1 = cc in cc)
+
+startup_begins_nothing : (s t : State) (script : ScriptData) → slice_get s.world.scripts 0 ≡ Some script → t.control ≡ []
+    → BeginsStartups s ((label.Startup 1, t) ∷ []) → ⊥
+startup_begins_nothing s t script there none law =
+    let begun = (law [] [] 1 t refl).begins script there in
+    absurd (let wrong : [] ≡ top.Activation begun.0 ∷ [] = sym none ∙ begun.1 in cc)

@@ -18,6 +18,7 @@ use Rattle.vh_kernel.specs.declared.control.Control.TheVariants as top
 use Rattle.vh_kernel.specs.declared.label.Label.{Label}
 use Rattle.vh_kernel.specs.declared.label.Label.TheVariants as label
 use Rattle.vh_kernel.specs.declared.occurrence.Told.{Told}
+use Rattle.vh_kernel.specs.declared.occurrence.Agendum.TheVariants as agendum
 use Rattle.vh_kernel.specs.Occurrences.{Occurrence, set_of, is_empty, all_by}
 use Rattle.vh_kernel.specs.Outcome.{Made, Outcome, Move, after_made}
 use Rattle.vh_kernel.specs.Settle.{settled, is_void, without_front}
@@ -220,7 +221,12 @@ tells-kept s u r n what reason object tells number why whom told = elim tells [
     made = [];
     rest = [];
     makes = refl;
-    leaves = λ t is. inr (alone, refl);
+    leaves = λ t is. inr (
+      alone,
+      there.1.next ∙ ap (λ (x : Reason). Some (agendum.Occurrence x)) (sym (why ∙ ap (λ (o : Occurrence). o.reason) there.2)),
+      whom ∙ ap (λ (o : Occurrence). o.object) there.2,
+      refl,
+    );
     is = ap pendings_in told.control ∙ ap pendings_of there.3 ∙ ap pendings_in alone;
   })
 ]

@@ -54,7 +54,7 @@ use Rattle.vh_queue.specs.declared.work.Work.{Work}
 use Rattle.vh_queue.specs.declared.work.Work.TheVariants as work
 use Rattle.vh_kernel_laws.proofs.CallbacksLemmas.{live_by_info, live_low, gone_removed, gone_by}
 use Rattle.vh_kernel_laws.proofs.FiringLemmas.{Keeps, Waits, keeps-on, FiredFrom, fired-from, at-top, get-map, fired-frames, tells-once, fires-once, keeps-sets, leaves-none, done-once, closes-in-order, goes-by-removal, removes-for-good}
-use Rattle.vh_kernel_laws.proofs.ActingLemmas.{orders-next, passes-next, returns-last}
+use Rattle.vh_kernel_laws.proofs.ActingLemmas.{begins-startups, orders-next, passes-next, returns-last}
 use Rattle.vh_kernel_laws.proofs.PendingLemmas.{tells-in-turn}
 use Rattle.vh_kernel_laws.proofs.Splits.{not_both, path_at}
 use Rattle.vh_kernel_laws.proofs.Works.{View, view_of, taken_from, RegistersAs, changes_none, opens_one, registers_one, removes_one, frees_one, Works, works_none, empties, orders_one, tells_one, fires_one, closes_one}
@@ -559,6 +559,7 @@ firing-law s moves path keeps plain = record {
   closes_top = closes-top s moves path;
   frames_stand = frames-stand s moves path;
   told_in_turn = tells-in-turn s moves path;
+  begins_startups = begins-startups s moves path;
   orders_next = orders-next s moves path;
   passes_next = passes-next s moves path;
   returns_last = returns-last s moves path;

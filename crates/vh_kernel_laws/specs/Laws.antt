@@ -16,7 +16,7 @@ use Rattle.vh_kernel.specs.Step.{is_over}
 use Rattle.vh_kernel_laws.specs.Paths.{IsPath}
 use Rattle.vh_kernel_laws.specs.Firing.{TellsOnce, FiresOnce, KeepsSets, LeavesNone, DoneOnce, ClosesInOrder, GoesByRemoval, RemovesForGood}
 use Rattle.vh_kernel_laws.specs.HandleLaw.{GivesOnce, GivesLive, NamesOne, FindsLive, FreedByOrder, FreedThere, StaysFreed, RemovesCallbacks, FreesLive, FindsNames, FindsRelated, FindsWords, RegistersAsked}
-use Rattle.vh_kernel_laws.specs.Acting.{OrdersNext, PassesNext, ReturnsLast}
+use Rattle.vh_kernel_laws.specs.Acting.{BeginsStartups, OrdersNext, PassesNext, ReturnsLast}
 use Rattle.vh_kernel_laws.specs.Pending.{TellsInTurn}
 use Rattle.vh_kernel_laws.specs.Watching.{TellsThoseWhoWatch, FiresTop, ClosesTop, FramesStand, ComesByRegistration, StaysAsRegistered}
 
@@ -35,6 +35,7 @@ pub record KeepsFiringLaw (s : State) (moves : List Move) : Type 0 where
   pub closes_top : ClosesTop s moves
   pub frames_stand : FramesStand s moves
   pub told_in_turn : TellsInTurn s moves
+  pub begins_startups : BeginsStartups s moves
   pub orders_next : OrdersNext s moves
   pub passes_next : PassesNext s moves
   pub returns_last : ReturnsLast s moves

@@ -1,12 +1,13 @@
 -- What occurs is told in turn: each occurrence that a label makes stands on control until it is told, and above those that stood
 -- before; none is told that no label made. (IEEE 1364-2005, 27.33; that one that nobody watches is passed over is own)
-use Rattle.std.specs.Prelude.{◌≡◌, ℕ, List, [], ◌∷◌, ◌++◌, Option, Some, Result, Ok, Err, slice_get, ◌⊎◌}
+use Rattle.std.specs.Prelude.{◌≡◌, ℕ, List, [], ◌∷◌, ◌++◌, Option, Some, None, Result, Ok, Err, slice_get, ◌⊎◌}
 use Rattle.vh_base.specs.declared.faults.Fault.{Fault}
 use Rattle.vh_base.specs.declared.words.Reason.TheVariants as reason
 use Rattle.vh_kernel.specs.declared.control.Control.{Control}
 use Rattle.vh_kernel.specs.declared.control.Control.TheVariants as top
 use Rattle.vh_kernel.specs.declared.label.Label.{Label}
 use Rattle.vh_kernel.specs.declared.label.Label.TheVariants as label
+use Rattle.vh_kernel.specs.declared.occurrence.Agendum.TheVariants as agendum
 use Rattle.vh_kernel.specs.Occurrences.{Occurrence, occurrence_of, set_of, all_by}
 use Rattle.vh_kernel.specs.Outcome.{Move}
 use Rattle.vh_kernel.specs.State.{State, with_queue}
@@ -64,10 +65,10 @@ Leaves s (label.Startup k) t rest = rest ≡ pendings_of s
 Leaves s (label.Do who order answer) t rest = rest ≡ pendings_of s
 Leaves s (label.Pass who) t rest = rest ≡ pendings_of s
 Leaves s (label.Ret who) t rest = rest ≡ pendings_of s
--- the first is told, or with nothing on control one of the agenda
+-- the first is told, or with nothing on control that which is next on the agenda
 Leaves s (label.Occ n reason object) t rest =
     ((what : Occurrence) × IsTelling (label.Occ n reason object, t) n what × (pendings_of s ≡ what ∷ rest))
-    ⊎ ((s.control ≡ []) × (rest ≡ []))
+    ⊎ ((s.control ≡ []) × (slice_get s.agenda 0 ≡ Some (agendum.Occurrence reason)) × (object ≡ None) × (rest ≡ []))
 Leaves s (label.Fire n c) t rest = rest ≡ pendings_of s
 Leaves s (label.Done n) t rest = rest ≡ pendings_of s
 Leaves s (label.Activate region) t rest = rest ≡ pendings_of s
