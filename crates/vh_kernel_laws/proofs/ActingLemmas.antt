@@ -20,6 +20,7 @@ use Rattle.vh_kernel.specs.declared.occurrence.Agendum.TheVariants as agendum
 use Rattle.vh_orders.specs.declared.who.Who.{Who}
 use Rattle.vh_orders.specs.declared.who.Who.TheVariants as who_is
 use Rattle.vh_orders.specs.Orders.{Given, is_pass, is_return}
+use Rattle.vh_kernel_laws.proofs.PendingLemmas.{none-on}
 use Rattle.vh_kernel_laws.proofs.Splits.{path_at}
 use Rattle.vh_kernel_laws.specs.Acting.{Stands, Begins, BeginsStartups, Orders, OrdersNext, Passes, PassesNext, Returns, ReturnsLast}
 use Rattle.vh_kernel_laws.specs.Paths.{IsMade, IsPath, end_of}
@@ -194,10 +195,6 @@ returns-last s moves path before behind who t is =
     }
 
 -- Startups.
-no-control : (xs : List Control) → slice_get xs 0 ≡ None → xs ≡ []
-no-control [] none = refl
-no-control (x ∷ xs) none = absurd (let some : Some x ≡ None = none in cc)
-
 pub begins-startups : (s : State) (moves : List Move) → IsPath s moves → BeginsStartups s moves
 begins-startups s moves path before behind k t is =
     let m : Move = (label.Startup k, t) in
@@ -205,7 +202,7 @@ begins-startups s moves path before behind k t is =
     let made : IsMade u m = (path_at s moves before (m ∷ behind) path is).1.0 in
     let table : Step u (label.Startup k) t = steps-by-table u t made.choice (label.Startup k) made.below made.step in
     let row : HasNext u (Some (agendum.Startup k)) × (table.before ≡ started (slice_get u.world.scripts (k - 1)) k (without_item u)) = table.row in
-    let empty : u.control ≡ [] = no-control u.control row.0.idle in
+    let empty : u.control ≡ [] = none-on u.control row.0.idle in
     record {
       alone = empty;
       next = row.0.next;

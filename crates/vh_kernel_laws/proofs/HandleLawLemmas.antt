@@ -813,25 +813,24 @@ looks-refused rest x w s h is gone =
     unless-holds (RefusedBy w) (is_startup w) code.E9 _ (λ early. inr (early, refl))
     (λ _. inl (with_ok-Err (thing_named x s) code.E1 rest (unnamed-thing h x s is gone)))
 
--- The first or the second of two.
+-- The first or the second of two isn't live.
+first-or : (first second : Result Thing Code) (rest : Thing → Thing → Effect) → ((c : Code) → first ≡ Err c → c ≡ code.E1)
+    → second ≡ Err code.E1 → with_ok first (λ t. with_ok second (rest t)) ≡ Err code.E1
+first-or (Err c) second rest only dead = ap (λ (x : Code). (let e : Effect = Err x in e)) (only c refl)
+first-or (Ok t) second rest only dead = with_ok-Err second code.E1 (rest t) dead
+
+one-dead : (a b : Option ℕ) (rest : Thing → Thing → Effect) (s : World) (h : ℕ) (c : Bool) → is_handle h a ≡ c
+    → (c || (is_handle h b || false)) ≡ true → thing_at h s.handles ≡ None
+    → with_ok (thing_named a s) (λ t. with_ok (thing_named b s) (rest t)) ≡ Err code.E1
+one-dead a b rest s h true here some gone = with_ok-Err (thing_named a s) code.E1 _ (unnamed-thing h a s here gone)
+one-dead a b rest s h false here some gone =
+    first-or (thing_named a s) (thing_named b s) rest (E1-only a s) (unnamed-thing h b s (only-read (is_handle h b) some) gone)
+
 compare-refused : (a b : Option ℕ) (w : Who) (s : World) (h : ℕ) → reads h (order.Compare a b) ≡ true → thing_at h s.handles ≡ None
     → RefusedBy w (effect_of (order.Compare a b) w s)
 compare-refused a b w s h is gone =
     unless-holds (RefusedBy w) (is_startup w) code.E9 _ (λ early. inr (early, refl))
-    (λ _. inl (second-dead (is_handle h a) refl is))
-  where
-    second : Thing → Effect
-    second t = with_ok (thing_named b s) (λ u. Ok (answers_with (answer.Number (flag_number (same_thing (same_handle a b) t u))) s))
-
-    second-dead : (c : Bool) → is_handle h a ≡ c → (c || (is_handle h b || false)) ≡ true → with_ok (thing_named a s) second ≡ Err code.E1
-    second-dead true here some = with_ok-Err (thing_named a s) code.E1 second (unnamed-thing h a s here gone)
-    second-dead false here some =
-        let dead : thing_named b s ≡ Err code.E1 = unnamed-thing h b s (only-read (is_handle h b) some) gone in
-        by_first (thing_named a s) refl dead
-      where
-        by_first : (r : Result Thing Code) → thing_named a s ≡ r → thing_named b s ≡ Err code.E1 → with_ok (thing_named a s) second ≡ Err code.E1
-        by_first (Err c) is dead = rw (is) (ap (λ (x : Code). (let e : Effect = Err x in e)) (E1-only a s c is))
-        by_first (Ok t) is dead = rw (is) (with_ok-Err (thing_named b s) code.E1 _ dead)
+    (λ _. inl (one-dead a b (λ t u. Ok (answers_with (answer.Number (flag_number (same_thing (same_handle a b) t u))) s)) s h (is_handle h a) refl is gone))
 
 handle-refused : (r : Relation) (x : Option ℕ) (w : Who) (s : World) (h : ℕ) → reads h (order.Handle r x) ≡ true → thing_at h s.handles ≡ None
     → RefusedBy w (effect_of (order.Handle r x) w s)

@@ -199,7 +199,7 @@ telling-at n what reason object r u t told is number why whom =
           (top-told u (record { number = r.occurrence; what = what }) r.control (set_of what r.world.callbacks) r.world.frames told.control told.frames)));
     }
 
-none-on : (xs : List Control) → slice_get xs 0 ≡ None → xs ≡ []
+pub none-on : (xs : List Control) → slice_get xs 0 ≡ None → xs ≡ []
 none-on [] none = refl
 none-on (x ∷ xs) none = absurd (let some : Some x ≡ None = none in cc)
 
