@@ -59,18 +59,22 @@ fn same_word(a: Option<u32>, b: Option<u32>) -> bool
 fn same_thing(one: bool, a: Thing, b: Thing) -> bool
     ensures { result ≡ same_thing one a b }
 {
-    match (a, b) {
-        (Thing::Object(o), Thing::Object(p)) => {
-            o.id.number() == p.id.number() && same_word(o.word, p.word)
-        }
-        (Thing::Iterator { .. }, Thing::Iterator { .. }) => one,
-        (Thing::Callback(c), Thing::Callback(d)) => c.number() == d.number(),
-        (Thing::Event(serial), Thing::Event(other)) => serial.number() == other.number(),
-        (Thing::Object(_), Thing::Iterator { .. } | Thing::Callback(_) | Thing::Event(_))
-        | (Thing::Iterator { .. }, Thing::Object(_) | Thing::Callback(_) | Thing::Event(_))
-        | (Thing::Callback(_), Thing::Object(_) | Thing::Iterator { .. } | Thing::Event(_))
-        | (Thing::Event(_), Thing::Object(_) | Thing::Iterator { .. } | Thing::Callback(_)) =>
-            false,
+    match a {
+        Thing::Object(object) => match b {
+            Thing::Object(other) => {
+                object.id.number() == other.id.number() && same_word(object.word, other.word)
+            }
+            Thing::Iterator { .. } | Thing::Callback(_) | Thing::Event(_) => false,
+        },
+        Thing::Iterator { .. } => one && matches!(b, Thing::Iterator { .. }),
+        Thing::Callback(c) => match b {
+            Thing::Callback(other) => c.number() == other.number(),
+            Thing::Object(_) | Thing::Iterator { .. } | Thing::Event(_) => false,
+        },
+        Thing::Event(serial) => match b {
+            Thing::Event(other) => serial.number() == other.number(),
+            Thing::Object(_) | Thing::Iterator { .. } | Thing::Callback(_) => false,
+        },
     }
 }
 

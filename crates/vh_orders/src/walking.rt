@@ -1,4 +1,4 @@
-ghost use Rattle.std.specs.Prelude.{◌≡◌, Some, is_none, ◌&&◌};
+ghost use Rattle.std.specs.Prelude.{◌≡◌, false};
 ghost use Rattle.vh_objects.specs.Objects.{kind_of};
 ghost use Rattle.vh_orders.specs.Orders.{effect_of, objects_of, one_related, thing_named, is_running_call};
 ghost use Rattle.vh_orders.specs.Things.{led_to, related, is_memory_kind, if_there, word_at, word_in};
