@@ -2,7 +2,7 @@ ghost use Rattle.std.specs.Prelude.{◌≡◌, ◌++◌, ◌∷◌, [], Some, Ok
 ghost use Rattle.std.specs.Fmt.{decimal};
 ghost use Rattle.vh_base.specs.Checks.{with_ok};
 ghost use Rattle.vh_objects.specs.Properties.{text_answer};
-ghost use Rattle.vh_orders.specs.Orders.{effect_of, told, property_told, objects_of, same_handle, flag_number};
+ghost use Rattle.vh_orders.specs.Orders.{answers, effect_of, thing_named, told, property_told, objects_of, same_handle, flag_number};
 ghost use Rattle.vh_orders.specs.Things.{is_type, kind_alone, property_in, info_text, info_in, same_word, same_thing, code_number, error_number};
 ghost use Rattle.vh_orders.specs.Views.{world_of, HasEffect};
 
@@ -75,16 +75,6 @@ fn same_thing(one: bool, a: Thing, b: Thing) -> bool
             Thing::Event(other) => serial.number() == other.number(),
             Thing::Object(_) | Thing::Iterator { .. } | Thing::Callback(_) => false,
         },
-    }
-}
-
-// Are two handles one?
-fn same_handle(a: Option<HandleNo>, b: Option<HandleNo>) -> bool
-    ensures { result ≡ same_handle a b }
-{
-    match (a, b) {
-        (Some(a), Some(b)) => a.number() == b.number(),
-        (None, _) | (Some(_), None) => false,
     }
 }
 
@@ -269,15 +259,33 @@ impl World {
         if is_startup(who) {
             return Err(Halt::Refused(Code::E9));
         }
-        let first = match self.thing_named(a) {
-            Ok(thing) => thing,
-            Err(code) => return Err(Halt::Refused(code)),
+        let Some(handle) = a else {
+            return Err(Halt::Refused(Code::E1));
         };
-        let second = match self.thing_named(b) {
-            Ok(thing) => thing,
-            Err(code) => return Err(Halt::Refused(code)),
+        let Some(thing) = self.handles.thing(handle) else {
+            return Err(Halt::Refused(Code::E1));
         };
-        let same = same_thing(same_handle(a, b), first, second);
+        self.compare_with(handle, thing, b)
+    }
+
+    // The same of a live handle and its thing with another one.
+    fn compare_with(
+        &self,
+        handle: HandleNo,
+        thing: Thing,
+        b: Option<HandleNo>,
+    ) -> Result<Answer, Halt>
+        ensures { HasEffect (with_ok (thing_named b (world_of self.now)) (λ u. Ok (answers
+            (Answer.Number (flag_number (same_thing (same_handle (Some handle) b) thing u)))
+            (world_of self.now)))) self.now result self.now }
+    {
+        let Some(other) = b else {
+            return Err(Halt::Refused(Code::E1));
+        };
+        let Some(second) = self.handles.thing(other) else {
+            return Err(Halt::Refused(Code::E1));
+        };
+        let same = same_thing(handle.number() == other.number(), thing, second);
         Ok(Answer::Number(flag_number(same)))
     }
 
