@@ -214,9 +214,9 @@ fn forks(rt: HostRuntime) -> Result<(), Fail> {
     Ok(())
 }
 
-fn item(alloc: Global, instructions: &[ExprId], body: Flow) -> Result<CaseItem<Flow>, NoMemory> {
+fn item(alloc: Global, matched: &[ExprId], body: Flow) -> Result<CaseItem<Flow>, NoMemory> {
     Ok(CaseItem {
-        instructions: Sequence::from_slice(alloc, instructions)?,
+        matched: Sequence::from_slice(alloc, matched)?,
         body,
     })
 }

@@ -97,14 +97,14 @@ fn are_sound(exprs: &[ExprNode], objects: &[ObjectInfo], precision: u8) -> bool
 const MOST_PRECISION: u8 = 17;
 
 fn lesser(a: u8, b: u8) -> u8
-    ensures { result ≡ Order.lesser_precision a b }
+    ensures { result ≡ Walks.lesser_precision a b }
 {
     if b < a { b } else { a }
 }
 
 // The least precision of instances.
 fn least_precision(all: &[Placed]) -> u8
-    ensures { result ≡ Order.least_precision MOST_PRECISION (map placed_seen all.now) }
+    ensures { result ≡ Walks.least_precision MOST_PRECISION (map placed_seen all.now) }
 {
     let mut precision = MOST_PRECISION;
     for placed in all {
