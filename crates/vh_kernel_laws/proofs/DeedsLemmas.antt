@@ -61,29 +61,29 @@ no-number-frees order.Return a other = refl
 
 -- And of these a `free` and a removal alone.
 pub number-frees-none : (o : Order) (n : ℕ) → FreesNone o → freed_by o (answer.Number n) ≡ None
-number-frees-none (order.Free x) n none = absurd none
-number-frees-none (order.Remove x) n none = absurd none
-number-frees-none (order.ByName text scope) n none = refl
-number-frees-none (order.ByIndex x n) n none = refl
-number-frees-none (order.Handle r x) n none = refl
-number-frees-none (order.Iterate r x) n none = refl
-number-frees-none (order.Scan x) n none = refl
-number-frees-none (order.Compare x y) n none = refl
-number-frees-none (order.Get property x) n none = refl
-number-frees-none (order.GetStr property x) n none = refl
-number-frees-none (order.GetValue x format) n none = refl
-number-frees-none (order.PutValue x format text mode time event) n none = refl
-number-frees-none (order.Cancel x) n none = refl
-number-frees-none order.GetTime n none = refl
-number-frees-none (order.Register r x time body n) n none = refl
-number-frees-none (order.CbInfo x) n none = refl
-number-frees-none (order.RegisterSystf kind text n calltf compiletf) n none = refl
-number-frees-none order.ChkError n none = refl
-number-frees-none (order.Control stop) n none = refl
-number-frees-none (order.Print text) n none = refl
-number-frees-none (order.SetData n) n none = refl
-number-frees-none order.Pass n none = refl
-number-frees-none order.Return n none = refl
+number-frees-none (order.Free x) k none = absurd none
+number-frees-none (order.Remove x) k none = absurd none
+number-frees-none (order.ByName text scope) k none = refl
+number-frees-none (order.ByIndex x n) k none = refl
+number-frees-none (order.Handle r x) k none = refl
+number-frees-none (order.Iterate r x) k none = refl
+number-frees-none (order.Scan x) k none = refl
+number-frees-none (order.Compare x y) k none = refl
+number-frees-none (order.Get property x) k none = refl
+number-frees-none (order.GetStr property x) k none = refl
+number-frees-none (order.GetValue x format) k none = refl
+number-frees-none (order.PutValue x format text mode time event) k none = refl
+number-frees-none (order.Cancel x) k none = refl
+number-frees-none order.GetTime k none = refl
+number-frees-none (order.Register r x time body n) k none = refl
+number-frees-none (order.CbInfo x) k none = refl
+number-frees-none (order.RegisterSystf kind text n calltf compiletf) k none = refl
+number-frees-none order.ChkError k none = refl
+number-frees-none (order.Control stop) k none = refl
+number-frees-none (order.Print text) k none = refl
+number-frees-none (order.SetData n) k none = refl
+number-frees-none order.Pass k none = refl
+number-frees-none order.Return k none = refl
 
 -- A label that removes a callback frees a handle that names it.
 named-callback : (t : Option Thing) (c : ℕ) → callback_at t ≡ Some c → t ≡ Some (thing.Callback c)

@@ -556,14 +556,14 @@ info-no-E1 cs (thing.Callback d) a is one =
 info-no-E1 cs (thing.Event serial) a is one = absurd (cc)
 
 told-found : (a : Option Answer) (s : World) → NoE1 a → NotE1 (told a s)
-told-found None s no = λ is. absurd (cc)
-told-found (Some answer.Done) s no = λ is. absurd (cc)
-told-found (Some answer.Null) s no = λ is. absurd (cc)
-told-found (Some (answer.Handle h)) s no = λ is. absurd (cc)
-told-found (Some (answer.Number n)) s no = λ is. absurd (cc)
-told-found (Some (answer.Text text)) s no = λ is. absurd (cc)
-told-found (Some (answer.Refused c)) s no =
-    λ is. no (let same : c ≡ code.E1 = cc in ap (λ (x : Code). Some (answer.Refused x)) same)
+told-found None s unread = λ is. absurd (cc)
+told-found (Some answer.Done) s unread = λ is. absurd (cc)
+told-found (Some answer.Null) s unread = λ is. absurd (cc)
+told-found (Some (answer.Handle h)) s unread = λ is. absurd (cc)
+told-found (Some (answer.Number n)) s unread = λ is. absurd (cc)
+told-found (Some (answer.Text text)) s unread = λ is. absurd (cc)
+told-found (Some (answer.Refused c)) s unread =
+    λ is. unread (let same : c ≡ code.E1 = cc in ap (λ (x : Code). Some (answer.Refused x)) same)
 
 by_index-found : (h : Option ℕ) (n : ℕ) (w : Who) (s : World) → is_named s h ≡ true → NotE1 (effect_of (order.ByIndex h n) w s)
 by_index-found h n w s named =
@@ -601,10 +601,10 @@ compare-found a b w s first second =
     (λ _. with_ok-holds NotE1 (thing_named a s) _ (λ c is. E1-apart c (thing-found a s c first is))
     (λ t _. with_ok-holds NotE1 (thing_named b s) _ (λ c is. E1-apart c (thing-found b s c second is)) (λ u _ is. absurd (cc))))
 
-property_told-found : (other : Bool) (p : Property) (h : Option ℕ) (s : World) → is_named s h ≡ true → NotE1 (property_told other p h s)
-property_told-found other p h s named =
+property_told-found : (is_unfit : Bool) (p : Property) (h : Option ℕ) (s : World) → is_named s h ≡ true → NotE1 (property_told is_unfit p h s)
+property_told-found is_unfit p h s named =
     with_ok-holds NotE1 (thing_named h s) _ (λ c is. E1-apart c (thing-found h s c named is))
-    (λ t _. unless-holds NotE1 other code.E3 _ (λ _ is. absurd (cc))
+    (λ t _. unless-holds NotE1 is_unfit code.E3 _ (λ _ is. absurd (cc))
     (λ _. told-found (property_in (objects_of s) p t) s (in-no-E1 (objects_of s) p t)))
 
 cb_info-found : (h : Option ℕ) (w : Who) (s : World) → is_named s h ≡ true → NotE1 (effect_of (order.CbInfo h) w s)

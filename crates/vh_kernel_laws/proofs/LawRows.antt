@@ -599,7 +599,7 @@ tells_before_a_startup s t n k alone first law =
 startup_out_of_turn : (s t : State) → slice_get s.agenda 0 ≡ Some (agendum.Startup 2) → BeginsStartups s ((label.Startup 1, t) ∷ []) → ⊥
 startup_out_of_turn s t first law =
     let wrong : Some (agendum.Startup 2) ≡ Some (agendum.Startup 1) = sym first ∙ (law [] [] 1 t refl).next in
-    absurd (let two : 2 ≡ 1 = cc in cc)
+    absurd (let two : ◌≡◌ {A = ℕ} 2 1 = cc in cc)
 
 startup_begins_nothing : (s t : State) (script : ScriptData) → slice_get s.world.scripts 0 ≡ Some script → t.control ≡ []
     → BeginsStartups s ((label.Startup 1, t) ∷ []) → ⊥
